@@ -1,0 +1,28 @@
+-- The words of demand 3 (documents 00 and 01, "What is handed back"): equal lists of costs, as two calls of the front handed them back, and
+-- the allowances that a sheet can meet. The theorem is `demand-3` of Laws.Demand3.
+use mathlib.Core.Path.{_≡_}
+use mathlib.Core.List.{List, [], _∷_}
+use Prim.Native.Nat.{ℕ, _+_, _*_, _<_}
+use Rattle.sheet.specs.Lists.{number}
+use Rattle.sheet.specs.Sheet.{Outcome, refused, loaded, readOf}
+use Rattle.costs.specs.Costs.{figures}
+use Rattle.journeys.specs.Journeys.{Meets}
+use Rattle.journeys.specs.Calls.{FrontEnd}
+
+-- figure j of the cost with number i, in the list as the call returned it
+abbrev pub figureAt : FrontEnd → ℕ → ℕ → ℕ
+figureAt e i j = number (e .list) (i * 4 + j)
+
+-- the lists of costs are equal: the counts, and at each number in the front all figures
+pub record SameLists (e f : FrontEnd) : Type 0 where
+  pub counts : e .answer .costs ≡ f .answer .costs
+  pub figures-same : (i j : ℕ) → i < e .answer .costs → j < figures → figureAt e i j ≡ figureAt f i j
+
+-- a sheet that reads can meet (x, y, z) where a lawful journey does; bytes that do not read can meet nothing
+abbrev pub MeetsRead : Outcome → ℕ → ℕ → ℕ → Type 0
+MeetsRead (refused k n) x y z = ⊥
+MeetsRead (loaded s) x y z = Meets s (x ∷ y ∷ z ∷ [])
+
+-- the sheet with the bytes b can meet the allowance (x, y, z)
+abbrev pub CanMeet : List ℕ → ℕ → ℕ → ℕ → Type 0
+CanMeet b x y z = MeetsRead (readOf b) x y z

@@ -1,0 +1,6 @@
+pub mod Journeys
+pub mod Front
+pub mod Calls
+pub mod Page
+pub mod Demand3
+pub mod Laws

@@ -1,0 +1,62 @@
+-- The page that the program prints, as bytes (document 01, "What is handed back": `F,costs,arrivals`, then for each cost
+-- `J,c1,c2,c3,arrival` and `P,` with the places; a refusal is `R,number,line` alone).
+use mathlib.Core.Bool.{Bool}
+use mathlib.Core.List.{List, [], _∷_, _++_}
+use Prim.Native.Nat.{ℕ, _*_}
+use lib.ListN.{length}
+use Rattle.sheet.specs.Lists.{pick, bind}
+use Rattle.sheet.specs.Decimal.{digitsOf}
+use Rattle.sheet.specs.Sheet.{Sheet, Outcome, refused, loaded, readOf}
+use Rattle.costs.specs.Costs.{Cost}
+use Rattle.arrivals.specs.Arrivals.{leading, crowded}
+use Rattle.journeys.specs.Journeys.{journeyOf, arrivalOf}
+use Rattle.journeys.specs.Front.{front}
+use Rattle.journeys.specs.Calls.{frontRow, overfull}
+
+-- the most digits of a printed number
+abbrev pub mostPrinted : ℕ
+mostPrinted = 10
+
+-- a letter, each number after a comma, a line feed
+unfoldable pub printed : ℕ → List ℕ → List ℕ
+unfolding digitsOf
+printed c ns = c ∷ (bind ns (λ n. 44 ∷ digitsOf mostPrinted n) ++ (10 ∷ []))
+
+-- `R,number,line`
+unfoldable pub refusalLine : ℕ → ℕ → List ℕ
+unfolding printed
+refusalLine k n = printed 82 (k ∷ n ∷ [])
+
+-- `F,costs,arrivals`
+unfoldable pub frontLine : Sheet → List ℕ
+unfolding printed front leading
+frontLine s = printed 70 (length (front s) ∷ length (leading s) ∷ [])
+
+-- `J,c1,c2,c3,arrival`, and `P,` with the places
+unfoldable pub journeyLines : Sheet → Cost → List ℕ
+unfolding printed journeyOf arrivalOf
+journeyLines s g = printed 74 (frontRow s g) ++ printed 80 (journeyOf s g)
+
+-- the lent numbers: room for 2,000 arrivals and 200 costs
+abbrev pub tableNumbers : ℕ
+tableNumbers = 2000 * 5
+
+abbrev pub listNumbers : ℕ
+listNumbers = 200 * 4
+
+unfoldable pub pageOn : Sheet → List ℕ
+unfolding crowded overfull refusalLine frontLine journeyLines
+pageOn s =
+    let r = frontLine s ++ bind (front s) (journeyLines s) in
+    let q = pick (overfull s listNumbers) (refusalLine 9 0) r in
+    pick (crowded s tableNumbers) (refusalLine 8 0) q
+
+abbrev pub pageRead : Outcome → List ℕ
+unfolding pageOn refusalLine
+pageRead (refused k n) = refusalLine k n
+pageRead (loaded s) = pageOn s
+
+-- what the program prints for the bytes on its standard input
+unfoldable pub page : List ℕ → List ℕ
+unfolding pageOn refusalLine readOf
+page b = pageRead (readOf b)

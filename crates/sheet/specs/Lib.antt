@@ -1,0 +1,10 @@
+pub mod Lists
+pub mod Bytes
+pub mod Decimal
+pub mod Kinds
+pub mod Lines
+pub mod Sheet
+pub mod Text
+pub mod Valid
+pub mod Calls
+pub mod Laws

@@ -1,0 +1,157 @@
+-- The sheet: its groups, the tests of a line, and what bytes read as (document 01, "The sheet" and "Who causes which refusal").
+-- The lines before a line are given whole, in the order of the sheet.
+use mathlib.Core.Bool.{Bool, true, false, not, _&&_, _||_}
+use mathlib.Core.List.{List, [], _∷_, _++_, map}
+use mathlib.Core.Option.{Option, some, none}
+use Prim.Native.Nat.{ℕ, zero, suc, _≤_}
+use lib.Dec.{ltb, leb, eqb}
+use lib.ListN.{length, take}
+use Rattle.sheet.specs.Lists.{pick, number, filter, any, flat, lexb}
+use Rattle.sheet.specs.Kinds.{Limit, between, place, Pair, alone, different, ordered, Kind, kindS, kindC, kindO}
+use Rattle.sheet.specs.Lines.{Line, line, textLines}
+
+-- the three groups: the numbers of the S line, of each C line and of each O line
+pub record Sheet : Type 0 where
+  pub head : List ℕ
+  pub corridors : List (List ℕ)
+  pub occupancies : List (List ℕ)
+
+-- `S,places,steps,start,goal,w1,w2,w3`
+abbrev pub places : Sheet → ℕ
+places s = number (s .head) 0
+
+abbrev pub steps : Sheet → ℕ
+steps s = number (s .head) 1
+
+abbrev pub start : Sheet → ℕ
+start s = number (s .head) 2
+
+abbrev pub goal : Sheet → ℕ
+goal s = number (s .head) 3
+
+-- `C,from,to,c1,c2,c3`
+abbrev pub from : List ℕ → ℕ
+from k = number k 0
+
+abbrev pub to : List ℕ → ℕ
+to k = number k 1
+
+-- `O,place,first,last`
+abbrev pub placeOf : List ℕ → ℕ
+placeOf o = number o 0
+
+abbrev pub first : List ℕ → ℕ
+first o = number o 1
+
+abbrev pub last : List ℕ → ℕ
+last o = number o 2
+
+-- the line is of the kind k
+abbrev pub isKind : Kind → Line → Bool
+isKind k l = eqb (l .kind .order) (k .order)
+
+-- the numbers of each line of the kind k
+abbrev pub group : Kind → List Line → List (List ℕ)
+group k ls = map (λ l. l .numbers) (filter (isKind k) ls)
+
+-- the sheet with these lines
+abbrev pub sheetOf : List Line → Sheet
+sheetOf ls = record { head = flat (group kindS ls); corridors = group kindC ls; occupancies = group kindO ls }
+
+-- the lines of a sheet: S, then the C lines, then the O lines
+abbrev pub sheetLines : Sheet → List Line
+sheetLines s = line kindS (s .head) ∷ (map (line kindC) (s .corridors) ++ map (line kindO) (s .occupancies))
+
+-- test 3: no S line first, a second S, or a line after one of a later kind
+abbrev pub misplaced : List Line → Line → Bool
+misplaced [] l = not (eqb (l .kind .order) 0)
+misplaced (m ∷ before) l = eqb (l .kind .order) 0 || any (λ k. ltb (l .kind .order) (k .kind .order)) (m ∷ before)
+
+-- test 7: one line more than its kind may have
+abbrev pub tooMany : List Line → Line → Bool
+tooMany before l = leb (l .kind .most) (length (filter (isKind (l .kind)) before))
+
+-- the number n is outside its limit, on a sheet of p places
+abbrev pub beyond : ℕ → Limit → ℕ → Bool
+beyond p (between a b) n = ltb n a || ltb b n
+beyond p place n = leb p n
+
+-- test 4: a number outside its limit
+abbrev pub outside : ℕ → List Limit → List ℕ → Bool
+outside p [] ns = false
+outside p (x ∷ xs) [] = false
+outside p (x ∷ xs) (n ∷ ns) = beyond p x n || outside p xs ns
+
+-- the places of the sheet that begins with these lines
+abbrev pub placesIn : List Line → ℕ
+placesIn [] = 0
+placesIn (l ∷ ls) = number (l .numbers) 0
+
+-- test 6: a corridor from a place to itself, or last below first
+abbrev pub unpaired : Pair → List ℕ → Bool
+unpaired alone ns = false
+unpaired (different i j) ns = eqb (number ns i) (number ns j)
+unpaired (ordered i j) ns = ltb (number ns j) (number ns i)
+
+-- the line before, if there is one
+abbrev pub latest : List Line → Option Line
+latest [] = none
+latest (l ∷ []) = some l
+latest (l ∷ m ∷ ls) = latest (m ∷ ls)
+
+-- test 5: not above the line before, of the same kind
+abbrev pub notAbove : Option Line → Line → Bool
+notAbove none l = false
+notAbove (some m) l = isKind (l .kind) m && not (lexb (take (l .kind .key) (m .numbers)) (take (l .kind .key) (l .numbers)))
+
+-- a test of a line: the refusal's number, and whether the line fails
+pub record Test : Type 0 where
+  pub refusal : ℕ
+  pub fails : Bool
+
+abbrev pub test : ℕ → Bool → Test
+test n b = record { refusal = n; fails = b }
+
+-- the tests after 2, in their order
+unfoldable pub tests : List Line → Line → List Test
+tests before l =
+    test 3 (misplaced before l)
+    ∷ test 7 (tooMany before l)
+    ∷ test 4 (outside (placesIn (before ++ (l ∷ []))) (l .kind .limits) (l .numbers))
+    ∷ test 6 (unpaired (l .kind .pair) (l .numbers))
+    ∷ test 5 (notAbove (latest before) l)
+    ∷ []
+
+-- the number of the first test that fails, 0 where none does
+abbrev pub firstFailed : List Test → ℕ
+firstFailed [] = 0
+firstFailed (t ∷ ts) = let r = firstFailed ts in pick (t .fails) (t .refusal) r
+
+-- the fault of a line after the lines before it, 0 for none
+unfoldable pub fault : List Line → Line → ℕ
+unfolding tests
+fault before l = firstFailed (tests before l)
+
+pub data Outcome : Type 0 where
+  refused : ℕ → ℕ → Outcome
+  loaded : Sheet → Outcome
+
+-- The lines one after another, each judged after those before it: the first faulty line is named, lines counting from 1.
+-- Where there is no line at all, the S line is missing at line 1.
+unfoldable pub judge : List Line → List (Option Line) → Outcome
+unfolding fault
+judge [] [] = refused 3 1
+judge (m ∷ before) [] = loaded (sheetOf (m ∷ before))
+judge before (none ∷ ls) = refused 2 (suc (length before))
+judge before (some l ∷ ls) =
+    let r = judge (before ++ (l ∷ [])) ls in
+    pick (eqb (fault before l) 0) r (refused (fault before l) (suc (length before)))
+
+-- the most bytes of a sheet (refusal 1)
+abbrev pub mostBytes : ℕ
+mostBytes = 10240
+
+-- what bytes read as
+unfoldable pub readOf : List ℕ → Outcome
+unfolding judge textLines
+readOf b = let r = judge [] (textLines b) in pick (ltb mostBytes (length b)) (refused 1 0) r

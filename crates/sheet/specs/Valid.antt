@@ -1,0 +1,39 @@
+-- A valid sheet: what document 01, "The sheet", asks of its numbers. Every sheet that is read is one (Laws.Valid).
+use mathlib.Core.Path.{_≡_}
+use mathlib.Core.Logic.{_≢_}
+use mathlib.Core.List.{List}
+use Prim.Native.Nat.{ℕ, _≤_, _<_}
+use lib.ListN.{length, take}
+use Rattle.sheet.specs.Lists.{number, _∈_, Ascending}
+use Rattle.sheet.specs.Kinds.{kindC, kindO}
+use Rattle.sheet.specs.Sheet.{Sheet, places, steps, start, goal, from, to, placeOf, first, last}
+
+-- a corridor between two places, no figure above 60,000
+pub record ValidCorridor (s : Sheet) (k : List ℕ) : Type 0 where
+  pub five : length k ≡ 5
+  pub from-place : from k < places s
+  pub to-place : to k < places s
+  pub cost : (i : ℕ) → 2 ≤ i → number k i ≤ 60000
+  pub apart : from k ≢ to k
+
+-- an occupancy of a place, from its first step to its last
+pub record ValidOccupancy (s : Sheet) (o : List ℕ) : Type 0 where
+  pub three : length o ≡ 3
+  pub place : placeOf o < places s
+  pub in-day : last o ≤ 255
+  pub ordered : first o ≤ last o
+
+pub record Valid (s : Sheet) : Type 0 where
+  pub seven : length (s .head) ≡ 7
+  pub some-place : 1 ≤ places s
+  pub most-places : places s ≤ 64
+  pub most-steps : steps s ≤ 255
+  pub start-place : start s < places s
+  pub goal-place : goal s < places s
+  pub wait : (i : ℕ) → 4 ≤ i → number (s .head) i ≤ 60000
+  pub corridors : (k : List ℕ) → k ∈ s .corridors → ValidCorridor s k
+  pub most-corridors : length (s .corridors) ≤ 256
+  pub corridors-ascend : Ascending (take (kindC .key)) (s .corridors)
+  pub occupancies : (o : List ℕ) → o ∈ s .occupancies → ValidOccupancy s o
+  pub most-occupancies : length (s .occupancies) ≤ 256
+  pub occupancies-ascend : Ascending (take (kindO .key)) (s .occupancies)

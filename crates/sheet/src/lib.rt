@@ -1,0 +1,26 @@
+// The corridor sheet: places and steps, and what the reader and the writer hand back (document 01, "The sheet", "What is handed back").
+
+// A place of the sheet, numbered from 0: the source's node (001).
+pub struct Place(pub u32);
+
+// A step from 0 to the horizon: the source's time (001).
+pub struct Step(pub u32);
+
+// What a read sheet hands back: the count of lines of each group, and the groups at full length, zeros past the last line.
+#[repr(C)]
+pub struct SheetRead {
+    pub refusal: u32,
+    pub line: u32,
+    pub lines: [u32; 3],
+    pub head: [u32; 7],
+    pub corridors: [u32; 1280],
+    pub occupancies: [u32; 768],
+}
+
+// What a written sheet hands back: the count of bytes.
+#[repr(C)]
+pub struct SheetWritten {
+    pub refusal: u32,
+    pub line: u32,
+    pub bytes: u32,
+}
