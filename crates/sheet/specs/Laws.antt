@@ -1,1 +1,5 @@
-
+pub mod Order
+pub mod Members
+pub mod Ascending
+pub mod Judge
+pub mod Shape
