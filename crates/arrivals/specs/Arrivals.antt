@@ -10,7 +10,7 @@ use Rattle.sheet.specs.Lists.{number, filled, filter, all, bind, sortUnique}
 use Rattle.sheet.specs.Sheet.{Sheet, steps}
 use Rattle.costs.specs.Costs.{Cost, add, times, AtMost, atMostb, sameb}
 use Rattle.costs.specs.Moves.{waitOf}
-use Rattle.intervals.specs.Intervals.{freeb, Together}
+use Rattle.intervals.specs.Intervals.{freeb, runb, Together}
 use Rattle.arrivals.specs.Ways.{Way, Walk, walks}
 
 -- a place, a step and a cost
@@ -50,12 +50,7 @@ pub record Leading (s : Sheet) (a : Arrival) : Type 0 where
   pub arrives : Arrives s a
   pub unled : (b : Arrival) → Arrives s b → Leads s b a → ⊥
 
--- the same, computed: v is free at t and at the n steps after it
-abbrev pub runb : Sheet → ℕ → ℕ → ℕ → Bool
-unfolding freeb
-runb s v t zero = freeb s v t
-runb s v t (suc n) = let r = runb s v (suc t) n in freeb s v t && r
-
+-- the same, computed
 unfoldable pub leadsb : Sheet → Arrival → Arrival → Bool
 unfolding freeb waitOf
 leadsb s a b =

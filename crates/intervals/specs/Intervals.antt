@@ -36,6 +36,11 @@ Free s v t = freeb s v t ≡ true
 abbrev pub Run : Sheet → ℕ → ℕ → ℕ → Type 0
 Run s v t t′ = (i : ℕ) → t ≤ i → i ≤ t′ → Free s v i
 
+-- v is free at t and at the n steps after it, computed
+abbrev pub runb : Sheet → ℕ → ℕ → ℕ → Bool
+runb s v t zero = freeb s v t
+runb s v t (suc n) = let r = runb s v (suc t) n in freeb s v t && r
+
 -- a safe interval of v, from its first step to its last: a longest run of steps within 0 to T
 pub record Interval (s : Sheet) (v a b : ℕ) : Type 0 where
   pub ordered : a ≤ b
