@@ -1,0 +1,5 @@
+pub mod Trails
+pub mod Leading
+pub mod Steps
+pub mod Bounds
+pub mod Alike
