@@ -41,7 +41,6 @@ pub record Target : Type 0 where
   pub cost : Cost
 
 abbrev pub across : List ℕ → Target
-unfolding costOf
 across k = record { to = to k; cost = costOf k }
 
 -- every place and cost to which a cart at u can move at step t, occupied or not

@@ -39,7 +39,6 @@ between s u v t = filter (λ k. eqb (to k) v) (leaving s u t)
 
 -- the cost of the first, if there is one; a valid sheet has at most one
 abbrev pub firstCost : List (List ℕ) → Option Cost
-unfolding costOf
 firstCost [] = none
 firstCost (k ∷ ks) = some (costOf k)
 

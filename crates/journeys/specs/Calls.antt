@@ -20,7 +20,6 @@ cleared l = filled (length l) []
 
 -- a row of the front list: the figures and the arrival step
 abbrev pub frontRow : Sheet → Cost → List ℕ
-unfolding arrivalOf
 frontRow s g = g ++ (arrivalOf s g ∷ [])
 
 -- the room of a list of n numbers, in costs
@@ -59,7 +58,6 @@ frontOn s table list =
     pick (crowded s (length table)) (frontRefused 8 0 (cleared table) list) q
 
 abbrev pub frontRead : Outcome → List ℕ → List ℕ → FrontEnd
-unfolding frontOn
 frontRead (refused k n) table list = frontRefused k n table list
 frontRead (loaded s) table list = frontOn s table list
 
@@ -102,7 +100,6 @@ journeyOn s k table path =
     pick (crowded s (length table)) (journeyRefused 8 0 (cleared table) path) o
 
 abbrev pub journeyRead : Outcome → ℕ → List ℕ → List ℕ → JourneyEnd
-unfolding journeyOn
 journeyRead (refused k n) i table path = journeyRefused k n table path
 journeyRead (loaded s) i table path = journeyOn s i table path
 

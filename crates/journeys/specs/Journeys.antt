@@ -48,7 +48,6 @@ pub record Selected (s : Sheet) (g : Cost) (p : List ℕ) : Type 0 where
 
 -- the enumeration: the ways of t steps that end at the goal, where t counts
 abbrev pub atGoal : Sheet → ℕ → Walk → Bool
-unfolding countsb
 atGoal s t w = let c = countsb s t in eqb (w .at) (goal s) && c
 
 -- every lawful journey of at most t steps

@@ -1,1 +1,4 @@
+pub mod Counts
+pub mod Journeys
+pub mod Front
 pub mod Marked

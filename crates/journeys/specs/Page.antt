@@ -52,7 +52,6 @@ pageOn s =
     pick (crowded s tableNumbers) (refusalLine 8 0) q
 
 abbrev pub pageRead : Outcome → List ℕ
-unfolding pageOn refusalLine
 pageRead (refused k n) = refusalLine k n
 pageRead (loaded s) = pageOn s
 

@@ -61,7 +61,6 @@ written t out =
     (record { answer = record { refusal = 0; line = 0; bytes = length t }; out = t ++ drop (length t) out })
 
 abbrev pub writeJudged : Outcome → List ℕ → WriteEnd
-unfolding sheetText
 writeJudged (refused k n) out = writeRefused k n out
 writeJudged (loaded s) out = written (sheetText s) out
 
