@@ -184,7 +184,7 @@ leading-candidate s v t g o = go (arrives-back s v t g (o .arrives))
                 sure h ar l (no n) =
                     absurd (o .unled (arrival v (suc t) h) ar (covers-leads s (arrival v (suc t) h) a in-time (λ p. n (ap (λ (x : Arrival). x .cost) p)) (covers-beside s v (suc t) h g (b .free) l)))
 
--- (T4, both walks) The leading arrivals at step t + 1 are the candidates that no leading arrival of an earlier step leads and
+-- The leading arrivals at step t + 1 are the candidates that no leading arrival of an earlier step leads and
 -- below which there is no other candidate.
 pub record Stands (s : Sheet) (v t : ℕ) (g : Cost) : Type 0 where
   pub candidate : Candidate s v t g
