@@ -4,4 +4,6 @@ pub mod Front
 pub mod Goal
 pub mod Exact
 pub mod Tie
+pub mod Served
+pub mod Demand3
 pub mod Marked

@@ -1,5 +1,15 @@
 pub mod Order
 pub mod Members
 pub mod Ascending
+pub mod Rows
 pub mod Judge
 pub mod Shape
+pub mod Decimal
+pub mod LineText
+pub mod Passed
+pub mod Limits
+pub mod Runs
+pub mod Groups
+pub mod Valid
+pub mod TextBound
+pub mod RoundTrip

@@ -1,0 +1,91 @@
+-- When a call of the front is served, and what it then hands back: refusal 0 exactly when the bytes read as a sheet, the leading arrivals fit the
+-- room of the table and the front costs fit the room of the list. So demand 3 is not empty talk.
+use mathlib.Core.Path.{_≡_, refl, sym, _∙_, ap, subst}
+use mathlib.Core.Logic.{_↔_, inl, inr}
+use mathlib.Core.Bool.{Bool, true, false}
+use mathlib.Core.List.{List, [], _∷_, _++_, map}
+use Prim.Native.Nat.{ℕ, zero, suc, _+_, _*_, _-_, _≤_, _<_}
+use native.Mathlib.Omega.{arith}
+use lib.Dec.{ltb}
+use lib.ListN.{length, getD, replicate, length-append, length-map, List·getD-append, List·getD-map}
+use borrow.Author.Tests.{ltb-true, ltb-false, le-ltb}
+use Rattle.sheet.specs.Lists.{_∈_, pick, number, filled, bind, flat}
+use Rattle.sheet.specs.Sheet.{Sheet, Outcome, refused, loaded, readOf}
+use Rattle.sheet.specs.Laws.Members.{map-mem}
+use Rattle.sheet.specs.Laws.Rows.{flat-length, flat-at, bind-flat}
+use Rattle.sheet.specs.Laws.RoundTrip.{read-refused}
+use Rattle.costs.specs.Costs.{Cost, figures, fig}
+use Rattle.arrivals.specs.Arrivals.{leading, arrivalRoom, crowded}
+use Rattle.journeys.specs.Journeys.{arrivalOf}
+use Rattle.journeys.specs.Front.{front}
+use Rattle.journeys.specs.Calls.{cleared, frontRow, frontRoom, overfull, FrontEnd, frontRefused, frontServed, frontOn, frontRead, frontCall}
+use Rattle.journeys.specs.Demand3.{figureAt}
+use Rattle.journeys.specs.Laws.Journeys.{has-three}
+use Rattle.journeys.specs.Laws.Front.{front-on}
+
+-- the sheet of the bytes, whose leading arrivals and front costs fit
+pub record Fits (b table list : List ℕ) : Type 0 where
+  pub sheet : Sheet
+  pub reads : readOf b ≡ loaded sheet
+  pub arrivals-fit : length (leading sheet) ≤ arrivalRoom (length table)
+  pub costs-fit : length (front sheet) ≤ frontRoom (length list)
+
+-- what a served call ended with
+pub record Served (b table list : List ℕ) (e : FrontEnd) : Type 0 where
+  pub fits : Fits b table list
+  pub end : e ≡ frontServed (fits .sheet) table list
+
+on-served : (s : Sheet) (table list : List ℕ) → frontOn s table list .answer .refusal ≡ 0
+    → (length (leading s) ≤ arrivalRoom (length table)) × (length (front s) ≤ frontRoom (length list)) × (frontOn s table list ≡ frontServed s table list)
+unfolding frontOn crowded overfull
+on-served s table list z = go (ltb (arrivalRoom (length table)) (length (leading s))) (ltb (frontRoom (length list)) (length (front s))) refl refl z
+  where
+    go : (t u : Bool) → ltb (arrivalRoom (length table)) (length (leading s)) ≡ t → ltb (frontRoom (length list)) (length (front s)) ≡ u
+        → (pick t (frontRefused 8 0 (cleared table) list) (pick u (frontRefused 9 0 (cleared table) list) (frontServed s table list))) .answer .refusal ≡ 0
+        → (length (leading s) ≤ arrivalRoom (length table)) × (length (front s) ≤ frontRoom (length list))
+        × (pick t (frontRefused 8 0 (cleared table) list) (pick u (frontRefused 9 0 (cleared table) list) (frontServed s table list)) ≡ frontServed s table list)
+    go true u p q z = absurd (omega (arith, z))
+    go false true p q z = absurd (omega (arith, z))
+    go false false p q z = (ltb-false (arrivalRoom (length table)) (length (leading s)) p, ltb-false (frontRoom (length list)) (length (front s)) q, refl)
+
+pub served : (b table list : List ℕ) → frontCall b table list .answer .refusal ≡ 0 → Served b table list (frontCall b table list)
+unfolding frontCall
+served b table list z = go (readOf b) refl z
+  where
+    go : (o : Outcome) → readOf b ≡ o → frontRead o table list .answer .refusal ≡ 0 → Served b table list (frontRead o table list)
+    go (refused k n) r z = absurd (omega (arith, z, read-refused b k n r))
+    go (loaded s) r z =
+        let q = on-served s table list z in
+        record { fits = record { sheet = s; reads = r; arrivals-fit = q .0; costs-fit = q .1 }; end = q .2 }
+
+fits-served : (b table list : List ℕ) → Fits b table list → frontCall b table list .answer .refusal ≡ 0
+unfolding frontCall frontOn crowded overfull frontServed
+fits-served b table list f =
+    rw (f .reads, le-ltb (arrivalRoom (length table)) (length (leading (f .sheet))) (f .arrivals-fit), le-ltb (frontRoom (length list)) (length (front (f .sheet))) (f .costs-fit))
+
+-- a call of the front is served exactly when the sheet reads, the leading arrivals fit and the front fits
+pub served-exactly : (b table list : List ℕ) → (frontCall b table list .answer .refusal ≡ 0) ↔ Fits b table list
+served-exactly b table list = (λ z. served b table list z .fits, fits-served b table list)
+
+-- the list as a served call returned it, figure by figure
+pub listed : (s : Sheet) (table list : List ℕ) (i j : ℕ) → i < length (front s) → j < figures → figureAt (frontServed s table list) i j ≡ fig (getD (front s) i []) j
+unfolding frontServed
+listed s table list i j h k =
+    let r = bind (front s) (frontRow s) in
+    let e : r ≡ flat (map (frontRow s) (front s)) = bind-flat (frontRow s) (front s) in
+    let c : length (map (frontRow s) (front s)) ≡ length (front s) = length-map (front s) (frontRow s) in
+    let n : length r ≡ length (front s) * 4 = ap length e ∙ flat-length 4 (map (frontRow s) (front s)) wide ∙ ap (λ (m : ℕ). m * 4) c in
+    List·getD-append r (replicate (length list - length r) 0) 0 (i * 4 + j) (omega (arith, h, k, n))
+    ∙ ap (λ (l : List ℕ). number l (i * 4 + j)) e
+    ∙ flat-at 4 (map (frontRow s) (front s)) wide i j (omega (arith, h, c)) (omega (arith, k))
+    ∙ at (front s) i h (λ g m. has-three s g (front-on s g m .has))
+  where
+    wide : (l : List ℕ) → l ∈ map (frontRow s) (front s) → length l ≡ 4
+    wide l m =
+        let r = map-mem (frontRow s) l (front s) m in
+        ap length (r .2) ∙ length-append (r .0) (arrivalOf s (r .0) ∷ []) ∙ ap (λ (n : ℕ). n + 1) (has-three s (r .0) (front-on s (r .0) (r .1) .has))
+
+    at : (l : List Cost) (i : ℕ) → i < length l → ((g : Cost) → g ∈ l → length g ≡ figures) → number (getD (map (frontRow s) l) i []) j ≡ fig (getD l i []) j
+    at [] i h f = absurd (omega arith)
+    at (g ∷ l) zero h f = List·getD-append g (arrivalOf s g ∷ []) 0 j (omega (arith, k, f g (inl refl)))
+    at (g ∷ l) (suc i) h f = at l i (omega arith) (λ x m. f x (inr m))

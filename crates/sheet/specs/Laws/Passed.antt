@@ -1,0 +1,109 @@
+-- What it says that a line passes: each of its tests, by name, does not fail; and what it says that lines pass one after another,
+-- for the lines of an appended list and for each line at its position. Nothing here depends on which kinds there are.
+use mathlib.Core.Path.{_≡_, refl, sym, _∙_, ap, subst}
+use mathlib.Core.Logic.{inl, inr}
+use mathlib.Core.Bool.{Bool, true, false, _||_, true≢false}
+use mathlib.Core.List.{List, [], _∷_, _++_, append-nil}
+use mathlib.Core.Option.{some}
+use Prim.Native.Nat.{ℕ, _≤_}
+use native.Mathlib.Omega.{arith}
+use lib.Seq.{append-snoc}
+use Rattle.sheet.specs.Lists.{pick, _∈_, any}
+use Rattle.sheet.specs.Lines.{Line}
+use Rattle.sheet.specs.Sheet.{misplaced, tooMany, outside, placesIn, unpaired, latest, notAbove, Test, tests, firstFailed, fault}
+use Rattle.sheet.specs.Laws.Judge.{Passes}
+
+-- tests that do not fail
+pub or-false : (a b : Bool) → a || b ≡ false → (a ≡ false) × (b ≡ false)
+or-false true b e = absurd (true≢false e)
+or-false false b e = (refl, e)
+
+pub false-or : (a b : Bool) → a ≡ false → b ≡ false → a || b ≡ false
+false-or a b p q = cc
+
+pub any-false : (p : Line → Bool) (ls : List Line) → any p ls ≡ false → (l : Line) → l ∈ ls → p l ≡ false
+any-false p [] e l m = absurd m
+any-false p (x ∷ ls) e l (inl i) = ap p i ∙ or-false (p x) (any p ls) e .0
+any-false p (x ∷ ls) e l (inr m) = any-false p ls (or-false (p x) (any p ls) e .1) l m
+
+pub false-any : (p : Line → Bool) (ls : List Line) → ((l : Line) → l ∈ ls → p l ≡ false) → any p ls ≡ false
+false-any p [] f = refl
+false-any p (x ∷ ls) f = false-or (p x) (any p ls) (f x (inl refl)) (false-any p ls (λ l m. f l (inr m)))
+
+-- no test of the list fails
+abbrev NoneFails : List Test → Type 0
+NoneFails [] = Unit {0}
+NoneFails (t ∷ ts) = (t .fails ≡ false) × NoneFails ts
+
+-- the numbers of refusals begin with 1
+abbrev Numbered : List Test → Type 0
+Numbered [] = Unit {0}
+Numbered (t ∷ ts) = (1 ≤ t .refusal) × Numbered ts
+
+none-fails : (ts : List Test) → Numbered ts → firstFailed ts ≡ 0 → NoneFails ts
+none-fails [] h e = tt
+none-fails (t ∷ ts) h e = go (t .fails) refl e (none-fails ts (h .1))
+  where
+    go : (b : Bool) → t .fails ≡ b → pick b (t .refusal) (firstFailed ts) ≡ 0 → (firstFailed ts ≡ 0 → NoneFails ts) → NoneFails (t ∷ ts)
+    go true q d f = absurd (omega (arith, h .0))
+    go false q d f = (q, f d)
+
+none-failed : (ts : List Test) → NoneFails ts → firstFailed ts ≡ 0
+none-failed [] h = refl
+none-failed (t ∷ ts) h = rw (h .0) (none-failed ts (h .1))
+
+-- the tests that a line has passed
+pub record Passed (before : List Line) (l : Line) : Type 0 where
+  pub placed : misplaced before l ≡ false
+  pub few : tooMany before l ≡ false
+  pub inside : outside (placesIn (before ++ (l ∷ []))) (l .kind .limits) (l .numbers) ≡ false
+  pub paired : unpaired (l .kind .pair) (l .numbers) ≡ false
+  pub above : notAbove (latest before) l ≡ false
+
+pub fault-passed : (before : List Line) (l : Line) → fault before l ≡ 0 → Passed before l
+unfolding fault tests
+fault-passed before l e =
+    let r = none-fails (tests before l) (omega arith) e in
+    record { placed = r .0; few = r .1 .0; inside = r .1 .1 .0; paired = r .1 .1 .1 .0; above = r .1 .1 .1 .1 .0 }
+
+pub passed-fault : (before : List Line) (l : Line) → Passed before l → fault before l ≡ 0
+unfolding fault tests
+passed-fault before l p = none-failed (tests before l) (p .placed, (p .few, (p .inside, (p .paired, (p .above, tt)))))
+
+-- appended lists
+pub passes-append : (before ls ms : List Line) → Passes before (ls ++ ms) → Passes before ls × Passes (before ++ ls) ms
+passes-append before [] ms p = (tt, rw append-nil p)
+passes-append before (l ∷ ls) ms p =
+    let r = passes-append (before ++ (l ∷ [])) ls ms (p .1) in
+    ((p .0, r .0), subst (λ (b : List Line). Passes b ms) (append-snoc before l ls) (r .1))
+
+pub append-passes : (before ls ms : List Line) → Passes before ls → Passes (before ++ ls) ms → Passes before (ls ++ ms)
+append-passes before [] ms p q = rw append-nil at q
+append-passes before (l ∷ ls) ms p q =
+    (p .0, append-passes (before ++ (l ∷ [])) ls ms (p .1) (subst (λ (b : List Line). Passes b ms) (sym (append-snoc before l ls)) q))
+
+-- the places are those of the first line
+pub places-first : (before : List Line) (l : Line) (ls : List Line) → placesIn (before ++ (l ∷ [])) ≡ placesIn (before ++ (l ∷ ls))
+places-first [] l ls = refl
+places-first (m ∷ before) l ls = refl
+
+-- each line at its position: its numbers inside their limits, and paired
+pub passes-inside : (before ls : List Line) → Passes before ls → (l : Line) → l ∈ ls → outside (placesIn (before ++ ls)) (l .kind .limits) (l .numbers) ≡ false
+passes-inside before [] p l m = absurd m
+passes-inside before (x ∷ ls) p l (inl e) =
+    subst (λ (k : Line). outside (placesIn (before ++ (x ∷ ls))) (k .kind .limits) (k .numbers) ≡ false) (sym e)
+    (subst (λ (n : ℕ). outside n (x .kind .limits) (x .numbers) ≡ false) (places-first before x ls) (fault-passed before x (p .0) .inside))
+passes-inside before (x ∷ ls) p l (inr m) =
+    subst (λ (k : List Line). outside (placesIn k) (l .kind .limits) (l .numbers) ≡ false) (append-snoc before x ls)
+    (passes-inside (before ++ (x ∷ [])) ls (p .1) l m)
+
+pub passes-paired : (before ls : List Line) → Passes before ls → (l : Line) → l ∈ ls → unpaired (l .kind .pair) (l .numbers) ≡ false
+passes-paired before [] p l m = absurd m
+passes-paired before (x ∷ ls) p l (inl e) = rw e (fault-passed before x (p .0) .paired)
+passes-paired before (x ∷ ls) p l (inr m) = passes-paired (before ++ (x ∷ [])) ls (p .1) l m
+
+-- the line before a line put last
+pub latest-last : (before : List Line) (l : Line) → latest (before ++ (l ∷ [])) ≡ some l
+latest-last [] l = refl
+latest-last (m ∷ []) l = refl
+latest-last (m ∷ k ∷ before) l = latest-last (k ∷ before) l
