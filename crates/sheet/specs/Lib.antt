@@ -7,4 +7,5 @@ pub mod Sheet
 pub mod Text
 pub mod Valid
 pub mod Calls
+pub mod Inner
 pub mod Laws

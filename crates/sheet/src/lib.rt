@@ -1,4 +1,12 @@
-// The corridor sheet: places and steps, and what the reader and the writer hand back (document 01, "The sheet", "What is handed back").
+// The corridor sheet: places and steps, the reader and the writer (document 01, "The sheet", "What is handed back").
+
+pub mod bytes; // bytes.rt: the kinds of bytes
+pub mod kinds; // kinds.rt: the kinds of lines, as tables
+pub mod lines; // lines.rt: what the bytes of a line stand for
+pub mod judge; // judge.rt: the tests of a line
+pub mod text; // text.rt: what is written of numbers and lines
+pub mod reader; // reader.rt: from bytes to the groups
+pub mod writer; // writer.rt: from the groups to bytes
 
 // A place of the sheet, numbered from 0: the source's node (001).
 pub struct Place(pub u32);

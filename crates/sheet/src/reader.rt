@@ -1,0 +1,98 @@
+// The reader: from the bytes of a sheet to its groups.
+ghost use mathlib.Core.Path.{_≡_};
+ghost use Prim.Native.Nat.{ℕ, _+_, _*_, _≤_, _<_};
+ghost use lib.ListN.{length, take};
+ghost use lib.Seq.{sets};
+ghost use Rattle.sheet.specs.Sheet.{refused};
+ghost use Rattle.sheet.specs.Calls.{readAnswer, readCall};
+ghost use Rattle.sheet.specs.Inner.{lineAt, Storable, Stores};
+use crate::bytes::{until, LINE_FEED};
+use crate::judge::{fault_of, no_lines, with_line};
+use crate::kinds::width_of;
+use crate::lines::line_in;
+use crate::SheetRead;
+
+// A refusal: its number, its line, and zeros.
+fn refuse(number: u32, line: u32) -> SheetRead
+    ensures { λ r. ⌜ r ≡ readAnswer (refused number line) ⌝ }
+{
+    SheetRead {
+        refusal: number,
+        line,
+        lines: [0u32; 3],
+        head: [0u32; 7],
+        corridors: [0u32; 1280],
+        occupancies: [0u32; 768],
+    }
+}
+
+// Writes the first w numbers of v from `at` on.
+fn store(group: &mut [u32], at: usize, v: [u32; 8], w: usize)
+    requires { ⌜ (w ≤ 8) × (at + w ≤ length (now group)) ⌝ }
+    ensures { λ r. ⌜ now (group .exit) ≡ sets (now (group .entry)) at (take w v) ⌝ }
+{
+    let mut i = 0;
+    while i < w {
+        group[at + i] = v[i];
+        i += 1;
+    }
+}
+
+// Stores a line that has no fault into the group of its kind, after the lines before it.
+fn store_line(head: &mut [u32], corridors: &mut [u32], occupancies: &mut [u32], lines: &mut [u32], kind: usize, v: [u32; 8])
+    requires { ⌜ (kind < 3) × Storable (lineAt kind v) (now head) (now corridors) (now occupancies) (now lines) ⌝ }
+    ensures { λ r. ⌜ Stores (lineAt kind v) (now (head .entry)) (now (corridors .entry)) (now (occupancies .entry)) (now (lines .entry)) (now (head .exit)) (now (corridors .exit)) (now (occupancies .exit)) (now (lines .exit)) ⌝ }
+{
+    let w = width_of(kind);
+    let n = lines[kind] as usize;
+    if kind == 0 {
+        store(head, n * w, v, w);
+    } else {
+        if kind == 1 {
+            store(corridors, n * w, v, w);
+        } else {
+            store(occupancies, n * w, v, w);
+        }
+    }
+    lines[kind] += 1;
+}
+
+// Reads a sheet: its groups, or one numbered refusal with the line at fault. No byte is looked at more than a fixed number of times.
+pub fn read(src: &[u8]) -> SheetRead
+    ensures { λ r. ⌜ r ≡ readCall (now (src .entry)) ⌝ }
+{
+    if 10240 < src.len() {
+        return refuse(1, 0);
+    }
+    let mut head = [0u32; 7];
+    let mut corridors = [0u32; 1280];
+    let mut occupancies = [0u32; 768];
+    let mut lines = [0u32; 3];
+    let mut t = no_lines();
+    let mut n: u32 = 1;
+    let mut at = 0;
+    while at < src.len() {
+        let e = until(src, at, LINE_FEED);
+        if e == src.len() {
+            return refuse(2, n);
+        }
+        let l = line_in(&src[at..e]);
+        let kind = l.kind;
+        let v = l.values;
+        if !l.ok {
+            return refuse(2, n);
+        }
+        let f = fault_of(t, kind, v);
+        if f != 0 {
+            return refuse(f, n);
+        }
+        store_line(&mut head, &mut corridors, &mut occupancies, &mut lines, kind, v);
+        t = with_line(t, kind, v);
+        at = e + 1;
+        n += 1;
+    }
+    if n == 1 {
+        return refuse(3, 1);
+    }
+    SheetRead { refusal: 0, line: 0, lines, head, corridors, occupancies }
+}
