@@ -1,1 +1,3 @@
 pub mod Three
+pub mod Passing
+pub mod Stores
