@@ -1,3 +1,10 @@
 pub mod Three
+pub mod Table
+pub mod Digits
+pub mod Parts
+pub mod Fields
+pub mod LineLaws
+pub mod KindFacts
 pub mod Passing
+pub mod Tallies
 pub mod Stores

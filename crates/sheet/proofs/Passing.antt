@@ -16,40 +16,40 @@ use Rattle.sheet.specs.Kinds.{Limit, place}
 use Rattle.sheet.specs.Sheet.{beyond, outside}
 
 -- the first n numbers of two arrays, from position i on
-module _ (n : ℕ) (a b : List ℕ) (p : n ≤ length a) (q : n ≤ length b) where
-  abbrev pub left : ℕ → Bool
-  left i = lexb (drop i (take n a)) (drop i (take n b))
+abbrev pub lexFrom : ℕ → List ℕ → List ℕ → ℕ → Bool
+lexFrom n a b i = lexb (drop i (take n a)) (drop i (take n b))
 
-  left-next : (i : ℕ) → i < n → left i ≡ after (ltb (getD a i 0) (getD b i 0)) (eqb (getD a i 0) (getD b i 0)) (left (i + 1))
-  left-next i h =
+module _ (n : ℕ) (a b : List ℕ) (p : n ≤ length a) (q : n ≤ length b) where
+  lex-next : (i : ℕ) → i < n → lexFrom n a b i ≡ after (ltb (getD a i 0) (getD b i 0)) (eqb (getD a i 0) (getD b i 0)) (lexFrom n a b (i + 1))
+  lex-next i h =
       let x : i < length (take n a) = omega (arith, length-take-le n a p) in
       let y : i < length (take n b) = omega (arith, length-take-le n b q) in
       rw (add-one, drop-cons (take n a) i 0 x, drop-cons (take n b) i 0 y, getD-take n a i 0 h, getD-take n b i 0 h)
 
-  pub left-below : (i : ℕ) → i < n → getD a i 0 < getD b i 0 → left i ≡ true
-  left-below i h l = left-next i h ∙ rw (lt-ltb (getD a i 0) (getD b i 0) l)
+  pub lex-below : (i : ℕ) → i < n → getD a i 0 < getD b i 0 → lexFrom n a b i ≡ true
+  lex-below i h l = lex-next i h ∙ rw (lt-ltb (getD a i 0) (getD b i 0) l)
 
-  pub left-above : (i : ℕ) → i < n → getD b i 0 < getD a i 0 → left i ≡ false
-  left-above i h l = left-next i h ∙ rw (le-ltb (getD a i 0) (getD b i 0) (omega arith), ne-eqb (getD a i 0) (getD b i 0) (λ e. omega arith))
+  pub lex-above : (i : ℕ) → i < n → getD b i 0 < getD a i 0 → lexFrom n a b i ≡ false
+  lex-above i h l = lex-next i h ∙ rw (le-ltb (getD a i 0) (getD b i 0) (omega arith), ne-eqb (getD a i 0) (getD b i 0) (λ e. omega arith))
 
-  pub left-same : (i : ℕ) → i < n → getD b i 0 ≤ getD a i 0 → getD a i 0 ≤ getD b i 0 → left i ≡ left (i + 1)
-  left-same i h l g = left-next i h ∙ rw (le-ltb (getD a i 0) (getD b i 0) l, eq-eqb (getD a i 0) (getD b i 0) (omega arith))
+  pub lex-same : (i : ℕ) → i < n → getD b i 0 ≤ getD a i 0 → getD a i 0 ≤ getD b i 0 → lexFrom n a b i ≡ lexFrom n a b (i + 1)
+  lex-same i h l g = lex-next i h ∙ rw (le-ltb (getD a i 0) (getD b i 0) l, eq-eqb (getD a i 0) (getD b i 0) (omega arith))
 
-  pub left-none : (i : ℕ) → n ≤ i → left i ≡ false
-  left-none i h =
+  pub lex-none : (i : ℕ) → n ≤ i → lexFrom n a b i ≡ false
+  lex-none i h =
       let x : length (take n a) ≤ i = omega (arith, length-take-le n a p) in
       let y : length (take n b) ≤ i = omega (arith, length-take-le n b q) in
       rw (drop-of-length-le (take n a) x, drop-of-length-le (take n b) y)
 
 -- the limits of a line's numbers, and the array that holds them, from position i on
-module _ (p : ℕ) (xs : List Limit) (v : List ℕ) (h : length xs ≤ length v) where
-  abbrev pub outsideFrom : ℕ → Bool
-  outsideFrom i = outside p (drop i xs) (drop i (take (length xs) v))
+abbrev pub outsideFrom : ℕ → List Limit → List ℕ → ℕ → Bool
+outsideFrom p xs v i = outside p (drop i xs) (drop i (take (length xs) v))
 
-  pub outside-next : (i : ℕ) → i < length xs → (x : Limit) → x ≡ getD xs i place → outsideFrom i ≡ beyond p x (getD v i 0) || outsideFrom (i + 1)
+module _ (p : ℕ) (xs : List Limit) (v : List ℕ) (h : length xs ≤ length v) where
+  pub outside-next : (i : ℕ) → i < length xs → (x : Limit) → x ≡ getD xs i place → outsideFrom p xs v i ≡ beyond p x (getD v i 0) || outsideFrom p xs v (i + 1)
   outside-next i l x e =
       let y : i < length (take (length xs) v) = omega (arith, length-take-le (length xs) v h) in
       rw (add-one, drop-cons xs i place l, drop-cons (take (length xs) v) i 0 y, getD-take (length xs) v i 0 l, e)
 
-  pub outside-none : (i : ℕ) → length xs ≤ i → outsideFrom i ≡ false
+  pub outside-none : (i : ℕ) → length xs ≤ i → outsideFrom p xs v i ≡ false
   outside-none i l = rw (drop-of-length-le xs l)

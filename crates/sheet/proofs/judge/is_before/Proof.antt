@@ -3,17 +3,17 @@
 use mathlib.Core.Path.{_≡_, refl, sym, _∙_}
 use Prim.Native.Nat.{_-_, _≤_}
 use native.Mathlib.Omega.{arith}
-use lib.ListN.{length, take, drop}
+use lib.ListN.{length, take}
 use borrow.Author.Needs.{needs}
 use Rattle.sheet.specs.Lists.{lexb}
-use Rattle.sheet.proofs.Passing.{left-below, left-above, left-same, left-none}
+use Rattle.sheet.proofs.Passing.{lexFrom, lex-below, lex-above, lex-same, lex-none}
 use Rattle.sheet.proofs.judge.is_before.Statement.{statement}
 use Rattle.sheet.proofs.judge.is_before.Tie as tie
 use Rattle.sheet.proofs.judge.is_before.Reads as reads
 use Rattle.sheet.proofs.judge.is_before.Lts as lts
 
 abbrev Inv-loop : tie.InvT-loop
-Inv-loop n a b i₀ i = (i ≤ n) × (length a ≡ 8) × (length b ≡ 8) × (lexb (drop i (take n a)) (drop i (take n b)) ≡ lexb (take n a) (take n b))
+Inv-loop n a b i₀ i = (i ≤ n) × (length a ≡ 8) × (length b ≡ 8) × (lexFrom n a b i ≡ lexb (take n a) (take n b))
 
 abbrev μ-loop : tie.MeasureT-loop
 μ-loop n a b i₀ i = n - i
@@ -37,7 +37,7 @@ returns : tie.Need-returns Inv-loop μ-loop
 returns c = 
     let x = c .before in
     let a = x .before .before .args in
-    sym (left-below (a .n) (a .t1) (a .t2) (omega arith) (omega arith) (x .before .loop .i) (omega arith) (c .if1 .taken)) ∙ x .before .loop .inv .3
+    sym (lex-below (a .n) (a .t1) (a .t2) (omega arith) (omega arith) (x .before .loop .i) (omega arith) (c .if1 .taken)) ∙ x .before .loop .inv .3
 
 mul-if2 : tie.Need-mul-if2 Inv-loop μ-loop
 mul-if2 c = omega arith
@@ -55,7 +55,7 @@ returns-2 : tie.Need-returns-2 Inv-loop μ-loop
 returns-2 c = 
     let x = c .before .before in
     let a = x .before .before .args in
-    sym (left-above (a .n) (a .t1) (a .t2) (omega arith) (omega arith) (x .before .loop .i) (omega arith) (c .if2 .taken)) ∙ x .before .loop .inv .3
+    sym (lex-above (a .n) (a .t1) (a .t2) (omega arith) (omega arith) (x .before .loop .i) (omega arith) (c .if2 .taken)) ∙ x .before .loop .inv .3
 
 add-i : tie.Need-add-i Inv-loop μ-loop
 add-i c = omega arith
@@ -70,14 +70,14 @@ loop-again c =
       omega arith,
       x .before .loop .inv .1,
       x .before .loop .inv .2,
-      sym (left-same (a .n) (a .t1) (a .t2) (omega arith) (omega arith) (x .before .loop .i) (omega arith) (c .before .if1 .left) (c .if2 .left)) ∙ x .before .loop .inv .3,
+      sym (lex-same (a .n) (a .t1) (a .t2) (omega arith) (omega arith) (x .before .loop .i) (omega arith) (c .before .if1 .left) (c .if2 .left)) ∙ x .before .loop .inv .3,
     )
 
 returns-3 : tie.Need-returns-3 Inv-loop μ-loop
 returns-3 c = 
     let x = c .before in
     let a = x .before .args in
-    sym (left-none (a .n) (a .t1) (a .t2) (omega arith) (omega arith) (x .loop .i) (omega arith)) ∙ x .loop .inv .3
+    sym (lex-none (a .n) (a .t1) (a .t2) (omega arith) (omega arith) (x .loop .i) (omega arith)) ∙ x .loop .inv .3
 
 pub is-before-spec : {M : Type 1} → statement M
 is-before-spec =

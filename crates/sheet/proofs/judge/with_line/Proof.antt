@@ -1,3 +1,8 @@
+-- `sheet::judge::with_line` meets its contract: the line passed its tests, so it is of no earlier kind, and the count is that of its kind.
+-- Assumes nothing.
+use mathlib.Core.Path.{refl}
+use Rattle.sheet.proofs.Tallies.{count-most, continues}
+use native.Mathlib.Omega.{arith}
 use borrow.Author.Needs.{needs}
 use Rattle.sheet.proofs.judge.with_line.Statement.{statement}
 use Rattle.sheet.proofs.judge.with_line.Tie as tie
@@ -6,25 +11,27 @@ use Rattle.sheet.proofs.judge.with_line.Lts as lts
 use Rattle.sheet.proofs.judge.count_of.Reads as count-of-reads
 use Rattle.sheet.proofs.judge.places_with.Reads as places-with-reads
 
--- src/judge.rt:166:17
 count-of-requires : tie.Need-count-of-requires
 count-of-requires c κs = search needs
 
--- src/judge.rt:166:17
 add-count : tie.Need-add-count
-add-count c = ?
+add-count c = omega (arith, c .count-of .ensures, count-most (c .before .args .t) (c .before .args .kind))
 
--- src/judge.rt:167:9
 places-with-requires : tie.Need-places-with-requires
 places-with-requires c κs = search needs
 
--- src/judge.rt:168:20
 add-t6 : tie.Need-add-t6
 add-t6 c = search needs
 
--- src/judge.rt:162:1
 returns : tie.Need-returns
-returns c = ?
+returns c = 
+    let x = c .before .before in
+    let a = x .before .args in (
+      continues (a .t) (a .kind) (x .before .pre .0) (a .values) (c .before .places-with .result) (x .count-of .result) (c .before .places-with .ensures) (x .count-of .ensures),
+      refl,
+      refl,
+      omega (arith, x .count-of .ensures, count-most (a .t) (a .kind)),
+    )
 
 pub with-line-spec : {M : Type 1} → statement M
 with-line-spec =
