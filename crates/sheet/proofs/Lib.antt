@@ -8,3 +8,4 @@ pub mod KindFacts
 pub mod Passing
 pub mod Tallies
 pub mod Stores
+pub mod GroupStores

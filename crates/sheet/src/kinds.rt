@@ -1,6 +1,6 @@
 // The kinds of lines as tables, a number for each kind in the order of kinds: S 0, C 1, O 2.
 ghost use mathlib.Core.Path.{_≡_};
-ghost use Prim.Native.Nat.{ℕ, _<_};
+ghost use Prim.Native.Nat.{ℕ, _<_, _≤_};
 ghost use lib.ListN.{getD};
 ghost use Rattle.sheet.specs.Kinds.{kinds, place};
 ghost use Rattle.sheet.specs.Lines.{withLetter};
@@ -8,25 +8,71 @@ ghost use Rattle.sheet.specs.Calls.{width};
 ghost use Rattle.sheet.specs.Inner.{kindAt, asKind, limitOf};
 
 const LETTERS: [u8; 3] = [b'S', b'C', b'O'];
+
 const WIDTHS: [usize; 3] = [7, 5, 3];
+
 const MOST: [usize; 3] = [1, 256, 256];
+
 const KEYS: [usize; 3] = [0, 2, 3];
 
 // Eight limits for each kind: the low and the high end, or 0 as the high end of a place.
 const LOW: [u32; 24] = [
-    1, 0, 0, 0, 0, 0, 0, 0,
-    0, 0, 0, 0, 0, 0, 0, 0,
-    0, 0, 0, 0, 0, 0, 0, 0,
+    1,
+    0,
+    0,
+    0,
+    0,
+    0,
+    0,
+    0,
+    0,
+    0,
+    0,
+    0,
+    0,
+    0,
+    0,
+    0,
+    0,
+    0,
+    0,
+    0,
+    0,
+    0,
+    0,
+    0,
 ];
+
 const HIGH: [u32; 24] = [
-    64, 255, 0, 0, 60000, 60000, 60000, 0,
-    0, 0, 60000, 60000, 60000, 0, 0, 0,
-    0, 255, 255, 0, 0, 0, 0, 0,
+    64,
+    255,
+    0,
+    0,
+    60000,
+    60000,
+    60000,
+    0,
+    0,
+    0,
+    60000,
+    60000,
+    60000,
+    0,
+    0,
+    0,
+    0,
+    255,
+    255,
+    0,
+    0,
+    0,
+    0,
+    0,
 ];
 
 // The kind with the letter c; 3 for none.
 pub fn with_letter(c: u8) -> usize
-    ensures { λ r. ⌜ asKind r ≡ withLetter c kinds ⌝ }
+    ensures { λ r. ⌜ (asKind r ≡ withLetter c kinds) × (r ≤ 3) ⌝ }
 {
     let mut k = 0;
     while k < 3 {
@@ -81,5 +127,8 @@ pub fn limit_of(k: usize, i: usize) -> Ends
     requires { ⌜ (k < 3) × (i < width (kindAt k)) ⌝ }
     ensures { λ r. ⌜ limitOf (r .low) (r .high) ≡ getD (kindAt k .limits) i place ⌝ }
 {
-    Ends { low: LOW[k * 8 + i], high: HIGH[k * 8 + i] }
+    Ends {
+        low: LOW[k * 8 + i],
+        high: HIGH[k * 8 + i],
+    }
 }
