@@ -9,3 +9,4 @@ pub mod Passing
 pub mod Tallies
 pub mod Stores
 pub mod GroupStores
+pub mod Reading

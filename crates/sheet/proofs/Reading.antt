@@ -1,0 +1,198 @@
+-- Reading line after line: the first line of what is left of a text, the judgement of one line, and the answer at the end.
+-- Assumes nothing.
+use mathlib.Core.Path.{_≡_, refl, sym, _∙_, ap, ap₂}
+use mathlib.Core.Logic.{_≢_}
+use mathlib.Core.Bool.{true, false}
+use mathlib.Core.List.{List, [], _∷_, _++_, map}
+use mathlib.Core.Option.{Option, some, none}
+use Prim.Native.Nat.{ℕ, suc, _+_, _-_, _≤_, _<_}
+use native.Mathlib.Omega.{arith}
+use lib.Dec.{eqb}
+use lib.ListN.{length, take, drop, replicate, length-append, length-drop, drop-of-length-le}
+use lib.Seq.{take-all, drop-drop}
+use borrow.Author.Tests.{lt-ltb, le-ltb, eq-eqb, ne-eqb}
+use Rattle.sheet.specs.Lists.{pick, filled, flat}
+use Rattle.sheet.specs.Bytes.{lineFeed, split}
+use Rattle.sheet.specs.Kinds.{kindS, kindC, kindO}
+use Rattle.sheet.specs.Lines.{Line, line, unended, lineOf, linesOf, textLines}
+use Rattle.sheet.specs.Sheet.{Sheet, group, sheetOf, sheetLines, fault, Outcome, refused, loaded, judge, readOf}
+use Rattle.sheet.specs.Calls.{readAnswer, readCall}
+use Rattle.sheet.specs.Inner.{spanOf, lineAt, asParsed, Tallied, Continues, Stored, Stores}
+use Rattle.sheet.specs.Laws.Judge.{Passes}
+use Rattle.sheet.specs.Laws.Passed.{append-passes}
+use Rattle.sheet.specs.Laws.Groups.{group-append, group-other, lines-sheet}
+use Rattle.sheet.specs.declared.SheetRead.{SheetRead}
+use Rattle.sheet.specs.declared.judge.Tally.{Tally}
+use Rattle.sheet.specs.declared.lines.Parsed.{Parsed}
+use Rattle.sheet.proofs.Parts.{span-le, split-step}
+
+-- the first line of a text, up to its line feed, and the lines after it
+text-line : (s : List ℕ) → spanOf lineFeed s < length s → textLines s ≡ lineOf (take (spanOf lineFeed s) s) ∷ textLines (drop (suc (spanOf lineFeed s)) s)
+unfolding textLines linesOf
+text-line s h =
+    let p = take (spanOf lineFeed s) s in
+    let r = split-step lineFeed (drop (suc (spanOf lineFeed s)) s) in
+    rw (split-step lineFeed s, lt-ltb (spanOf lineFeed s) (length s) h)
+    (ap (λ (ps : List (List ℕ)). linesOf (p ∷ ps)) r ∙ ap (λ (ps : List (List ℕ)). lineOf p ∷ linesOf ps) (sym r))
+
+unended-some : (s : List ℕ) → 1 ≤ length s → unended s ≡ none ∷ []
+unended-some [] h = absurd (omega arith)
+unended-some (b ∷ s) h = refl
+
+-- a last line without a line feed
+text-cut : (s : List ℕ) → 1 ≤ length s → spanOf lineFeed s ≡ length s → textLines s ≡ none ∷ []
+unfolding textLines linesOf
+text-cut s h e =
+    let l : length s ≤ spanOf lineFeed s = omega arith in
+    rw (split-step lineFeed s, le-ltb (spanOf lineFeed s) (length s) l, take-all (spanOf lineFeed s) s l) (unended-some s h)
+
+text-none : textLines [] ≡ []
+unfolding textLines linesOf split
+text-none = refl
+
+-- what is left from position `at` on, where the next line feed, or the end, is at e
+module _ (src : List ℕ) (at e : ℕ) (h : at < length src) (d : e ≡ at + spanOf lineFeed (drop at src)) where
+  pub end-within : (at ≤ e) × (e ≤ length src)
+  end-within = (omega arith, omega (arith, span-le lineFeed (drop at src), length-drop at src))
+
+  pub cut-line : e ≡ length src → textLines (drop at src) ≡ none ∷ []
+  cut-line q = text-cut (drop at src) (omega (arith, length-drop at src)) (omega (arith, length-drop at src))
+
+  pub next-line : e ≢ length src → textLines (drop at src) ≡ lineOf (take (e - at) (drop at src)) ∷ textLines (drop (e + 1) src)
+  next-line q =
+      let n : spanOf lineFeed (drop at src) ≡ e - at = omega arith in
+      let m : at + suc (spanOf lineFeed (drop at src)) ≡ e + 1 = omega arith in
+      text-line (drop at src) (omega (arith, end-within, length-drop at src))
+      ∙ rw (drop-drop (suc (spanOf lineFeed (drop at src))) at src, m, n)
+
+-- one line is judged
+module _ (before : List Line) (ls : List (Option Line)) where
+  judge-none : judge before (none ∷ ls) ≡ refused 2 (suc (length before))
+  unfolding judge
+  judge-none = go before
+    where
+      go : (b : List Line) → judge b (none ∷ ls) ≡ refused 2 (suc (length b))
+      go [] = refl
+      go (m ∷ b) = refl
+
+  judge-line : (l : Line) → judge before (some l ∷ ls) ≡ pick (eqb (fault before l) 0) (judge (before ++ (l ∷ [])) ls) (refused (fault before l) (suc (length before)))
+  unfolding judge
+  judge-line l = go before
+    where
+      go : (b : List Line) → judge b (some l ∷ ls) ≡ pick (eqb (fault b l) 0) (judge (b ++ (l ∷ [])) ls) (refused (fault b l) (suc (length b)))
+      go [] = refl
+      go (m ∷ b) = refl
+
+  judge-fault : (l : Line) → fault before l ≢ 0 → judge before (some l ∷ ls) ≡ refused (fault before l) (suc (length before))
+  judge-fault l h = judge-line l ∙ rw (ne-eqb (fault before l) 0 h)
+
+  judge-next : (l : Line) → fault before l ≡ 0 → judge before (some l ∷ ls) ≡ judge (before ++ (l ∷ [])) ls
+  judge-next l h = judge-line l ∙ rw (eq-eqb (fault before l) 0 h)
+
+-- what has been read up to position `at`, where n is the number of the next line
+pub record Reading (src head corridors occupancies ls : List ℕ) (t : Tally) (n at : ℕ) : Type 0 where
+  pub before : List Line
+  pub tallied : Tallied before t
+  pub stored : Stored before head corridors occupancies ls
+  pub passes : Passes [] before
+  pub judged : judge before (textLines (drop at src)) ≡ readOf src
+  pub counted : n ≡ suc (length before)
+
+pub answers : (src : List ℕ) (o : Outcome) → o ≡ readOf src → readAnswer o ≡ readCall src
+unfolding readCall
+answers src o e = ap readAnswer e
+
+pub read-long : (src : List ℕ) → 10240 < length src → refused 1 0 ≡ readOf src
+unfolding readOf
+read-long src h = rw (lt-ltb 10240 (length src) h)
+
+read-whole : (src : List ℕ) → length src ≤ 10240 → judge [] (textLines src) ≡ readOf src
+unfolding readOf
+read-whole src h = rw (le-ltb 10240 (length src) h)
+
+nothing-stored : Stored [] (replicate 7 0) (replicate 1280 0) (replicate 768 0) (replicate 3 0)
+nothing-stored = record { shaped = λ l m. absurd m; of-s = refl; of-c = refl; of-o = refl; counts = refl }
+
+pub nothing-read : (src : List ℕ) (t : Tally) → length src ≤ 10240 → Tallied [] t → Reading src (replicate 7 0) (replicate 1280 0) (replicate 768 0) (replicate 3 0) t 1 0
+nothing-read src t h T = record { before = []; tallied = T; stored = nothing-stored; passes = tt; judged = read-whole src h; counted = refl }
+
+-- a line as it was read
+pub parsed-bad : (r : Parsed) (o : Option Line) → asParsed r ≡ o → r .ok ≡ false → o ≡ none
+parsed-bad r o e q = sym e ∙ rw q
+
+pub parsed-good : (r : Parsed) (o : Option Line) → asParsed r ≡ o → r .ok ≡ true → o ≡ some (lineAt (r .kind) (r .values))
+parsed-good r o e q = sym e ∙ rw q
+
+-- one line more, or the answer
+module _ {src head corridors occupancies ls : List ℕ} {t : Tally} {n at : ℕ} (R : Reading src head corridors occupancies ls t n at) where
+  pub refused-cut : textLines (drop at src) ≡ none ∷ [] → refused 2 n ≡ readOf src
+  refused-cut e = ap (refused 2) (R .counted) ∙ sym (judge-none (R .before) []) ∙ ap (judge (R .before)) (sym e) ∙ R .judged
+
+  -- the next line, as it was read, and the lines after it
+  module _ (o : Option Line) (rest : List (Option Line)) (e : textLines (drop at src) ≡ o ∷ rest) where
+    pub refused-line : o ≡ none → refused 2 n ≡ readOf src
+    refused-line q = ap (refused 2) (R .counted) ∙ sym (judge-none (R .before) rest) ∙ ap (λ (p : Option Line). judge (R .before) (p ∷ rest)) (sym q) ∙ ap (judge (R .before)) (sym e) ∙ R .judged
+
+    judged-line : (l : Line) → o ≡ some l → judge (R .before) (some l ∷ rest) ≡ readOf src
+    judged-line l q = ap (λ (p : Option Line). judge (R .before) (p ∷ rest)) (sym q) ∙ ap (judge (R .before)) (sym e) ∙ R .judged
+
+    pub refused-fault : (l : Line) → o ≡ some l → (f : ℕ) → f ≡ fault (R .before) l → f ≢ 0 → refused f n ≡ readOf src
+    refused-fault l q f d z =
+        ap₂ refused d (R .counted) ∙ sym (judge-fault (R .before) rest l (λ y. z (d ∙ y))) ∙ judged-line l q
+
+    pub judged-next : (l : Line) → o ≡ some l → fault (R .before) l ≡ 0 → judge (R .before ++ (l ∷ [])) rest ≡ readOf src
+    judged-next l q z = sym (judge-next (R .before) rest l z) ∙ judged-line l q
+
+  pub read-next : (l : Line) → fault (R .before) l ≡ 0 → {head′ corridors′ occupancies′ ls′ : List ℕ} {t′ : Tally} (at′ : ℕ)
+      → Stores l head corridors occupancies ls head′ corridors′ occupancies′ ls′ → Continues t l t′
+      → judge (R .before ++ (l ∷ [])) (textLines (drop at′ src)) ≡ readOf src → Reading src head′ corridors′ occupancies′ ls′ t′ (n + 1) at′
+  read-next l z at′ S C e =
+      record {
+        before = R .before ++ (l ∷ []);
+        tallied = C .of (R .before) (R .tallied) z;
+        stored = S .of (R .before) (R .stored) z;
+        passes = append-passes [] (R .before) (l ∷ []) (R .passes) (z, tt);
+        judged = e;
+        counted = omega (arith, R .counted, length-append (R .before) (l ∷ []));
+      }
+
+  -- after the last line feed
+  module _ (h : length src ≤ at) where
+    judged-all : judge (R .before) [] ≡ readOf src
+    judged-all = ap (judge (R .before)) (sym text-none ∙ ap textLines (sym (drop-of-length-le src h))) ∙ R .judged
+
+    pub refused-empty : n ≡ 1 → refused 3 1 ≡ readOf src
+    unfolding judge
+    refused-empty e = go (R .before) refl judged-all
+      where
+        go : (b : List Line) → R .before ≡ b → judge b [] ≡ readOf src → refused 3 1 ≡ readOf src
+        go [] q j = j
+        go (m ∷ b) q j = absurd (omega (arith, R .counted, ap length q))
+
+    all-loaded : n ≢ 1 → loaded (sheetOf (R .before)) ≡ readOf src
+    unfolding judge
+    all-loaded e = go (R .before) refl judged-all
+      where
+        go : (b : List Line) → R .before ≡ b → judge b [] ≡ readOf src → loaded (sheetOf b) ≡ readOf src
+        go [] q j = absurd (e (R .counted ∙ ap (λ (l : List Line). suc (length l)) q))
+        go (m ∷ b) q j = j
+
+    -- the S line is one
+    one-head : n ≢ 1 → length (group kindS (R .before)) ≡ 1
+    one-head e =
+        let s = sheetOf (R .before) in
+        let q : sheetLines s ≡ R .before = lines-sheet (R .before) (R .stored .shaped) (R .passes) (omega (arith, R .counted)) in
+        let z : group kindS (map (line kindC) (s .corridors) ++ map (line kindO) (s .occupancies)) ≡ [] =
+            rw (group-append kindS (map (line kindC) (s .corridors)) (map (line kindO) (s .occupancies)), group-other kindS kindC (s .corridors) (omega arith)) (group-other kindS kindO (s .occupancies) (omega arith))
+        in
+        ap (λ (l : List Line). length (group kindS l)) (sym q) ∙ ap (λ (g : List (List ℕ)). suc (length g)) z
+
+    pub loaded-answer : n ≢ 1 → _≡_ {A = SheetRead} (record { refusal = 0; line = 0; lines = ls; head = head; corridors = corridors; occupancies = occupancies }) (readCall src)
+    unfolding readAnswer
+    loaded-answer e =
+        let S = R .stored in
+        let one : ls ≡ 1 ∷ length (group kindC (R .before)) ∷ length (group kindO (R .before)) ∷ [] = S .counts ∙ ap (λ (m : ℕ). m ∷ length (group kindC (R .before)) ∷ length (group kindO (R .before)) ∷ []) (one-head e) in
+        let same : _≡_ {A = SheetRead} (record { refusal = 0; line = 0; lines = ls; head = head; corridors = corridors; occupancies = occupancies }) (readAnswer (loaded (sheetOf (R .before)))) =
+            λ i. record { refusal = 0; line = 0; lines = one i; head = S .of-s i; corridors = S .of-c i; occupancies = S .of-o i }
+        in
+        same ∙ answers src (loaded (sheetOf (R .before))) (all-loaded e)
