@@ -2,18 +2,18 @@
 -- There is room, since test 7 passed, and the numbers of each group are whole lines, since the lines are in shape.
 -- Assumes nothing.
 use mathlib.Core.Path.{_≡_, refl, sym, _∙_, ap, subst}
-use mathlib.Core.Logic.{inl, inr, _≢_, ⊎-elim}
+use mathlib.Core.Logic.{_≢_, ⊎-elim}
 use mathlib.Core.Bool.{Bool, true, false}
-use mathlib.Core.List.{List, [], _∷_, _++_, map, append-assoc, append-nil}
+use mathlib.Core.List.{List, [], _∷_, _++_, append-assoc, append-nil}
 use Prim.Native.Nat.{ℕ, _+_, _*_, _≤_, _<_}
 use native.Mathlib.Omega.{arith}
 use lib.Dec.{eqb}
 use lib.ListN.{length, set, getD, take, length-append, length-map}
 use lib.Seq.{sets, length-take-le}
 use borrow.Author.Tests.{eq-eqb, ne-eqb, eqb-true, eqb-false, leb-false}
-use Rattle.sheet.specs.Lists.{pick, _∈_, filter, flat, filled}
-use Rattle.sheet.specs.Kinds.{Kind, kindS, kindC, kindO}
-use Rattle.sheet.specs.Lines.{Line, line}
+use Rattle.sheet.specs.Lists.{pick, filter, flat, filled}
+use Rattle.sheet.specs.Kinds.{kindS, kindC, kindO}
+use Rattle.sheet.specs.Lines.{Line}
 use Rattle.sheet.specs.Sheet.{isKind, group, fault}
 use Rattle.sheet.specs.Calls.{width}
 use Rattle.sheet.specs.Inner.{kindAt, lineAt, Stored, Storable, Stores}

@@ -11,11 +11,11 @@ use lib.Dec.{eqb}
 use lib.ListN.{length, take, drop, replicate, length-append, length-drop, drop-of-length-le}
 use lib.Seq.{take-all, drop-drop}
 use borrow.Author.Tests.{lt-ltb, le-ltb, eq-eqb, ne-eqb}
-use Rattle.sheet.specs.Lists.{pick, filled, flat}
+use Rattle.sheet.specs.Lists.{pick}
 use Rattle.sheet.specs.Bytes.{lineFeed, split}
 use Rattle.sheet.specs.Kinds.{kindS, kindC, kindO}
 use Rattle.sheet.specs.Lines.{Line, line, unended, lineOf, linesOf, textLines}
-use Rattle.sheet.specs.Sheet.{Sheet, group, sheetOf, sheetLines, fault, Outcome, refused, loaded, judge, readOf}
+use Rattle.sheet.specs.Sheet.{group, sheetOf, sheetLines, fault, Outcome, refused, loaded, judge, readOf}
 use Rattle.sheet.specs.Calls.{readAnswer, readCall}
 use Rattle.sheet.specs.Inner.{spanOf, lineAt, asParsed, Tallied, Continues, Stored, Stores}
 use Rattle.sheet.specs.Laws.Judge.{Passes}

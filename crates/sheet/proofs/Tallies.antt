@@ -3,21 +3,21 @@
 -- whose lines the tally counts, or of a later kind, of which there is none yet.
 -- Assumes nothing.
 use mathlib.Core.Path.{_≡_, refl, sym, _∙_, ap, subst}
-use mathlib.Core.Logic.{inl, inr, _≢_, ⊎-elim}
-use mathlib.Core.Bool.{Bool, true, false, not, _&&_, _||_, true≢false}
-use mathlib.Core.List.{List, [], _∷_, _++_, map}
-use mathlib.Core.Option.{Option, some, none}
-use Prim.Native.Nat.{ℕ, suc, _+_, _≤_, _<_}
+use mathlib.Core.Logic.{inl, inr, ⊎-elim}
+use mathlib.Core.Bool.{Bool, true, false, not, _&&_, _||_}
+use mathlib.Core.List.{List, [], _∷_, _++_}
+use mathlib.Core.Option.{some, none}
+use Prim.Native.Nat.{ℕ, _+_, _≤_, _<_}
 use native.Mathlib.Omega.{arith}
-use lib.Dec.{ltb, leb, eqb, lit<, lit≤}
+use lib.Dec.{ltb, leb, eqb}
 use lib.ListN.{length, getD, take, length-append}
 use lib.Seq.{getD-take, take-take}
-use borrow.Author.Tests.{lt-ltb, le-ltb, ltb-true, ltb-false, le-leb, lt-leb, eq-eqb, ne-eqb, eqb-true, eqb-false, not-false}
-use Rattle.sheet.specs.Lists.{pick, number, _∈_, keep, filter, any, lexb}
-use Rattle.sheet.specs.Lines.{Line, line}
+use borrow.Author.Tests.{lt-ltb, le-ltb, ltb-true, ltb-false, eq-eqb, ne-eqb, eqb-true, eqb-false}
+use Rattle.sheet.specs.Lists.{pick, _∈_, keep, filter, any, lexb}
+use Rattle.sheet.specs.Lines.{Line}
 use Rattle.sheet.specs.Sheet.{isKind, misplaced, tooMany, outside, placesIn, unpaired, latest, notAbove, tests, fault}
 use Rattle.sheet.specs.Calls.{width}
-use Rattle.sheet.specs.Inner.{kindAt, lineAt, lineBefore, Tallied, FaultIs, Continues}
+use Rattle.sheet.specs.Inner.{kindAt, lineAt, Tallied, FaultIs, Continues}
 use Rattle.sheet.specs.Laws.Members.{mem-append}
 use Rattle.sheet.specs.Laws.Passed.{or-false, false-any, fault-passed, latest-last}
 use Rattle.sheet.specs.declared.judge.Tally.{Tally}

@@ -3,8 +3,6 @@
 use borrow.Author.Tests.{eq-eqb, ne-eqb}
 use Rattle.sheet.proofs.judge.count_of.Statement.{statement}
 use Rattle.sheet.proofs.judge.count_of.Tie as tie
-use Rattle.sheet.proofs.judge.count_of.Reads as reads
-use Rattle.sheet.proofs.judge.count_of.Lts as lts
 
 returns : tie.Need-returns
 returns c = rw (eq-eqb (c .before .args .t .kind) (c .before .args .kind) (c .if1 .taken))

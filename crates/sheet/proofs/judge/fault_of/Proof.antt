@@ -14,15 +14,6 @@ use borrow.Author.Tests.{le-leb, lt-leb}
 use borrow.Author.Needs.{needs}
 use Rattle.sheet.proofs.judge.fault_of.Statement.{statement}
 use Rattle.sheet.proofs.judge.fault_of.Tie as tie
-use Rattle.sheet.proofs.judge.fault_of.Reads as reads
-use Rattle.sheet.proofs.judge.fault_of.Lts as lts
-use Rattle.sheet.proofs.judge.count_of.Reads as count-of-reads
-use Rattle.sheet.proofs.judge.is_misplaced.Reads as is-misplaced-reads
-use Rattle.sheet.proofs.judge.is_not_above.Reads as is-not-above-reads
-use Rattle.sheet.proofs.judge.is_outside.Reads as is-outside-reads
-use Rattle.sheet.proofs.judge.is_unpaired.Reads as is-unpaired-reads
-use Rattle.sheet.proofs.judge.places_with.Reads as places-with-reads
-use Rattle.sheet.proofs.kinds.most_of.Reads as most-of-reads
 
 -- the tests that the line has passed
 placed : (c : tie.Else1) → misplacedAt (c .before .before .args .t) (c .before .before .args .kind) ≡ false

@@ -9,8 +9,6 @@ use Rattle.sheet.specs.Lists.{lexb}
 use Rattle.sheet.proofs.Passing.{lexFrom, lex-below, lex-above, lex-same, lex-none}
 use Rattle.sheet.proofs.judge.is_before.Statement.{statement}
 use Rattle.sheet.proofs.judge.is_before.Tie as tie
-use Rattle.sheet.proofs.judge.is_before.Reads as reads
-use Rattle.sheet.proofs.judge.is_before.Lts as lts
 
 abbrev Inv-loop : tie.InvT-loop
 Inv-loop n a b i₀ i = (i ≤ n) × (length a ≡ 8) × (length b ≡ 8) × (lexFrom n a b i ≡ lexb (take n a) (take n b))

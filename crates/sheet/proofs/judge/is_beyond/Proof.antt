@@ -3,8 +3,6 @@
 use borrow.Author.Tests.{eq-eqb, ne-eqb}
 use Rattle.sheet.proofs.judge.is_beyond.Statement.{statement}
 use Rattle.sheet.proofs.judge.is_beyond.Tie as tie
-use Rattle.sheet.proofs.judge.is_beyond.Reads as reads
-use Rattle.sheet.proofs.judge.is_beyond.Lts as lts
 
 returns : tie.Need-returns
 returns c = rw (eq-eqb (c .before .args .high) 0 (c .if1 .taken))

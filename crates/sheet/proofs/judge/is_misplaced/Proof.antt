@@ -3,8 +3,6 @@
 use borrow.Author.Tests.{eq-eqb, ne-eqb}
 use Rattle.sheet.proofs.judge.is_misplaced.Statement.{statement}
 use Rattle.sheet.proofs.judge.is_misplaced.Tie as tie
-use Rattle.sheet.proofs.judge.is_misplaced.Reads as reads
-use Rattle.sheet.proofs.judge.is_misplaced.Lts as lts
 
 returns : tie.Need-returns
 returns c = rw (eq-eqb (c .before .args .lines) 0 (c .if1 .taken))

@@ -11,10 +11,6 @@ use Rattle.sheet.proofs.KindFacts.{key-within, width-small}
 use borrow.Author.Needs.{needs}
 use Rattle.sheet.proofs.judge.is_not_above.Statement.{statement}
 use Rattle.sheet.proofs.judge.is_not_above.Tie as tie
-use Rattle.sheet.proofs.judge.is_not_above.Reads as reads
-use Rattle.sheet.proofs.judge.is_not_above.Lts as lts
-use Rattle.sheet.proofs.judge.is_before.Reads as is-before-reads
-use Rattle.sheet.proofs.kinds.key_of.Reads as key-of-reads
 
 returns : tie.Need-returns
 returns c = rw (eq-eqb (c .before .args .t .lines) 0 (c .if1 .taken))

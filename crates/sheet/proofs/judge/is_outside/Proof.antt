@@ -4,8 +4,8 @@ use mathlib.Core.Bool.{true, false}
 use lib.ListN.{length, getD, take}
 use Rattle.sheet.specs.Inner.{kindAt, limitOf}
 use Rattle.sheet.proofs.KindFacts.{width-small}
-use mathlib.Core.Path.{_≡_, refl, sym, _∙_, ap}
-use Prim.Native.Nat.{ℕ, _-_, _≤_}
+use mathlib.Core.Path.{_≡_, refl, sym, _∙_}
+use Prim.Native.Nat.{_-_, _≤_}
 use native.Mathlib.Omega.{arith}
 use borrow.Author.Needs.{needs}
 use Rattle.sheet.specs.Sheet.{beyond, outside}
@@ -13,11 +13,6 @@ use Rattle.sheet.specs.Calls.{width}
 use Rattle.sheet.proofs.Passing.{outsideFrom, outside-next, outside-none}
 use Rattle.sheet.proofs.judge.is_outside.Statement.{statement}
 use Rattle.sheet.proofs.judge.is_outside.Tie as tie
-use Rattle.sheet.proofs.judge.is_outside.Reads as reads
-use Rattle.sheet.proofs.judge.is_outside.Lts as lts
-use Rattle.sheet.proofs.judge.is_beyond.Reads as is-beyond-reads
-use Rattle.sheet.proofs.kinds.limit_of.Reads as limit-of-reads
-use Rattle.sheet.proofs.kinds.width_of.Reads as width-of-reads
 
 abbrev Inv-loop : tie.InvT-loop
 Inv-loop places kind values w i₀ i = (i ≤ w) × (w ≤ 8) × (length values ≡ 8) × (outsideFrom places (kindAt kind .limits) values i ≡ outside places (kindAt kind .limits) (take (width (kindAt kind)) values))

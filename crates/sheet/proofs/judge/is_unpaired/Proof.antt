@@ -7,8 +7,6 @@ use lib.Seq.{getD-take}
 use borrow.Author.Needs.{needs}
 use Rattle.sheet.proofs.judge.is_unpaired.Statement.{statement}
 use Rattle.sheet.proofs.judge.is_unpaired.Tie as tie
-use Rattle.sheet.proofs.judge.is_unpaired.Reads as reads
-use Rattle.sheet.proofs.judge.is_unpaired.Lts as lts
 
 array-read-result : tie.Need-array-read-result
 array-read-result c = search needs

@@ -4,8 +4,6 @@ use borrow.Author.Tests.{eq-eqb, ne-eqb}
 use borrow.Author.Needs.{needs}
 use Rattle.sheet.proofs.judge.places_with.Statement.{statement}
 use Rattle.sheet.proofs.judge.places_with.Tie as tie
-use Rattle.sheet.proofs.judge.places_with.Reads as reads
-use Rattle.sheet.proofs.judge.places_with.Lts as lts
 
 array-read-result : tie.Need-array-read-result
 array-read-result c = search needs

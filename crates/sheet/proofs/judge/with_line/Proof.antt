@@ -6,10 +6,6 @@ use native.Mathlib.Omega.{arith}
 use borrow.Author.Needs.{needs}
 use Rattle.sheet.proofs.judge.with_line.Statement.{statement}
 use Rattle.sheet.proofs.judge.with_line.Tie as tie
-use Rattle.sheet.proofs.judge.with_line.Reads as reads
-use Rattle.sheet.proofs.judge.with_line.Lts as lts
-use Rattle.sheet.proofs.judge.count_of.Reads as count-of-reads
-use Rattle.sheet.proofs.judge.places_with.Reads as places-with-reads
 
 count-of-requires : tie.Need-count-of-requires
 count-of-requires c κs = search needs

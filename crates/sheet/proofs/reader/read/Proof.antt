@@ -1,7 +1,7 @@
 -- `sheet::reader::read` meets its contract. The loop's invariant: up to `at` lines have been read that pass their tests; the arrays hold their
 -- groups, t tallies them, n is the number of the next line, and judging what is left after them is judging the text.
 -- The measure is what is left of the text. Assumes nothing.
-use mathlib.Core.Path.{_≡_, refl, sym, _∙_, ap}
+use mathlib.Core.Path.{_≡_, refl, sym, _∙_}
 use mathlib.Core.List.{List, _∷_}
 use mathlib.Core.Option.{Option}
 use Prim.Native.Nat.{ℕ, _+_, _-_, _≤_}
@@ -15,15 +15,6 @@ use Rattle.sheet.specs.Inner.{lineAt}
 use Rattle.sheet.proofs.Reading.{Reading, end-within, cut-line, next-line, answers, read-long, nothing-read, parsed-bad, parsed-good, refused-cut, refused-line, refused-fault, judged-next, read-next, refused-empty, loaded-answer}
 use Rattle.sheet.proofs.reader.read.Statement.{statement}
 use Rattle.sheet.proofs.reader.read.Tie as tie
-use Rattle.sheet.proofs.reader.read.Reads as reads
-use Rattle.sheet.proofs.reader.read.Lts as lts
-use Rattle.sheet.proofs.bytes.until.Reads as until-reads
-use Rattle.sheet.proofs.judge.fault_of.Reads as fault-of-reads
-use Rattle.sheet.proofs.judge.no_lines.Reads as no-lines-reads
-use Rattle.sheet.proofs.judge.with_line.Reads as with-line-reads
-use Rattle.sheet.proofs.lines.line_in.Reads as line-in-reads
-use Rattle.sheet.proofs.reader.refuse.Reads as refuse-reads
-use Rattle.sheet.proofs.reader.store_line.Reads as store-line-reads
 
 abbrev Inv-loop : tie.InvT-loop
 Inv-loop src head₀ corridors₀ occupancies₀ lines₀ t₀ n₀ at₀ head corridors occupancies lines t n at = 

@@ -4,8 +4,6 @@ use mathlib.Core.Path.{refl}
 use Rattle.sheet.specs.Calls.{readAnswer}
 use Rattle.sheet.proofs.reader.refuse.Statement.{statement}
 use Rattle.sheet.proofs.reader.refuse.Tie as tie
-use Rattle.sheet.proofs.reader.refuse.Reads as reads
-use Rattle.sheet.proofs.reader.refuse.Lts as lts
 
 returns : tie.Need-returns
 unfolding readAnswer

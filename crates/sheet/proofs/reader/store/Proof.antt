@@ -9,8 +9,6 @@ use borrow.Author.Needs.{needs}
 use Rattle.sheet.proofs.Stores.{sets-more}
 use Rattle.sheet.proofs.reader.store.Statement.{statement}
 use Rattle.sheet.proofs.reader.store.Tie as tie
-use Rattle.sheet.proofs.reader.store.Reads as reads
-use Rattle.sheet.proofs.reader.store.Lts as lts
 
 abbrev Inv-loop : tie.InvT-loop
 Inv-loop group₀ at w v i₀ group i = (i ≤ w) × (length v ≡ 8) × (group ≡ sets group₀ at (take i v))

@@ -5,17 +5,11 @@ use mathlib.Core.List.{List}
 use Prim.Native.Nat.{ℕ, _+_, _*_, _≤_, _<_}
 use native.Mathlib.Omega.{arith}
 use lib.ListN.{length, getD}
-use Rattle.sheet.specs.Calls.{width}
-use Rattle.sheet.specs.Inner.{kindAt}
 use Rattle.sheet.proofs.KindFacts.{width-small}
 use Rattle.sheet.proofs.GroupStores.{Holds, own-kept, own-grown, most-small, stores-line, few-lines, room-in, room-at}
 use borrow.Author.Needs.{needs}
 use Rattle.sheet.proofs.reader.store_line.Statement.{statement}
 use Rattle.sheet.proofs.reader.store_line.Tie as tie
-use Rattle.sheet.proofs.reader.store_line.Reads as reads
-use Rattle.sheet.proofs.reader.store_line.Lts as lts
-use Rattle.sheet.proofs.kinds.width_of.Reads as width-of-reads
-use Rattle.sheet.proofs.reader.store.Reads as store-reads
 
 eight : (c : tie.Start) → length (c .args .v) ≡ 8
 eight c = search needs
