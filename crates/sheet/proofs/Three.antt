@@ -1,9 +1,17 @@
--- What holds of the numbers of the three kinds holds of every number below 3.
-use Prim.Native.Nat.{ℕ, zero, suc, _<_}
+-- What holds of the numbers of the three kinds holds of every number below 3; no line has more than eight numbers.
+-- Assumes nothing.
+use Prim.Native.Nat.{ℕ, zero, suc, _<_, _≤_}
 use native.Mathlib.Omega.{arith}
+use Rattle.sheet.specs.Calls.{width}
+use Rattle.sheet.specs.Inner.{kindAt}
 
 pub three : (P : ℕ → Type 0) → P 0 → P 1 → P 2 → (k : ℕ) → k < 3 → P k
 three P a b c zero h = a
 three P a b c (suc zero) h = b
 three P a b c (suc (suc zero)) h = c
 three P a b c (suc (suc (suc k))) h = absurd (omega arith)
+
+pub narrow : (k : ℕ) → width (kindAt k) ≤ 8
+narrow zero = omega arith
+narrow (suc zero) = omega arith
+narrow (suc (suc k)) = omega arith

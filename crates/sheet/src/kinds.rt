@@ -1,6 +1,6 @@
 // The kinds of lines as tables, a number for each kind in the order of kinds: S 0, C 1, O 2.
 ghost use mathlib.Core.Path.{_≡_};
-ghost use Prim.Native.Nat.{ℕ, _<_};
+ghost use Prim.Native.Nat.{ℕ, _<_, _≤_};
 ghost use lib.ListN.{getD};
 ghost use Rattle.sheet.specs.Kinds.{kinds, place};
 ghost use Rattle.sheet.specs.Lines.{withLetter};
@@ -26,7 +26,7 @@ const HIGH: [u32; 24] = [
 
 // The kind with the letter c; 3 for none.
 pub fn with_letter(c: u8) -> usize
-    ensures { λ r. ⌜ asKind r ≡ withLetter c kinds ⌝ }
+    ensures { λ r. ⌜ (asKind r ≡ withLetter c kinds) × (r ≤ 3) ⌝ }
 {
     let mut k = 0;
     while k < 3 {

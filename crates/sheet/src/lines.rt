@@ -1,6 +1,6 @@
 // What the bytes of a field, of fields and of a line stand for.
 ghost use mathlib.Core.Path.{_≡_};
-ghost use mathlib.Core.Bool.{false};
+ghost use mathlib.Core.Option.{none};
 ghost use Prim.Native.Nat.{ℕ, _≤_, _<_};
 ghost use lib.ListN.{length};
 ghost use Rattle.sheet.specs.Bytes.{comma};
@@ -99,7 +99,7 @@ pub struct Parsed {
 }
 
 fn bad_line() -> Parsed
-    ensures { λ r. ⌜ r .ok ≡ false ⌝ }
+    ensures { λ r. ⌜ (asParsed r ≡ none) × (r .kind < 3) ⌝ }
 {
     Parsed { ok: false, kind: 0, values: [0u32; 8] }
 }

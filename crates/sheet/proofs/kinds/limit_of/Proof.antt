@@ -4,14 +4,13 @@ use mathlib.Core.Path.{_≡_, refl, sym, _∙_, ap}
 use mathlib.Core.List.{List, [], _∷_}
 use Prim.Native.Nat.{ℕ, zero, suc, _+_, _*_, _≤_, _<_}
 use native.Mathlib.Omega.{arith}
-use lib.Dec.{lit≤}
 use lib.ListN.{length, getD, take, drop}
 use lib.Seq.{getD-take, getD-drop}
 use borrow.Author.Needs.{needs}
 use Rattle.sheet.specs.Kinds.{Limit, place}
 use Rattle.sheet.specs.Calls.{width}
 use Rattle.sheet.specs.Inner.{kindAt, limitOf}
-use Rattle.sheet.proofs.Three.{three}
+use Rattle.sheet.proofs.Three.{three, narrow}
 use Rattle.sheet.proofs.kinds.limit_of.Statement.{statement}
 use Rattle.sheet.proofs.kinds.limit_of.Tie as tie
 use Rattle.sheet.proofs.kinds.limit_of.Reads as reads
@@ -40,13 +39,10 @@ limits-at (l ∷ ls) (x ∷ hs) (suc j) h = limits-at ls hs j (omega arith)
 row : (k : ℕ) → k < 3 → take (width (kindAt k)) (drop (k * 8) (limits low high)) ≡ kindAt k .limits
 row = three (λ k. take (width (kindAt k)) (drop (k * 8) (limits low high)) ≡ kindAt k .limits) refl refl refl
 
-narrow : (k : ℕ) → k < 3 → width (kindAt k) ≤ 8
-narrow = three (λ k. width (kindAt k) ≤ 8) (lit≤ tt) (lit≤ tt) (lit≤ tt)
-
 module _ (k i : ℕ) (h : k < 3) (n : i < width (kindAt k)) where
   entry : limitOf (getD low (k * 8 + i) 0) (getD high (k * 8 + i) 0) ≡ getD (kindAt k .limits) i place
   entry =
-      sym (limits-at low high (k * 8 + i) (omega (arith, narrow k h)))
+      sym (limits-at low high (k * 8 + i) (omega (arith, narrow k)))
       ∙ sym (getD-drop (k * 8) (limits low high) i place)
       ∙ sym (getD-take (width (kindAt k)) (drop (k * 8) (limits low high)) i place n)
       ∙ ap (λ (l : List Limit). getD l i place) (row k h)
@@ -55,25 +51,25 @@ mul-t4 : tie.Need-mul-t4
 mul-t4 c = search needs
 
 add-t5 : tie.Need-add-t5
-add-t5 c = omega (arith, narrow (c .args .k) (c .pre .0))
+add-t5 c = omega (arith, narrow (c .args .k))
 
 mul-t6 : tie.Need-mul-t6
-mul-t6 c = omega (arith, narrow (c .args .k) (c .pre .0))
+mul-t6 c = omega (arith, narrow (c .args .k))
 
 array-read-t9 : tie.Need-array-read-t9
-array-read-t9 c = omega (arith, narrow (c .args .k) (c .pre .0))
+array-read-t9 c = omega (arith, narrow (c .args .k))
 
 mul-t11 : tie.Need-mul-t11
 mul-t11 c = search needs
 
 add-t12 : tie.Need-add-t12
-add-t12 c = omega (arith, narrow (c .args .k) (c .pre .0))
+add-t12 c = omega (arith, narrow (c .args .k))
 
 mul-t13 : tie.Need-mul-t13
-mul-t13 c = omega (arith, narrow (c .args .k) (c .pre .0))
+mul-t13 c = omega (arith, narrow (c .args .k))
 
 array-read-t16 : tie.Need-array-read-t16
-array-read-t16 c = omega (arith, narrow (c .args .k) (c .pre .0))
+array-read-t16 c = omega (arith, narrow (c .args .k))
 
 returns : tie.Need-returns
 returns c = entry (c .args .k) (c .args .i) (c .pre .0) (c .pre .1)

@@ -2,6 +2,7 @@
 -- Assumes nothing.
 use mathlib.Core.Path.{_≡_, refl, sym, _∙_}
 use mathlib.Core.List.{List, [], _∷_}
+use mathlib.Core.Option.{none}
 use Prim.Native.Nat.{ℕ, _+_, _-_, _≤_, _<_}
 use native.Mathlib.Omega.{arith}
 use native.Mathlib.Numerals.{add-one}
@@ -32,6 +33,10 @@ passed a =
     three (λ k. (getD letters k 0 ≡ a → ⊥) → withLetter a (drop k kinds) ≡ withLetter a (drop (k + 1) kinds))
     (λ e. rw (ne-eqb 83 a e)) (λ e. rw (ne-eqb 67 a e)) (λ e. rw (ne-eqb 79 a e))
 
+-- no kind is left
+all-passed : (a k : ℕ) → 3 ≤ k → withLetter a (drop k kinds) ≡ none
+all-passed a k h = rw (drop-of-length-le kinds h)
+
 abbrev Inv-loop : tie.InvT-loop
 Inv-loop c k₀ k = (k ≤ 3) × (withLetter c (drop k kinds) ≡ withLetter c kinds)
 
@@ -45,7 +50,9 @@ array-read-if1 : tie.Need-array-read-if1 Inv-loop μ-loop
 array-read-if1 c = omega arith
 
 returns : tie.Need-returns Inv-loop μ-loop
-returns c = ?
+returns c =
+    let h = c .before .before in
+    (sym (found (h .before .args .c) (h .loop .k) (c .before .loop-test .taken) (c .if1 .taken)) ∙ h .loop .inv .1, omega arith)
 
 add-k : tie.Need-add-k Inv-loop μ-loop
 add-k c = omega arith
@@ -54,10 +61,15 @@ loop-less : tie.Need-loop-less Inv-loop μ-loop
 loop-less c = omega arith
 
 loop-again : tie.Need-loop-again Inv-loop μ-loop
-loop-again c = ?
+loop-again c =
+    let h = c .before .before in
+    (omega arith,
+    sym (passed (h .before .args .c) (h .loop .k) (c .before .loop-test .taken) (c .if1 .left)) ∙ h .loop .inv .1)
 
 returns-2 : tie.Need-returns-2 Inv-loop μ-loop
-returns-2 c = ?
+returns-2 c =
+    let h = c .before in
+    (sym (all-passed (h .before .args .c) (h .loop .k) (c .loop-test .left)) ∙ h .loop .inv .1, omega arith)
 
 pub with-letter-spec : {M : Type 1} → statement M
 with-letter-spec =
