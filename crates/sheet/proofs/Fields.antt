@@ -1,15 +1,14 @@
--- Laws of the numbers of a line: one field more.
+-- Laws of the numbers of a line, field by field: what is read so far, in front of what is left to read.
 -- Assumes nothing.
-use mathlib.Core.Bool.{Bool, true, false}
-use mathlib.Core.Path.{_≡_, refl, sym, _∙_, ap, ap₂}
+use mathlib.Core.Path.{_≡_, refl}
 use mathlib.Core.List.{List, [], _∷_, _++_, append-assoc, append-nil}
 use mathlib.Core.Option.{Option, some, none}
-use Prim.Native.Nat.{ℕ, zero, suc, _+_, _-_, _≤_, _<_}
+use Prim.Native.Nat.{ℕ, suc, _+_, _-_, _≤_, _<_}
 use native.Mathlib.Omega.{arith}
 use native.Mathlib.Numerals.{add-one}
 use lib.ListN.{length, take, drop, set}
 use lib.Seq.{take-suc-set}
-use Rattle.sheet.specs.Decimal.{numberOf}
+use Rattle.sheet.specs.Decimal.{numberOf, most}
 use Rattle.sheet.specs.Lines.{numbersOf, consNumber}
 use Rattle.sheet.specs.Inner.{spanOf, partsFrom}
 use Rattle.sheet.proofs.Parts.{parts-step, parts-none}
@@ -27,7 +26,7 @@ pub onto-none : (r : Option (List ℕ)) → r ≡ ontoAll [] r
 onto-none none = refl
 onto-none (some r) = refl
 
-numbers-cons : (w w' : ℕ) (f : List ℕ) (fs : List (List ℕ)) → w ≡ suc w' → numbersOf w (f ∷ fs) ≡ consNumber (numberOf 5 f) (numbersOf w' fs)
+numbers-cons : (w w' : ℕ) (f : List ℕ) (fs : List (List ℕ)) → w ≡ suc w' → numbersOf w (f ∷ fs) ≡ consNumber (numberOf most f) (numbersOf w' fs)
 unfolding numbersOf
 numbers-cons w w' f fs e = rw e
 
@@ -51,10 +50,11 @@ module _ (l ns : List ℕ) (w k at n : ℕ) where
   pub so-missing : k < w → length l < at → soFar ≡ none
   so-missing h e = rw (parts-none n at l e, numbers-nil (w - k) (w - (k + 1)) (omega arith))
 
-  pub so-bad : k < w → at ≤ length l → numberOf 5 (take (spanOf n (drop at l)) (drop at l)) ≡ none → soFar ≡ none
+  pub so-bad : k < w → at ≤ length l → numberOf most (take (spanOf n (drop at l)) (drop at l)) ≡ none → soFar ≡ none
   so-bad h a e = rw (parts-step n at l a, numbers-cons (w - k) (w - (k + 1)) _ _ (omega arith), e)
 
-  pub so-more : (v : ℕ) → k < w → k < length ns → at ≤ length l → numberOf 5 (take (spanOf n (drop at l)) (drop at l)) ≡ some v → soFar ≡ ontoAll (take (k + 1) (set ns k v)) (numbersOf (w - (k + 1)) (partsFrom n (at + spanOf n (drop at l) + 1) l))
+  pub so-more : (v : ℕ) → k < w → k < length ns → at ≤ length l → numberOf most (take (spanOf n (drop at l)) (drop at l)) ≡ some v
+      → soFar ≡ ontoAll (take (k + 1) (set ns k v)) (numbersOf (w - (k + 1)) (partsFrom n (at + spanOf n (drop at l) + 1) l))
   so-more v h hn a e =
       let t : take (k + 1) (set ns k v) ≡ take k ns ++ (v ∷ []) = rw add-one (take-suc-set ns k v hn) in
       rw (parts-step n at l a, numbers-cons (w - k) (w - (k + 1)) _ _ (omega arith), e, t)

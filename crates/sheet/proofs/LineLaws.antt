@@ -1,18 +1,18 @@
 -- Laws of a line: its first field is the letter of its kind.
 -- Assumes nothing.
 use mathlib.Core.Bool.{Bool, true, false}
-use mathlib.Core.Path.{_≡_, refl, sym, _∙_, ap}
+use mathlib.Core.Path.{_≡_, refl, sym, _∙_}
 use mathlib.Core.List.{List, [], _∷_}
-use mathlib.Core.Option.{Option, some, none}
-use Prim.Native.Nat.{ℕ, suc, _+_, _≤_, _<_}
+use mathlib.Core.Option.{some, none}
+use Prim.Native.Nat.{ℕ, _+_, _≤_, _<_}
 use native.Mathlib.Omega.{arith}
 use lib.ListN.{length, getD, take}
 use lib.Seq.{length-take-le}
 use borrow.Author.Tests.{lt-ltb, le-ltb}
 use Rattle.sheet.specs.Lists.{pick}
 use Rattle.sheet.specs.Bytes.{split, comma}
-use Rattle.sheet.specs.Kinds.{Kind, kinds}
-use Rattle.sheet.specs.Lines.{Line, withLetter, numbersOf, ofKind, ofLetter, ofFields, lineOf}
+use Rattle.sheet.specs.Kinds.{kinds}
+use Rattle.sheet.specs.Lines.{withLetter, numbersOf, ofKind, ofLetter, ofFields, lineOf}
 use Rattle.sheet.specs.Calls.{width}
 use Rattle.sheet.specs.Inner.{kindAt, asKind, lineAt, spanOf, partsFrom}
 use Rattle.sheet.proofs.Parts.{parts-step, parts-here, span-le}
@@ -47,6 +47,7 @@ module _ (l : List ℕ) (k : ℕ) (e : spanOf comma l ≡ 1) (p : asKind k ≡ w
   line-known : k < 3 → lineOf l ≡ ofKind (kindAt k) (numbersOf (width (kindAt k)) (partsFrom comma 2 l))
   line-known h = rw (line-letter, lt-ltb k 3 h)
 
+  -- the reader of its numbers handed back `ok` and vs
   module _ (vs : List ℕ) (w : ℕ) (ok : Bool) (h : k < 3) (d : w ≡ width (kindAt k)) (q : pick ok (some (take w vs)) none ≡ numbersOf w (partsFrom comma 2 l)) where
     pub line-yes : ok ≡ true → some (lineAt k vs) ≡ lineOf l
     line-yes t = rw (line-known h, ← d, ← q, t, d)

@@ -1,16 +1,16 @@
--- Laws of parts between separators, and of the search for a separator.
+-- Laws of the parts between the bytes of a kind, and of the search for the first byte of it.
 -- Assumes nothing.
 use mathlib.Core.Bool.{Bool, true, false}
-use mathlib.Core.Path.{_≡_, refl, sym, _∙_, ap, ap₂}
-use mathlib.Core.List.{List, [], _∷_, _++_}
-use Prim.Native.Nat.{ℕ, zero, suc, _+_, _-_, _≤_, _<_}
+use mathlib.Core.Path.{_≡_, refl, _∙_, ap}
+use mathlib.Core.List.{List, [], _∷_}
+use Prim.Native.Nat.{ℕ, suc, _+_, _≤_, _<_}
 use native.Mathlib.Omega.{arith}
 use native.Mathlib.Numerals.{add-one}
 use mathlib.Core.Logic.{⊎-elim}
-use lib.Dec.{ltb, leb, eqb, leb·suc-suc}
+use lib.Dec.{ltb, eqb, leb·suc-suc}
 use lib.ListN.{length, getD, take, drop, length-drop, drop-of-length-le}
 use lib.Seq.{drop-cons, drop-drop}
-use borrow.Author.Tests.{lt-ltb, le-ltb, le-leb, lt-leb, eq-eqb, ne-eqb, ltb-true, ltb-false}
+use borrow.Author.Tests.{lt-ltb, le-ltb, le-leb, lt-leb, eq-eqb, ne-eqb}
 use Rattle.sheet.specs.Laws.Decimal.{below-or-not}
 use Rattle.sheet.specs.Lists.{pick}
 use Rattle.sheet.specs.Bytes.{kindOf, onto, split}
@@ -47,7 +47,8 @@ unfolding spanOf split
 split-step k [] = refl
 split-step k (b ∷ l) = go (eqb (kindOf b) k) (split-step k l)
   where
-    go : (t : Bool) → split k l ≡ take (spanOf k l) l ∷ rest k (spanOf k l) l → pick t ([] ∷ split k l) (onto b (split k l)) ≡ take (pick t 0 (suc (spanOf k l))) (b ∷ l) ∷ rest k (pick t 0 (suc (spanOf k l))) (b ∷ l)
+    go : (t : Bool) → split k l ≡ take (spanOf k l) l ∷ rest k (spanOf k l) l
+        → pick t ([] ∷ split k l) (onto b (split k l)) ≡ take (pick t 0 (suc (spanOf k l))) (b ∷ l) ∷ rest k (pick t 0 (suc (spanOf k l))) (b ∷ l)
     go true r = rw (lt-ltb 0 (suc (length l)) (omega arith))
     go false r = rw (r, leb·suc-suc)
 
@@ -59,7 +60,9 @@ rest-parts : (k at n : ℕ) (l : List ℕ) → at ≤ length l → rest k n (dro
 unfolding partsFrom
 rest-parts k at n l h =
     ⊎-elim
-    (λ lt. rw (lt-ltb n (length (drop at l)) lt, le-leb (at + n + 1) (length l) (omega (arith, length-drop at l)), drop-drop) (let e : at + suc n ≡ at + n + 1 = omega arith in ap (λ (j : ℕ). split k (drop j l)) e))
+    (λ lt.
+    rw (lt-ltb n (length (drop at l)) lt, le-leb (at + n + 1) (length l) (omega (arith, length-drop at l)), drop-drop)
+    (let e : at + suc n ≡ at + n + 1 = omega arith in ap (λ (j : ℕ). split k (drop j l)) e))
     (λ ge. rw (le-ltb n (length (drop at l)) ge, lt-leb (at + n + 1) (length l) (omega (arith, length-drop at l))))
     (below-or-not n (length (drop at l)))
 

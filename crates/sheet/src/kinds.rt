@@ -8,20 +8,66 @@ ghost use Rattle.sheet.specs.Calls.{width};
 ghost use Rattle.sheet.specs.Inner.{kindAt, asKind, limitOf};
 
 const LETTERS: [u8; 3] = [b'S', b'C', b'O'];
+
 const WIDTHS: [usize; 3] = [7, 5, 3];
+
 const MOST: [usize; 3] = [1, 256, 256];
+
 const KEYS: [usize; 3] = [0, 2, 3];
 
 // Eight limits for each kind: the low and the high end, or 0 as the high end of a place.
 const LOW: [u32; 24] = [
-    1, 0, 0, 0, 0, 0, 0, 0,
-    0, 0, 0, 0, 0, 0, 0, 0,
-    0, 0, 0, 0, 0, 0, 0, 0,
+    1,
+    0,
+    0,
+    0,
+    0,
+    0,
+    0,
+    0,
+    0,
+    0,
+    0,
+    0,
+    0,
+    0,
+    0,
+    0,
+    0,
+    0,
+    0,
+    0,
+    0,
+    0,
+    0,
+    0,
 ];
+
 const HIGH: [u32; 24] = [
-    64, 255, 0, 0, 60000, 60000, 60000, 0,
-    0, 0, 60000, 60000, 60000, 0, 0, 0,
-    0, 255, 255, 0, 0, 0, 0, 0,
+    64,
+    255,
+    0,
+    0,
+    60000,
+    60000,
+    60000,
+    0,
+    0,
+    0,
+    60000,
+    60000,
+    60000,
+    0,
+    0,
+    0,
+    0,
+    255,
+    255,
+    0,
+    0,
+    0,
+    0,
+    0,
 ];
 
 // The kind with the letter c; 3 for none.
@@ -81,5 +127,8 @@ pub fn limit_of(k: usize, i: usize) -> Ends
     requires { ⌜ (k < 3) × (i < width (kindAt k)) ⌝ }
     ensures { λ r. ⌜ limitOf (r .low) (r .high) ≡ getD (kindAt k .limits) i place ⌝ }
 {
-    Ends { low: LOW[k * 8 + i], high: HIGH[k * 8 + i] }
+    Ends {
+        low: LOW[k * 8 + i],
+        high: HIGH[k * 8 + i],
+    }
 }

@@ -7,8 +7,12 @@ ghost use Rattle.sheet.specs.Bytes.{comma};
 ghost use Rattle.sheet.specs.Decimal.{digitsFrom, numberOf};
 ghost use Rattle.sheet.specs.Lines.{numbersOf, lineOf};
 ghost use Rattle.sheet.specs.Inner.{partsFrom, asNumber, asNumbers, asParsed};
-use crate::bytes::{kind_of, until, COMMA, DIGIT};
-use crate::kinds::{width_of, with_letter};
+use crate::bytes::COMMA;
+use crate::bytes::DIGIT;
+use crate::bytes::kind_of;
+use crate::bytes::until;
+use crate::kinds::width_of;
+use crate::kinds::with_letter;
 
 // What a field reads as: a number, or none.
 pub enum Number {
@@ -101,7 +105,11 @@ pub struct Parsed {
 fn bad_line() -> Parsed
     ensures { λ r. ⌜ (asParsed r ≡ none) × (r .kind < 3) ⌝ }
 {
-    Parsed { ok: false, kind: 0, values: [0u32; 8] }
+    Parsed {
+        ok: false,
+        kind: 0,
+        values: [0u32; 8],
+    }
 }
 
 // The line that the bytes of l are, without a line feed.
@@ -119,7 +127,11 @@ pub fn line_in(l: &[u8]) -> Parsed
     let n = numbers_in(l, 2, w);
     if n.ok {
         let values = n.values;
-        return Parsed { ok: true, kind: k, values };
+        return Parsed {
+            ok: true,
+            kind: k,
+            values,
+        };
     }
     bad_line()
 }

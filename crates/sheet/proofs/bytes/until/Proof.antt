@@ -1,17 +1,15 @@
--- `sheet::bytes::until` meets its contract. Invariant: the place sought is as many bytes on from i as stand before it there.
+-- `sheet::bytes::until` meets its contract. Invariant: i and the bytes that stand before the first of the kind from there on make the
+-- position sought.
 -- Assumes nothing.
-use mathlib.Core.Path.{_≡_, refl, sym, _∙_, ap}
-use Prim.Native.Nat.{_≤_, _<_, _-_, _+_}
+use mathlib.Core.Path.{_≡_, refl, sym, _∙_}
+use Prim.Native.Nat.{_≤_, _-_, _+_}
 use native.Mathlib.Omega.{arith}
-use lib.ListN.{length, drop, getD}
+use lib.ListN.{length, drop}
 use borrow.Author.Needs.{needs}
 use Rattle.sheet.specs.Inner.{spanOf}
 use Rattle.sheet.proofs.Parts.{span-stop, span-more, span-end}
 use Rattle.sheet.proofs.bytes.until.Statement.{statement}
 use Rattle.sheet.proofs.bytes.until.Tie as tie
-use Rattle.sheet.proofs.bytes.until.Reads as reads
-use Rattle.sheet.proofs.bytes.until.Lts as lts
-use Rattle.sheet.proofs.bytes.kind_of.Reads as kind-of-reads
 
 abbrev Inv-loop : tie.InvT-loop
 Inv-loop s at k i₀ i = (i ≤ length s) × (i + spanOf k (drop i s) ≡ at + spanOf k (drop at s))
@@ -29,7 +27,13 @@ kind-of-requires : tie.Need-kind-of-requires Inv-loop μ-loop
 kind-of-requires c κs = search needs
 
 returns : tie.Need-returns Inv-loop μ-loop
-returns c = omega (arith, span-stop (c .before .before .before .before .before .before .args .s .now) (c .before .before .before .before .loop .i) (c .before .before .before .before .before .before .args .k) (c .before .before .before .loop-test .taken) (sym (c .before .kind-of .ensures) ∙ c .if1 .taken))
+returns c =
+    let h = c .before .before .before .before in
+    omega (
+      arith,
+      span-stop (h .before .before .args .s .now) (h .loop .i) (h .before .before .args .k) (c .before .before .before .loop-test .taken)
+          (sym (c .before .kind-of .ensures) ∙ c .if1 .taken),
+    )
 
 add-i : tie.Need-add-i Inv-loop μ-loop
 add-i c = omega arith
@@ -38,7 +42,13 @@ loop-less : tie.Need-loop-less Inv-loop μ-loop
 loop-less c = omega arith
 
 loop-again : tie.Need-loop-again Inv-loop μ-loop
-loop-again c = omega (arith, span-more (c .before .before .before .before .before .before .args .s .now) (c .before .before .before .before .loop .i) (c .before .before .before .before .before .before .args .k) (c .before .before .before .loop-test .taken) (λ e. c .if1 .left (c .before .kind-of .ensures ∙ e)))
+loop-again c =
+    let h = c .before .before .before .before in
+    omega (
+      arith,
+      span-more (h .before .before .args .s .now) (h .loop .i) (h .before .before .args .k) (c .before .before .before .loop-test .taken)
+          (λ e. c .if1 .left (c .before .kind-of .ensures ∙ e)),
+    )
 
 returns-2 : tie.Need-returns-2 Inv-loop μ-loop
 returns-2 c = omega (arith, span-end (c .before .before .before .args .s .now) (c .before .loop .i) (c .before .before .before .args .k) (c .loop-test .left))

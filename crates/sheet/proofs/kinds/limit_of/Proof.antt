@@ -1,51 +1,51 @@
--- `sheet::kinds::limit_of` meets its contract: the two tables, entry by entry, are the limits of the kinds, eight places for each kind.
+-- `sheet::kinds::limit_of` meets its contract: each table lists one end of the limits of the kinds, eight places for each kind.
 -- Assumes nothing.
-use mathlib.Core.Path.{_≡_, refl, sym, _∙_, ap}
-use mathlib.Core.List.{List, [], _∷_}
-use Prim.Native.Nat.{ℕ, zero, suc, _+_, _*_, _≤_, _<_}
+use mathlib.Core.Path.{_≡_, refl, sym, _∙_, ap, ap₂}
+use mathlib.Core.List.{List, map}
+use Prim.Native.Nat.{ℕ, _+_, _*_, _/_, _%_, _<_}
 use native.Mathlib.Omega.{arith}
-use lib.ListN.{length, getD, take, drop}
-use lib.Seq.{getD-take, getD-drop}
+use lib.ListN.{getD, List·getD-map}
 use borrow.Author.Needs.{needs}
-use Rattle.sheet.specs.Kinds.{Limit, place}
+use Rattle.sheet.specs.Kinds.{Limit, between, place}
 use Rattle.sheet.specs.Calls.{width}
 use Rattle.sheet.specs.Inner.{kindAt, limitOf}
 use Rattle.sheet.proofs.Three.{three, narrow}
+use Rattle.sheet.proofs.Table.{at}
 use Rattle.sheet.proofs.kinds.limit_of.Statement.{statement}
 use Rattle.sheet.proofs.kinds.limit_of.Tie as tie
-use Rattle.sheet.proofs.kinds.limit_of.Reads as reads
-use Rattle.sheet.proofs.kinds.limit_of.Lts as lts
 
-abbrev low : List ℕ
-low = 1 ∷ 0 ∷ 0 ∷ 0 ∷ 0 ∷ 0 ∷ 0 ∷ 0 ∷ 0 ∷ 0 ∷ 0 ∷ 0 ∷ 0 ∷ 0 ∷ 0 ∷ 0 ∷ 0 ∷ 0 ∷ 0 ∷ 0 ∷ 0 ∷ 0 ∷ 0 ∷ 0 ∷ []
+-- the ends of a limit, as the tables have them
+abbrev lowOf : Limit → ℕ
+lowOf (between a b) = a
+lowOf place = 0
 
-abbrev high : List ℕ
-high =
-    64 ∷ 255 ∷ 0 ∷ 0 ∷ 60000 ∷ 60000 ∷ 60000 ∷ 0 ∷ 0 ∷ 0 ∷ 60000 ∷ 60000 ∷ 60000 ∷ 0 ∷ 0 ∷ 0 ∷ 0 ∷ 255 ∷ 255 ∷ 0 ∷ 0 ∷ 0 ∷ 0 ∷ 0 ∷ []
+abbrev highOf : Limit → ℕ
+highOf (between a b) = b
+highOf place = 0
 
--- the limits that two tables of ends stand for
-abbrev limits : List ℕ → List ℕ → List Limit
-limits [] hs = []
-limits (l ∷ ls) [] = []
-limits (l ∷ ls) (h ∷ hs) = limitOf l h ∷ limits ls hs
+-- the limit at a place of the tables
+abbrev limitAt : ℕ → Limit
+limitAt j = getD (kindAt (j / 8) .limits) (j % 8) place
 
-limits-at : (ls hs : List ℕ) (j : ℕ) → j < length (limits ls hs) → getD (limits ls hs) j place ≡ limitOf (getD ls j 0) (getD hs j 0)
-limits-at [] hs j h = absurd (omega arith)
-limits-at (l ∷ ls) [] j h = absurd (omega arith)
-limits-at (l ∷ ls) (x ∷ hs) zero h = refl
-limits-at (l ∷ ls) (x ∷ hs) (suc j) h = limits-at ls hs j (omega arith)
+-- the limit that the ends of a limit stand for
+abbrev again : Limit → Limit
+again x = limitOf (lowOf x) (highOf x)
 
--- the limits of a kind stand from eight times its number on
-row : (k : ℕ) → k < 3 → take (width (kindAt k)) (drop (k * 8) (limits low high)) ≡ kindAt k .limits
-row = three (λ k. take (width (kindAt k)) (drop (k * 8) (limits low high)) ≡ kindAt k .limits) refl refl refl
+kept : (k : ℕ) → k < 3 → map again (kindAt k .limits) ≡ kindAt k .limits
+kept = three (λ k. map again (kindAt k .limits) ≡ kindAt k .limits) refl refl refl
 
 module _ (k i : ℕ) (h : k < 3) (n : i < width (kindAt k)) where
-  entry : limitOf (getD low (k * 8 + i) 0) (getD high (k * 8 + i) 0) ≡ getD (kindAt k .limits) i place
-  entry =
-      sym (limits-at low high (k * 8 + i) (omega (arith, narrow k)))
-      ∙ sym (getD-drop (k * 8) (limits low high) i place)
-      ∙ sym (getD-take (width (kindAt k)) (drop (k * 8) (limits low high)) i place n)
-      ∙ ap (λ (l : List Limit). getD l i place) (row k h)
+  within : k * 8 + i < 24
+  within = omega (arith, narrow k)
+
+  own : limitAt (k * 8 + i) ≡ getD (kindAt k .limits) i place
+  own =
+      let q : (k * 8 + i) / 8 ≡ k = omega (arith, narrow k) in
+      let r : (k * 8 + i) % 8 ≡ i = omega (arith, narrow k) in
+      rw (q, r)
+
+  entry : again (limitAt (k * 8 + i)) ≡ getD (kindAt k .limits) i place
+  entry = ap again own ∙ sym (List·getD-map again (kindAt k .limits) i place) ∙ ap (λ (l : List Limit). getD l i place) (kept k h)
 
 mul-t4 : tie.Need-mul-t4
 mul-t4 c = search needs
@@ -72,7 +72,10 @@ array-read-t16 : tie.Need-array-read-t16
 array-read-t16 c = omega (arith, narrow (c .args .k))
 
 returns : tie.Need-returns
-returns c = entry (c .args .k) (c .args .i) (c .pre .0) (c .pre .1)
+returns c =
+    let b = within (c .args .k) (c .args .i) (c .pre .0) (c .pre .1) in
+    ap₂ limitOf (at (λ j. lowOf (limitAt j)) 24 (c .args .k * 8 + c .args .i) b) (at (λ j. highOf (limitAt j)) 24 (c .args .k * 8 + c .args .i) b)
+    ∙ entry (c .args .k) (c .args .i) (c .pre .0) (c .pre .1)
 
 pub limit-of-spec : {M : Type 1} → statement M
 limit-of-spec =

@@ -1,37 +1,34 @@
 -- `sheet::kinds::with_letter` meets its contract. Invariant: the kinds from number k on have the same kind with the letter as all of them.
 -- Assumes nothing.
 use mathlib.Core.Path.{_≡_, refl, sym, _∙_}
-use mathlib.Core.List.{List, [], _∷_}
+use mathlib.Core.List.{List, _∷_}
 use mathlib.Core.Option.{none}
 use Prim.Native.Nat.{ℕ, _+_, _-_, _≤_, _<_}
 use native.Mathlib.Omega.{arith}
-use native.Mathlib.Numerals.{add-one}
 use lib.ListN.{getD, drop, drop-of-length-le}
-use borrow.Author.Needs.{needs}
-use borrow.Author.Tests.{eq-eqb, ne-eqb}
-use Rattle.sheet.specs.Kinds.{Kind, kinds}
+use borrow.Author.Tests.{eq-eqb, ne-eqb, lt-ltb}
+use Rattle.sheet.specs.Kinds.{kinds}
 use Rattle.sheet.specs.Lines.{withLetter}
 use Rattle.sheet.specs.Inner.{kindAt, asKind}
 use Rattle.sheet.proofs.Three.{three}
+use Rattle.sheet.proofs.Table.{listed, at}
 use Rattle.sheet.proofs.kinds.with_letter.Statement.{statement}
 use Rattle.sheet.proofs.kinds.with_letter.Tie as tie
-use Rattle.sheet.proofs.kinds.with_letter.Reads as reads
-use Rattle.sheet.proofs.kinds.with_letter.Lts as lts
 
+-- the kinds from number k on
+left : (k : ℕ) → k < 3 → drop k kinds ≡ kindAt k ∷ drop (k + 1) kinds
+left = three (λ k. drop k kinds ≡ kindAt k ∷ drop (k + 1) kinds) refl refl refl
+
+-- the letters in the table
 abbrev letters : List ℕ
-letters = 83 ∷ 67 ∷ 79 ∷ []
+letters = listed (λ k. kindAt k .letter) 0 3
 
--- the kind with number k has the letter
-found : (a k : ℕ) → k < 3 → getD letters k 0 ≡ a → withLetter a (drop k kinds) ≡ asKind k
-found a =
-    three (λ k. getD letters k 0 ≡ a → withLetter a (drop k kinds) ≡ asKind k)
-    (λ e. rw (eq-eqb 83 a e)) (λ e. rw (eq-eqb 67 a e)) (λ e. rw (eq-eqb 79 a e))
+module _ (a k : ℕ) (h : k < 3) where
+  found : getD letters k 0 ≡ a → withLetter a (drop k kinds) ≡ asKind k
+  found e = rw (left k h, eq-eqb (kindAt k .letter) a (sym (at (λ k. kindAt k .letter) 3 k h) ∙ e), lt-ltb k 3 h)
 
--- it has another letter
-passed : (a k : ℕ) → k < 3 → (getD letters k 0 ≡ a → ⊥) → withLetter a (drop k kinds) ≡ withLetter a (drop (k + 1) kinds)
-passed a =
-    three (λ k. (getD letters k 0 ≡ a → ⊥) → withLetter a (drop k kinds) ≡ withLetter a (drop (k + 1) kinds))
-    (λ e. rw (ne-eqb 83 a e)) (λ e. rw (ne-eqb 67 a e)) (λ e. rw (ne-eqb 79 a e))
+  passed : (getD letters k 0 ≡ a → ⊥) → withLetter a (drop k kinds) ≡ withLetter a (drop (k + 1) kinds)
+  passed n = rw (left k h, ne-eqb (kindAt k .letter) a (λ e. n (at (λ k. kindAt k .letter) 3 k h ∙ e)))
 
 -- no kind is left
 all-passed : (a k : ℕ) → 3 ≤ k → withLetter a (drop k kinds) ≡ none
@@ -62,9 +59,10 @@ loop-less c = omega arith
 
 loop-again : tie.Need-loop-again Inv-loop μ-loop
 loop-again c =
-    let h = c .before .before in
-    (omega arith,
-    sym (passed (h .before .args .c) (h .loop .k) (c .before .loop-test .taken) (c .if1 .left)) ∙ h .loop .inv .1)
+    let h = c .before .before in (
+      omega arith,
+      sym (passed (h .before .args .c) (h .loop .k) (c .before .loop-test .taken) (c .if1 .left)) ∙ h .loop .inv .1,
+    )
 
 returns-2 : tie.Need-returns-2 Inv-loop μ-loop
 returns-2 c =

@@ -1,22 +1,19 @@
--- `sheet::lines::decimal` meets its contract. Invariant: what is still to be read, from the value so far, is what the whole reads as.
+-- `sheet::lines::decimal` meets its contract. Invariant: what is still to be read, from the value so far, is what the whole reads as, and
+-- the value has at most i digits.
 -- Assumes nothing.
-use mathlib.Core.Path.{_≡_, refl, sym, _∙_, ap}
-use Prim.Native.Nat.{_≤_, _<_, _-_, _^_, _+_}
+use mathlib.Core.Path.{_≡_, refl, sym, _∙_}
+use Prim.Native.Nat.{_≤_, _<_, _-_, _^_}
 use native.Mathlib.Omega.{arith}
 use native.Mathlib.Nat.{pow-suc, pow-le-pow-right, lt-of-lt-of-le}
 use native.Mathlib.Numerals.{add-one}
 use lib.ListN.{length, drop, getD}
 use lib.Dec.{lit<}
 use borrow.Author.Needs.{needs}
-use Rattle.sheet.specs.Bytes.{kindOf, digit}
 use Rattle.sheet.specs.Decimal.{digitsFrom}
 use Rattle.sheet.specs.Laws.Decimal.{digit-byte}
-use Rattle.sheet.proofs.Digits.{digits-more, digits-stop, digits-end}
+use Rattle.sheet.proofs.Digits.{reads-on, reads-stop, reads-end}
 use Rattle.sheet.proofs.lines.decimal.Statement.{statement}
 use Rattle.sheet.proofs.lines.decimal.Tie as tie
-use Rattle.sheet.proofs.lines.decimal.Reads as reads
-use Rattle.sheet.proofs.lines.decimal.Lts as lts
-use Rattle.sheet.proofs.bytes.kind_of.Reads as kind-of-reads
 
 abbrev Inv-loop : tie.InvT-loop
 Inv-loop f value₀ i₀ value i = (i ≤ length f) × (value < 10 ^ i) × (digitsFrom value (drop i f) ≡ digitsFrom 0 f)
@@ -36,10 +33,13 @@ kind-of-requires c κs = search needs
 returns : tie.Need-returns Inv-loop μ-loop
 returns c =
     let h = c .before .before .before .before in
-    sym (digits-stop _ _ _ (c .before .before .before .loop-test .taken) (λ e. c .if1 .taken (c .before .kind-of .ensures ∙ e))) ∙ h .loop .inv .2
+    sym (reads-stop _ _ _ (c .before .before .before .loop-test .taken) (λ e. c .if1 .taken (c .before .kind-of .ensures ∙ e))) ∙ h .loop .inv .2
 
 -- where a digit was found: its range, and that the value so far is small
-range : (c : tie.Else1 Inv-loop μ-loop) → let b = getD (c .before .before .before .before .before .before .args .f .now) (c .before .before .before .before .loop .i) 0 in (48 ≤ b) × (b ≤ 57)
+range : (c : tie.Else1 Inv-loop μ-loop) →
+    let h = c .before .before .before .before in
+    let b = getD (h .before .before .args .f .now) (h .loop .i) 0 in
+    (48 ≤ b) × (b ≤ 57)
 range c = digit-byte _ (sym (c .before .kind-of .ensures) ∙ c .if1 .left)
 
 low : (c : tie.Else1 Inv-loop μ-loop) → c .before .before .before .before .loop .value < 10 ^ 8
@@ -65,13 +65,14 @@ loop-less c = omega arith
 
 loop-again : tie.Need-loop-again Inv-loop μ-loop
 loop-again c =
-    let h = c .before .before .before .before in
-    (omega arith,
-    rw (add-one, pow-suc) (omega (arith, range c)),
-    sym (digits-more _ _ _ (c .before .before .before .loop-test .taken) (sym (c .before .kind-of .ensures) ∙ c .if1 .left)) ∙ h .loop .inv .2)
+    let h = c .before .before .before .before in (
+      omega arith,
+      rw (add-one, pow-suc) (omega (arith, range c)),
+      sym (reads-on _ _ _ (c .before .before .before .loop-test .taken) (sym (c .before .kind-of .ensures) ∙ c .if1 .left)) ∙ h .loop .inv .2,
+    )
 
 returns-2 : tie.Need-returns-2 Inv-loop μ-loop
-returns-2 c = sym (digits-end _ _ _ (c .loop-test .left)) ∙ c .before .loop .inv .2
+returns-2 c = sym (reads-end _ _ _ (c .loop-test .left)) ∙ c .before .loop .inv .2
 
 pub decimal-spec : {M : Type 1} → statement M
 decimal-spec =

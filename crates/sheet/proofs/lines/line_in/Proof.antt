@@ -1,6 +1,6 @@
 -- `sheet::lines::line_in` meets its contract: the first field is the letter of a kind, and the fields after it are that kind's numbers.
 -- Assumes nothing.
-use mathlib.Core.Path.{_≡_, refl, sym, _∙_, ap}
+use mathlib.Core.Path.{_≡_, sym, _∙_}
 use native.Mathlib.Omega.{arith}
 use native.Mathlib.Nat.{zero-add}
 use Prim.Native.Nat.{_<_}
@@ -12,13 +12,6 @@ use Rattle.sheet.proofs.LineLaws.{line-first, line-unknown, line-yes, l
 use borrow.Author.Needs.{needs}
 use Rattle.sheet.proofs.lines.line_in.Statement.{statement}
 use Rattle.sheet.proofs.lines.line_in.Tie as tie
-use Rattle.sheet.proofs.lines.line_in.Reads as reads
-use Rattle.sheet.proofs.lines.line_in.Lts as lts
-use Rattle.sheet.proofs.bytes.until.Reads as until-reads
-use Rattle.sheet.proofs.kinds.width_of.Reads as width-of-reads
-use Rattle.sheet.proofs.kinds.with_letter.Reads as with-letter-reads
-use Rattle.sheet.proofs.lines.bad_line.Reads as bad-line-reads
-use Rattle.sheet.proofs.lines.numbers_in.Reads as numbers-in-reads
 
 until-requires : tie.Need-until-requires
 until-requires c κs = search needs
@@ -27,9 +20,10 @@ bad-line-requires : tie.Need-bad-line-requires
 bad-line-requires c κs = search needs
 
 returns : tie.Need-returns
-returns c =
-    (c .bad-line .ensures .0 ∙ sym (line-first _ (λ e. c .before .if1 .taken (c .before .before .until .ensures ∙ zero-add _ ∙ e))),
-    c .bad-line .ensures .1)
+returns c = (
+  c .bad-line .ensures .0 ∙ sym (line-first _ (λ e. c .before .if1 .taken (c .before .before .until .ensures ∙ zero-add _ ∙ e))),
+  c .bad-line .ensures .1,
+)
 
 -- the first field is one byte
 one : (c : tie.Else1) → spanOf comma (c .before .before .before .args .l .now) ≡ 1
@@ -46,9 +40,10 @@ bad-line-requires-2 c κs = search needs
 
 returns-2 : tie.Need-returns-2
 returns-2 c =
-    let k = c .before .before .with-letter in
-    (c .bad-line2 .ensures .0 ∙ sym (line-unknown _ (k .result) (one (c .before .before .before .before)) (k .ensures .0) (omega arith)),
-    c .bad-line2 .ensures .1)
+    let k = c .before .before .with-letter in (
+      c .bad-line2 .ensures .0 ∙ sym (line-unknown _ (k .result) (one (c .before .before .before .before)) (k .ensures .0) (omega arith)),
+      c .bad-line2 .ensures .1,
+    )
 
 width-of-requires : tie.Need-width-of-requires
 width-of-requires c κs = omega arith
@@ -60,9 +55,11 @@ returns-3 : tie.Need-returns-3
 returns-3 c =
     let x = c .before .before in
     let k = x .before .before .before .with-letter in
-    let h : k .result < 3 = omega arith in
-    (line-yes _ (k .result) (one (x .before .before .before .before .before)) (k .ensures .0) _ _ _ h (x .before .width-of .ensures) (x .numbers-in .ensures) (c .before .if3 .taken),
-    h)
+    let h : k .result < 3 = omega arith in (
+      line-yes _ (k .result) (one (x .before .before .before .before .before)) (k .ensures .0) _ _ _ h
+          (x .before .width-of .ensures) (x .numbers-in .ensures) (c .before .if3 .taken),
+      h,
+    )
 
 bad-line-requires-3 : tie.Need-bad-line-requires-3
 bad-line-requires-3 c κs = search needs
@@ -71,10 +68,13 @@ returns-4 : tie.Need-returns-4
 returns-4 c =
     let x = c .before .before in
     let k = x .before .before .before .with-letter in
-    let h : k .result < 3 = omega arith in
-    (c .bad-line3 .ensures .0
-    ∙ sym (line-no _ (k .result) (one (x .before .before .before .before .before)) (k .ensures .0) (x .numbers-in .result .values) (x .before .width-of .result) (x .numbers-in .result .ok) h (x .before .width-of .ensures) (x .numbers-in .ensures) (c .before .if3 .left)),
-    c .bad-line3 .ensures .1)
+    let h : k .result < 3 = omega arith in (
+      c .bad-line3 .ensures .0
+          ∙ sym (line-no _ (k .result) (one (x .before .before .before .before .before)) (k .ensures .0)
+          (x .numbers-in .result .values) (x .before .width-of .result) (x .numbers-in .result .ok) h
+          (x .before .width-of .ensures) (x .numbers-in .ensures) (c .before .if3 .left)),
+      c .bad-line3 .ensures .1,
+    )
 
 pub line-in-spec : {M : Type 1} → statement M
 line-in-spec =

@@ -1,15 +1,11 @@
 -- `sheet::lines::number_in` meets its contract: each test of the definition, in its order.
 -- Assumes nothing.
-use mathlib.Core.Path.{_≡_, refl, sym, _∙_}
 use mathlib.Core.Logic.{⊎-elim}
 use borrow.Author.Tests.{eq-eqb, ne-eqb, lt-ltb, le-ltb}
 use Rattle.sheet.specs.Decimal.{numberOf}
 use borrow.Author.Needs.{needs}
 use Rattle.sheet.proofs.lines.number_in.Statement.{statement}
 use Rattle.sheet.proofs.lines.number_in.Tie as tie
-use Rattle.sheet.proofs.lines.number_in.Reads as reads
-use Rattle.sheet.proofs.lines.number_in.Lts as lts
-use Rattle.sheet.proofs.lines.decimal.Reads as decimal-reads
 
 returns : tie.Need-returns
 unfolding numberOf
@@ -26,11 +22,12 @@ returns-3 : tie.Need-returns-3
 unfolding numberOf
 returns-3 c =
     let h = c .before .before in
-    simp
-    (ne-eqb _ _ (h .before .before .if1 .left),
-    le-ltb _ _ (h .before .if2 .left),
-    lt-ltb _ _ (h .if3 .taken),
-    eq-eqb _ _ (c .if4 .taken))
+    simp (
+      ne-eqb _ _ (h .before .before .if1 .left),
+      le-ltb _ _ (h .before .if2 .left),
+      lt-ltb _ _ (h .if3 .taken),
+      eq-eqb _ _ (c .if4 .taken),
+    )
 
 decimal-requires : tie.Need-decimal-requires
 decimal-requires c κs = search needs
