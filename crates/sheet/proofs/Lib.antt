@@ -1,1 +1,3 @@
 pub mod Three
+pub mod Written
+pub mod PutText

@@ -1,3 +1,9 @@
+-- `sheet::text::digits_in` meets its contract: by recursion on the count of digits that are left.
+-- Assumes nothing.
+use native.Mathlib.Omega.{arith}
+use mathlib.Core.Path.{ap}
+use lib.ListN.{length}
+use Rattle.sheet.proofs.Written.{digits-none, digits-small, digits-big-length}
 use Prim.Native.Nat.{ℕ, _<_}
 use borrow.Fn.Kinds.{In}
 use borrow.Fn.PlainCycle.{Measures, is, falls, and}
@@ -8,7 +14,7 @@ use Rattle.sheet.proofs.text.+digits_in.{statement}
 use Rattle.sheet.proofs.text.+digits_in.Tie.{close}
 
 abbrev μ-digits-in : Measures 0 digits-in-kinds.ps ℕ
-μ-digits-in κs a = ?
+μ-digits-in κs a = a .1 .0
 
 abbrev digits-in-at : ℕ → In 0 digits-in-kinds.ps
 digits-in-at t = and 0 digits-in-kinds.ps (is 0 digits-in-kinds.ps μ-digits-in t) digits-in.Pre
@@ -17,13 +23,11 @@ abbrev digits-in-below : ℕ → In 0 digits-in-kinds.ps
 digits-in-below t =
     and 0 digits-in-kinds.ps (falls 0 digits-in-kinds.ps _<_ μ-digits-in t) digits-in.Pre
 
--- src/text.rt:37:9
 digits-in-returns :
     (t : ℕ) →
     digits-in-lts.Need-returns (digits-in-below t, digits-in.Post) (digits-in-at t) digits-in.Post
-digits-in-returns t c = ?
+digits-in-returns t c = omega (arith, ap length (digits-none (c .before .args .most) (c .before .args .n) (c .if1 .taken)))
 
--- src/text.rt:40:9
 digits-in-returns-2 :
     (t : ℕ) →
     digits-in-lts.Need-returns-2
@@ -32,21 +36,18 @@ digits-in-returns-2 :
     digits-in.Post
 digits-in-returns-2 t c = ?
 
--- src/text.rt:42:23
 digits-in-sub-digits-in : (t : ℕ) → digits-in-lts.Need-sub-digits-in (
   digits-in-below t,
   digits-in.Post,
 ) (digits-in-at t) digits-in.Post
 digits-in-sub-digits-in t c = ?
 
--- src/text.rt:42:5
 digits-in-digits-in-requires : (t : ℕ) → digits-in-lts.Need-digits-in-requires (
   digits-in-below t,
   digits-in.Post,
 ) (digits-in-at t) digits-in.Post
 digits-in-digits-in-requires t c κs = ?
 
--- src/text.rt:42:5
 digits-in-add-result :
     (t : ℕ) →
     digits-in-lts.Need-add-result
@@ -55,7 +56,6 @@ digits-in-add-result :
     digits-in.Post
 digits-in-add-result t c = ?
 
--- src/text.rt:33:1
 digits-in-returns-3 :
     (t : ℕ) →
     digits-in-lts.Need-returns-3
