@@ -26,7 +26,7 @@ digits-in-below t =
 digits-in-returns :
     (t : ℕ) →
     digits-in-lts.Need-returns (digits-in-below t, digits-in.Post) (digits-in-at t) digits-in.Post
-digits-in-returns t c = omega (arith, ap length (digits-none (c .before .args .most) (c .before .args .n) (c .if1 .taken)))
+digits-in-returns t c = let e = ap length (digits-none (c .before .args .most) (c .before .args .n) (c .if1 .taken)) in (omega arith, omega arith)
 
 digits-in-returns-2 :
     (t : ℕ) →
@@ -34,19 +34,19 @@ digits-in-returns-2 :
     (digits-in-below t, digits-in.Post)
     (digits-in-at t)
     digits-in.Post
-digits-in-returns-2 t c = ?
+digits-in-returns-2 t c = let e = ap length (digits-small (c .before .before .args .most) (c .before .before .args .n) (c .before .if1 .left) (c .if2 .taken)) in (omega arith, omega arith)
 
 digits-in-sub-digits-in : (t : ℕ) → digits-in-lts.Need-sub-digits-in (
   digits-in-below t,
   digits-in.Post,
 ) (digits-in-at t) digits-in.Post
-digits-in-sub-digits-in t c = ?
+digits-in-sub-digits-in t c = omega arith
 
 digits-in-digits-in-requires : (t : ℕ) → digits-in-lts.Need-digits-in-requires (
   digits-in-below t,
   digits-in.Post,
 ) (digits-in-at t) digits-in.Post
-digits-in-digits-in-requires t c κs = ?
+digits-in-digits-in-requires t c κs = omega arith
 
 digits-in-add-result :
     (t : ℕ) →
@@ -54,7 +54,7 @@ digits-in-add-result :
     (digits-in-below t, digits-in.Post)
     (digits-in-at t)
     digits-in.Post
-digits-in-add-result t c = ?
+digits-in-add-result t c = omega arith
 
 digits-in-returns-3 :
     (t : ℕ) →
@@ -62,7 +62,10 @@ digits-in-returns-3 :
     (digits-in-below t, digits-in.Post)
     (digits-in-at t)
     digits-in.Post
-digits-in-returns-3 t c = ?
+digits-in-returns-3 t c =
+    let a = c .before .before .before in
+    let e = digits-big-length (a .args .most) (a .args .n) (c .before .before .if1 .left) (c .before .if2 .left) in
+    (omega arith, omega arith)
 
 pub +digits-in-spec : {M : Type 1} → statement M
 +digits-in-spec =
