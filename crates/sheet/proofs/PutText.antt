@@ -9,11 +9,13 @@ use native.Mathlib.Numerals.{add-one}
 use lib.ListN.{length, take, drop, getD, set, length-append, length-drop}
 use lib.Seq.{sets, take-suc, take-add, getD-drop, drop-drop}
 use Rattle.sheet.specs.Lists.{bind, rows}
+use Rattle.sheet.specs.Decimal.{digitsOf, most}
 use Rattle.sheet.specs.Kinds.{Kind}
 use Rattle.sheet.specs.Lines.{Line, line}
 use Rattle.sheet.specs.Text.{numberText, lineText}
 use Rattle.sheet.specs.Calls.{width}
 use Rattle.sheet.specs.Inner.{kindAt, groupText}
+use Rattle.sheet.proofs.Three.{three}
 use Rattle.sheet.proofs.Written.{sets-append}
 
 -- the text of numbers, each with its comma
@@ -81,3 +83,35 @@ module _ (k n i : ℕ) (g : List ℕ) (from : ℕ) where
   left-length h =
       ap length (left-more h)
       ∙ length-append (lineText (line (kindAt k) (take (width (kindAt k)) (drop from g)))) (groupText k (n - (i + 1)) (drop (from + width (kindAt k)) g))
+
+-- what a group's text is long: a letter and a line feed for each line, and the text of its numbers
+pub group-length : (k n : ℕ) (g : List ℕ) → length (groupText k n g) ≡ 2 * n + length (numbersText (take (n * width (kindAt k)) g))
+unfolding groupText
+group-length k zero g = rw zero-mul
+group-length k (suc n) g =
+    let w = width (kindAt k) in
+    let t = line (kindAt k) (take w g) in
+    let a = length-append (lineText t) (groupText k n (drop w g)) in
+    let b = line-length (kindAt k) (take w g) in
+    let r = group-length k n (drop w g) in
+    let e : suc n * w ≡ w + n * w = omega (arith, suc-mul n w) in
+    let s : numbersText (take (suc n * w) g) ≡ numbersText (take w g) ++ numbersText (take (n * w) (drop w g)) =
+        ap (λ (m : ℕ). numbersText (take m g)) e ∙ ap numbersText (take-add w (n * w) g) ∙ bind-append numberText (take w g) (take (n * w) (drop w g)) in
+    omega (arith, simp length-append at (ap length s))
+
+-- one number more of a group: a comma and its digits
+number-length : (n : ℕ) → length (numberText n) ≡ suc (length (digitsOf most n))
+unfolding numberText
+number-length n = refl
+
+pub number-more-length : (g : List ℕ) (i : ℕ) → i < length g
+    → length (numbersText (take (i + 1) g)) ≡ length (numbersText (take i g)) + (1 + length (digitsOf most (getD g i 0)))
+number-more-length g i h =
+    let z : 0 + i ≡ i = omega arith in
+    let e = numbers-more-length g 0 i (omega arith) in
+    let d : length (numbersText (take (i + 1) g)) ≡ length (numbersText (take i g)) + length (numberText (getD g i 0)) = rw z at e in
+    omega (arith, number-length (getD g i 0))
+
+-- a group of at most 256 lines has at most 1,792 numbers
+pub few-numbers : (k n : ℕ) → k < 3 → n ≤ 256 → n * width (kindAt k) ≤ 1792
+few-numbers k n h l = three (λ (j : ℕ). n * width (kindAt j) ≤ 1792) (omega arith) (omega arith) (omega arith) k h

@@ -6,9 +6,10 @@ use Prim.Native.Nat.{ℕ, zero, suc, _+_, _-_, _/_, _%_, _≤_, _<_}
 use native.Mathlib.Omega.{arith}
 use native.Mathlib.Nat.{add-zero, add-suc, suc-add}
 use native.Mathlib.Numerals.{add-one, sub-one}
-use lib.ListN.{length, set, take, getD, length-append}
-use lib.Seq.{sets, take-suc, length-take-le}
+use lib.ListN.{length, set, take, getD, replicate, length-append}
+use lib.Seq.{sets, set-at, append-snoc, take-suc, length-take-le}
 use borrow.Author.Tests.{lt-ltb, le-ltb}
+use Rattle.sheet.specs.Lists.{filled}
 use Rattle.sheet.specs.Decimal.{digitsOf}
 
 pub digits-none : (k n : ℕ) → k ≡ 0 → digitsOf k n ≡ []
@@ -44,3 +45,14 @@ sets-more g v at i h =
     let n : i ≤ length v = omega arith in
     let e : length (take i v) ≡ i = length-take-le i v n in
     rw (add-one, take-suc v i 0 h, sets-append, e)
+
+-- one number more of an array that is filled up with zeros
+pub filled-more : (n i : ℕ) (l : List ℕ) → i < n → i < length l → set (filled n (take i l)) i (getD l i 0) ≡ filled n (take (i + 1) l)
+filled-more n i l p q =
+    let e : length (take i l) ≡ i = length-take-le i l (omega arith) in
+    let f : n - length (take i l) ≡ suc (n - (i + 1)) = omega arith in
+    let m : length (take i l ++ (getD l i 0 ∷ [])) ≡ i + 1 = length-append (take i l) (getD l i 0 ∷ []) ∙ omega arith in
+    let x : n - length (take i l ++ (getD l i 0 ∷ [])) ≡ n - (i + 1) = ap (λ (j : ℕ). n - j) m in
+    let y : take (i + 1) l ≡ take i l ++ (getD l i 0 ∷ []) = rw add-one (take-suc l i 0 q) in
+    rw (f, set-at (take i l) 0 (replicate (n - (i + 1)) 0) (getD l i 0) i e, y, x)
+    (sym (append-snoc (take i l) (getD l i 0) (replicate (n - (i + 1)) 0)))
