@@ -1,3 +1,4 @@
 pub mod Three
 pub mod Written
 pub mod PutText
+pub mod GroupJudged
