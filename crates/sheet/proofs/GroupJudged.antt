@@ -10,11 +10,12 @@ use native.Mathlib.Numerals.{add-one}
 use native.Mathlib.Nat.{suc-mul, zero-mul, sub-zero}
 use lib.Dec.{eqb}
 use lib.ListN.{length, take, drop, length-drop}
-use lib.Seq.{append-snoc, take-at, drop-drop, length-take-le}
+use lib.Seq.{append-snoc, take-all, take-at, drop-drop, length-take-le}
 use borrow.Author.Tests.{eq-eqb, ne-eqb}
-use Rattle.sheet.specs.Lists.{pick, filled, rows}
+use Rattle.sheet.specs.Lists.{filled, rows, keep, filter}
+use Rattle.sheet.specs.Kinds.{kindS}
 use Rattle.sheet.specs.Lines.{Line, line}
-use Rattle.sheet.specs.Sheet.{fault, Outcome, refused, judge}
+use Rattle.sheet.specs.Sheet.{isKind, fault, refused, judge}
 use Rattle.sheet.specs.Calls.{width}
 use Rattle.sheet.specs.Inner.{kindAt, lineAt, Tallied, FaultIs, Continues, JudgedGroup, refuses, passes, GroupIs, groupLines}
 use Rattle.sheet.specs.declared.judge.Tally.{Tally}
@@ -127,3 +128,23 @@ module _ (k : ℕ) (g : List ℕ) where
       let d : i * w + w ≡ (i + 1) * w = omega (arith, suc-mul i w, ap (λ (j : ℕ). j * w) (add-one i)) in
       rw (e, drop-drop, d)
       (ap (λ (r : List ℕ). line (kindAt k) r ∷ groupLeft (i + 1)) (sym (take-at (take w (drop (i * w) g)) _ w (length-take-le w (drop (i * w) g) there))))
+
+-- the S line as a group of one line
+pub head-lines : (h : List ℕ) → length h ≡ 7 → groupLines 0 h ≡ line kindS h ∷ []
+head-lines h e = rw (e, take-all 7 h (omega arith))
+
+-- what a tally counts
+filter-length : {A : Type 0} (p : A → Bool) (l : List A) → length (filter p l) ≤ length l
+filter-length p [] = omega arith
+filter-length p (x ∷ l) = go (p x) (filter-length p l)
+  where
+    go : (b : Bool) → length (filter p l) ≤ length l → length (keep b x (filter p l)) ≤ suc (length l)
+    go true h = omega arith
+    go false h = omega arith
+
+pub judged-tally : (before ls : List Line) (v : Verdict) → JudgedGroup before ls v → v .refusal ≡ 0 → Tallied (before ++ ls) (v .tally)
+judged-tally before ls v (refuses z f) e = absurd (z e)
+judged-tally before ls v (passes z f s) e = s
+
+pub tally-counts : (before : List Line) (t : Tally) → Tallied before t → (t .kind < 3) × (t .lines ≡ length before) × (t .count ≤ length before)
+tally-counts before t s = (s .known, s .counted, omega (arith, s .of-kind, filter-length (isKind (kindAt (t .kind))) before))
