@@ -2,3 +2,13 @@ pub mod Three
 pub mod Written
 pub mod PutText
 pub mod GroupJudged
+pub mod Table
+pub mod Digits
+pub mod Parts
+pub mod Fields
+pub mod LineLaws
+pub mod KindFacts
+pub mod Passing
+pub mod Tallies
+pub mod Stores
+pub mod WrittenSheet

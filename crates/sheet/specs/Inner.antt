@@ -13,6 +13,7 @@ use Rattle.sheet.specs.Lines.{Line, line}
 use Rattle.sheet.specs.Sheet.{isKind, group, placesIn, latest, fault, Outcome, refused, judge}
 use Rattle.sheet.specs.Text.{lineText}
 use Rattle.sheet.specs.Calls.{width, WriteEnd}
+use Rattle.sheet.specs.Laws.Shape.{AllShaped}
 use Rattle.sheet.specs.declared.lines.Number.{Number}
 use Rattle.sheet.specs.declared.lines.Number.the-variants.{Value, Bad}
 use Rattle.sheet.specs.declared.lines.Numbers.{Numbers}
@@ -82,8 +83,9 @@ pub record FaultIs (t : Tally) (l : Line) (n : ℕ) : Type 0 where
 pub record Continues (t : Tally) (l : Line) (r : Tally) : Type 0 where
   pub of : (before : List Line) → Tallied before t → fault before l ≡ 0 → Tallied (before ++ (l ∷ [])) r
 
--- the groups in the reader's arrays: the numbers of the lines of each kind, zeros past them, and the count of lines of each
+-- the groups in the reader's arrays: the numbers of the lines of each kind, zeros past them, and the count of lines of each; the lines are in shape
 pub record Stored (before : List Line) (head corridors occupancies lines : List ℕ) : Type 0 where
+  pub shaped : AllShaped before
   pub of-s : head ≡ filled 7 (flat (group kindS before))
   pub of-c : corridors ≡ filled 1280 (flat (group kindC before))
   pub of-o : occupancies ≡ filled 768 (flat (group kindO before))

@@ -4,7 +4,7 @@ ghost use mathlib.Core.Bool.{not, _&&_, _||_};
 ghost use mathlib.Core.List.{[]};
 ghost use Prim.Native.Nat.{ℕ, _+_, _≤_, _<_};
 ghost use lib.Dec.{ltb, eqb};
-ghost use lib.ListN.{take};
+ghost use lib.ListN.{getD, take};
 ghost use Rattle.sheet.specs.Lists.{pick, lexb};
 ghost use Rattle.sheet.specs.Sheet.{beyond, outside, unpaired};
 ghost use Rattle.sheet.specs.Calls.{width};
@@ -124,6 +124,17 @@ fn is_not_above(t: Tally, kind: usize, values: [u32; 8]) -> bool
     !is_before(before, values, key_of(kind))
 }
 
+// The places of the sheet: those of the first line, which is this one where there is no line before.
+fn places_with(t: Tally, values: [u32; 8]) -> u32
+    ensures { λ r. ⌜ r ≡ pick (eqb (t .lines) 0) (getD values 0 0) (t .places) ⌝ }
+{
+    let n = t.lines;
+    if n == 0 {
+        return values[0];
+    }
+    t.places
+}
+
 // The fault of a line after the lines that t tallies: the number of the first test that it fails, 0 for none.
 pub fn fault_of(t: Tally, kind: usize, values: [u32; 8]) -> u32
     requires { ⌜ (kind < 3) × (t .kind < 3) ⌝ }
@@ -135,11 +146,7 @@ pub fn fault_of(t: Tally, kind: usize, values: [u32; 8]) -> u32
     if most_of(kind) <= count_of(t, kind) {
         return 7;
     }
-    let mut places = t.places;
-    if t.lines == 0 {
-        places = values[0];
-    }
-    if is_outside(places, kind, values) {
+    if is_outside(places_with(t, values), kind, values) {
         return 4;
     }
     if is_unpaired(kind, values) {
@@ -157,10 +164,7 @@ pub fn with_line(t: Tally, kind: usize, values: [u32; 8]) -> Tally
     ensures { λ r. ⌜ (Continues t (lineAt kind values) r) × (r .kind ≡ kind) × (r .lines ≡ t .lines + 1) × (r .count ≤ t .count + 1) ⌝ }
 {
     let count = count_of(t, kind) + 1;
-    let mut places = t.places;
-    if t.lines == 0 {
-        places = values[0];
-    }
+    let places = places_with(t, values);
     Tally { lines: t.lines + 1, places, kind, count, values }
 }
 

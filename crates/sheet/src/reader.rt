@@ -44,17 +44,18 @@ fn store_line(head: &mut [u32], corridors: &mut [u32], occupancies: &mut [u32], 
     ensures { λ r. ⌜ Stores (lineAt kind v) (now (head .entry)) (now (corridors .entry)) (now (occupancies .entry)) (now (lines .entry)) (now (head .exit)) (now (corridors .exit)) (now (occupancies .exit)) (now (lines .exit)) ⌝ }
 {
     let w = width_of(kind);
-    let n = lines[kind] as usize;
+    let n = lines[kind];
+    let at = n as usize * w;
+    lines[kind] = n + 1;
     if kind == 0 {
-        store(head, n * w, v, w);
-    } else {
-        if kind == 1 {
-            store(corridors, n * w, v, w);
-        } else {
-            store(occupancies, n * w, v, w);
-        }
+        store(head, at, v, w);
+        return;
     }
-    lines[kind] += 1;
+    if kind == 1 {
+        store(corridors, at, v, w);
+        return;
+    }
+    store(occupancies, at, v, w);
 }
 
 // Reads a sheet: its groups, or one numbered refusal with the line at fault. No byte is looked at more than a fixed number of times.

@@ -1,3 +1,12 @@
+-- `sheet::bytes::until` meets its contract. Invariant: the place sought is as many bytes on from i as stand before it there.
+-- Assumes nothing.
+use mathlib.Core.Path.{_≡_, refl, sym, _∙_, ap}
+use Prim.Native.Nat.{_≤_, _<_, _-_, _+_}
+use native.Mathlib.Omega.{arith}
+use lib.ListN.{length, drop, getD}
+use borrow.Author.Needs.{needs}
+use Rattle.sheet.specs.Inner.{spanOf}
+use Rattle.sheet.proofs.Parts.{span-stop, span-more, span-end}
 use Rattle.sheet.proofs.bytes.until.Statement.{statement}
 use Rattle.sheet.proofs.bytes.until.Tie as tie
 use Rattle.sheet.proofs.bytes.until.Reads as reads
@@ -5,42 +14,34 @@ use Rattle.sheet.proofs.bytes.until.Lts as lts
 use Rattle.sheet.proofs.bytes.kind_of.Reads as kind-of-reads
 
 abbrev Inv-loop : tie.InvT-loop
-Inv-loop s at k i₀ i = ?
+Inv-loop s at k i₀ i = (i ≤ length s) × (i + spanOf k (drop i s) ≡ at + spanOf k (drop at s))
 
 abbrev μ-loop : tie.MeasureT-loop
-μ-loop s at k i₀ i = ?
+μ-loop s at k i₀ i = length s - i
 
--- src/bytes.rt:44:5
 loop-holds : tie.Need-loop-holds Inv-loop μ-loop
-loop-holds c = ?
+loop-holds c = (c .before .pre, refl)
 
--- src/bytes.rt:45:20
 shared-slice-read-kind-of : tie.Need-shared-slice-read-kind-of Inv-loop μ-loop
-shared-slice-read-kind-of c = ?
+shared-slice-read-kind-of c = omega arith
 
--- src/bytes.rt:45:12
 kind-of-requires : tie.Need-kind-of-requires Inv-loop μ-loop
-kind-of-requires c κs = ?
+kind-of-requires c κs = search needs
 
--- src/bytes.rt:46:13
 returns : tie.Need-returns Inv-loop μ-loop
-returns c = ?
+returns c = omega (arith, span-stop (c .before .before .before .before .before .before .args .s .now) (c .before .before .before .before .loop .i) (c .before .before .before .before .before .before .args .k) (c .before .before .before .loop-test .taken) (sym (c .before .kind-of .ensures) ∙ c .if1 .taken))
 
--- src/bytes.rt:48:9
 add-i : tie.Need-add-i Inv-loop μ-loop
-add-i c = ?
+add-i c = omega arith
 
--- src/bytes.rt:44:5
 loop-less : tie.Need-loop-less Inv-loop μ-loop
-loop-less c = ?
+loop-less c = omega arith
 
--- src/bytes.rt:44:5
 loop-again : tie.Need-loop-again Inv-loop μ-loop
-loop-again c = ?
+loop-again c = omega (arith, span-more (c .before .before .before .before .before .before .args .s .now) (c .before .before .before .before .loop .i) (c .before .before .before .before .before .before .args .k) (c .before .before .before .loop-test .taken) (λ e. c .if1 .left (c .before .kind-of .ensures ∙ e)))
 
--- src/bytes.rt:39:1
 returns-2 : tie.Need-returns-2 Inv-loop μ-loop
-returns-2 c = ?
+returns-2 c = omega (arith, span-end (c .before .before .before .args .s .now) (c .before .loop .i) (c .before .before .before .args .k) (c .loop-test .left))
 
 pub until-spec : {M : Type 1} → statement M
 until-spec =

@@ -1,73 +1,83 @@
+-- `sheet::judge::is_before` meets its contract. The loop's invariant: the first i numbers of both are the same, so the order of what is left is
+-- the order of the whole. The measure is what is left of n. Assumes nothing.
+use mathlib.Core.Path.{_≡_, refl, sym, _∙_}
+use Prim.Native.Nat.{_-_, _≤_}
+use native.Mathlib.Omega.{arith}
+use lib.ListN.{length, take}
+use borrow.Author.Needs.{needs}
+use Rattle.sheet.specs.Lists.{lexb}
+use Rattle.sheet.proofs.Passing.{lexFrom, lex-below, lex-above, lex-same, lex-none}
 use Rattle.sheet.proofs.judge.is_before.Statement.{statement}
 use Rattle.sheet.proofs.judge.is_before.Tie as tie
 use Rattle.sheet.proofs.judge.is_before.Reads as reads
 use Rattle.sheet.proofs.judge.is_before.Lts as lts
 
 abbrev Inv-loop : tie.InvT-loop
-Inv-loop n a b i₀ i = ?
+Inv-loop n a b i₀ i = (i ≤ n) × (length a ≡ 8) × (length b ≡ 8) × (lexFrom n a b i ≡ lexb (take n a) (take n b))
 
 abbrev μ-loop : tie.MeasureT-loop
-μ-loop n a b i₀ i = ?
+μ-loop n a b i₀ i = n - i
 
--- src/judge.rt:77:5
 loop-holds : tie.Need-loop-holds Inv-loop μ-loop
-loop-holds c = ?
+loop-holds c = (omega arith, search needs, search needs, refl)
 
--- src/judge.rt:78:12
 mul-if1 : tie.Need-mul-if1 Inv-loop μ-loop
-mul-if1 c = ?
+mul-if1 c = omega arith
 
--- src/judge.rt:78:12
 array-read-if1 : tie.Need-array-read-if1 Inv-loop μ-loop
-array-read-if1 c = ?
+array-read-if1 c = omega arith
 
--- src/judge.rt:78:19
 mul-if1-2 : tie.Need-mul-if1-2 Inv-loop μ-loop
-mul-if1-2 c = ?
+mul-if1-2 c = omega arith
 
--- src/judge.rt:78:19
 array-read-if1-2 : tie.Need-array-read-if1-2 Inv-loop μ-loop
-array-read-if1-2 c = ?
+array-read-if1-2 c = omega arith
 
--- src/judge.rt:79:13
 returns : tie.Need-returns Inv-loop μ-loop
-returns c = ?
+returns c = 
+    let x = c .before in
+    let a = x .before .before .args in
+    sym (lex-below (a .n) (a .t1) (a .t2) (omega arith) (omega arith) (x .before .loop .i) (omega arith) (c .if1 .taken)) ∙ x .before .loop .inv .3
 
--- src/judge.rt:81:12
 mul-if2 : tie.Need-mul-if2 Inv-loop μ-loop
-mul-if2 c = ?
+mul-if2 c = omega arith
 
--- src/judge.rt:81:12
 array-read-if2 : tie.Need-array-read-if2 Inv-loop μ-loop
-array-read-if2 c = ?
+array-read-if2 c = omega arith
 
--- src/judge.rt:81:19
 mul-if2-2 : tie.Need-mul-if2-2 Inv-loop μ-loop
-mul-if2-2 c = ?
+mul-if2-2 c = omega arith
 
--- src/judge.rt:81:19
 array-read-if2-2 : tie.Need-array-read-if2-2 Inv-loop μ-loop
-array-read-if2-2 c = ?
+array-read-if2-2 c = omega arith
 
--- src/judge.rt:82:13
 returns-2 : tie.Need-returns-2 Inv-loop μ-loop
-returns-2 c = ?
+returns-2 c = 
+    let x = c .before .before in
+    let a = x .before .before .args in
+    sym (lex-above (a .n) (a .t1) (a .t2) (omega arith) (omega arith) (x .before .loop .i) (omega arith) (c .if2 .taken)) ∙ x .before .loop .inv .3
 
--- src/judge.rt:84:9
 add-i : tie.Need-add-i Inv-loop μ-loop
-add-i c = ?
+add-i c = omega arith
 
--- src/judge.rt:77:5
 loop-less : tie.Need-loop-less Inv-loop μ-loop
-loop-less c = ?
+loop-less c = omega arith
 
--- src/judge.rt:77:5
 loop-again : tie.Need-loop-again Inv-loop μ-loop
-loop-again c = ?
+loop-again c = 
+    let x = c .before .before in
+    let a = x .before .before .args in (
+      omega arith,
+      x .before .loop .inv .1,
+      x .before .loop .inv .2,
+      sym (lex-same (a .n) (a .t1) (a .t2) (omega arith) (omega arith) (x .before .loop .i) (omega arith) (c .before .if1 .left) (c .if2 .left)) ∙ x .before .loop .inv .3,
+    )
 
--- src/judge.rt:72:1
 returns-3 : tie.Need-returns-3 Inv-loop μ-loop
-returns-3 c = ?
+returns-3 c = 
+    let x = c .before in
+    let a = x .before .args in
+    sym (lex-none (a .n) (a .t1) (a .t2) (omega arith) (omega arith) (x .loop .i) (omega arith)) ∙ x .loop .inv .3
 
 pub is-before-spec : {M : Type 1} → statement M
 is-before-spec =

@@ -1,36 +1,41 @@
+-- `sheet::judge::is_unpaired` meets its contract: the pair of each kind, read from the array instead of from the line's numbers.
+-- Assumes nothing.
+use mathlib.Core.Path.{_≡_, refl}
+use native.Mathlib.Omega.{arith}
+use lib.Dec.{lit<}
+use lib.Seq.{getD-take}
 use borrow.Author.Needs.{needs}
 use Rattle.sheet.proofs.judge.is_unpaired.Statement.{statement}
 use Rattle.sheet.proofs.judge.is_unpaired.Tie as tie
 use Rattle.sheet.proofs.judge.is_unpaired.Reads as reads
 use Rattle.sheet.proofs.judge.is_unpaired.Lts as lts
 
--- src/judge.rt:63:16
 array-read-result : tie.Need-array-read-result
 array-read-result c = search needs
 
--- src/judge.rt:63:29
 array-read-result-2 : tie.Need-array-read-result-2
 array-read-result-2 c = search needs
 
--- src/judge.rt:63:9
 returns : tie.Need-returns
-returns c = ?
+returns c = 
+    let v = c .before .args .t2 in
+    rw (c .if1 .taken) (simp (getD-take 5 v 0 0 (lit< tt), getD-take 5 v 1 0 (lit< tt)))
 
--- src/judge.rt:66:16
 array-read-result-3 : tie.Need-array-read-result-3
 array-read-result-3 c = search needs
 
--- src/judge.rt:66:28
 array-read-result-4 : tie.Need-array-read-result-4
 array-read-result-4 c = search needs
 
--- src/judge.rt:66:9
 returns-2 : tie.Need-returns-2
-returns-2 c = ?
+returns-2 c = 
+    let v = c .before .before .args .t2 in
+    rw (c .if2 .taken) (simp (getD-take 3 v 1 0 (lit< tt), getD-take 3 v 2 0 (lit< tt)))
 
--- src/judge.rt:58:1
 returns-3 : tie.Need-returns-3
-returns-3 c = ?
+returns-3 c = 
+    let e : c .before .before .args .kind ≡ 0 = omega arith in
+    rw e refl
 
 pub is-unpaired-spec : {M : Type 1} → statement M
 is-unpaired-spec =

@@ -1,39 +1,61 @@
+-- `sheet::kinds::with_letter` meets its contract. Invariant: the kinds from number k on have the same kind with the letter as all of them.
+-- Assumes nothing.
+use mathlib.Core.Path.{_≡_, refl, sym, _∙_}
+use mathlib.Core.List.{List, [], _∷_}
+use Prim.Native.Nat.{ℕ, _+_, _-_, _≤_, _<_}
+use native.Mathlib.Omega.{arith}
+use native.Mathlib.Numerals.{add-one}
+use lib.ListN.{getD, drop, drop-of-length-le}
+use borrow.Author.Needs.{needs}
+use borrow.Author.Tests.{eq-eqb, ne-eqb}
+use Rattle.sheet.specs.Kinds.{Kind, kinds}
+use Rattle.sheet.specs.Lines.{withLetter}
+use Rattle.sheet.specs.Inner.{kindAt, asKind}
+use Rattle.sheet.proofs.Three.{three}
 use Rattle.sheet.proofs.kinds.with_letter.Statement.{statement}
 use Rattle.sheet.proofs.kinds.with_letter.Tie as tie
 use Rattle.sheet.proofs.kinds.with_letter.Reads as reads
 use Rattle.sheet.proofs.kinds.with_letter.Lts as lts
 
+abbrev letters : List ℕ
+letters = 83 ∷ 67 ∷ 79 ∷ []
+
+-- the kind with number k has the letter
+found : (a k : ℕ) → k < 3 → getD letters k 0 ≡ a → withLetter a (drop k kinds) ≡ asKind k
+found a =
+    three (λ k. getD letters k 0 ≡ a → withLetter a (drop k kinds) ≡ asKind k)
+    (λ e. rw (eq-eqb 83 a e)) (λ e. rw (eq-eqb 67 a e)) (λ e. rw (eq-eqb 79 a e))
+
+-- it has another letter
+passed : (a k : ℕ) → k < 3 → (getD letters k 0 ≡ a → ⊥) → withLetter a (drop k kinds) ≡ withLetter a (drop (k + 1) kinds)
+passed a =
+    three (λ k. (getD letters k 0 ≡ a → ⊥) → withLetter a (drop k kinds) ≡ withLetter a (drop (k + 1) kinds))
+    (λ e. rw (ne-eqb 83 a e)) (λ e. rw (ne-eqb 67 a e)) (λ e. rw (ne-eqb 79 a e))
+
 abbrev Inv-loop : tie.InvT-loop
-Inv-loop c k₀ k = ?
+Inv-loop c k₀ k = (k ≤ 3) × (withLetter c (drop k kinds) ≡ withLetter c kinds)
 
 abbrev μ-loop : tie.MeasureT-loop
-μ-loop c k₀ k = ?
+μ-loop c k₀ k = 3 - k
 
--- src/kinds.rt:32:5
 loop-holds : tie.Need-loop-holds Inv-loop μ-loop
-loop-holds c = ?
+loop-holds c = (omega arith, refl)
 
--- src/kinds.rt:33:12
 array-read-if1 : tie.Need-array-read-if1 Inv-loop μ-loop
-array-read-if1 c = ?
+array-read-if1 c = omega arith
 
--- src/kinds.rt:34:13
 returns : tie.Need-returns Inv-loop μ-loop
 returns c = ?
 
--- src/kinds.rt:36:9
 add-k : tie.Need-add-k Inv-loop μ-loop
-add-k c = ?
+add-k c = omega arith
 
--- src/kinds.rt:32:5
 loop-less : tie.Need-loop-less Inv-loop μ-loop
-loop-less c = ?
+loop-less c = omega arith
 
--- src/kinds.rt:32:5
 loop-again : tie.Need-loop-again Inv-loop μ-loop
 loop-again c = ?
 
--- src/kinds.rt:28:1
 returns-2 : tie.Need-returns-2 Inv-loop μ-loop
 returns-2 c = ?
 

@@ -1,3 +1,17 @@
+-- `sheet::lines::decimal` meets its contract. Invariant: what is still to be read, from the value so far, is what the whole reads as.
+-- Assumes nothing.
+use mathlib.Core.Path.{_≡_, refl, sym, _∙_, ap}
+use Prim.Native.Nat.{_≤_, _<_, _-_, _^_, _+_}
+use native.Mathlib.Omega.{arith}
+use native.Mathlib.Nat.{pow-suc, pow-le-pow-right, lt-of-lt-of-le}
+use native.Mathlib.Numerals.{add-one}
+use lib.ListN.{length, drop, getD}
+use lib.Dec.{lit<}
+use borrow.Author.Needs.{needs}
+use Rattle.sheet.specs.Bytes.{kindOf, digit}
+use Rattle.sheet.specs.Decimal.{digitsFrom}
+use Rattle.sheet.specs.Laws.Decimal.{digit-byte}
+use Rattle.sheet.proofs.Digits.{digits-more, digits-stop, digits-end}
 use Rattle.sheet.proofs.lines.decimal.Statement.{statement}
 use Rattle.sheet.proofs.lines.decimal.Tie as tie
 use Rattle.sheet.proofs.lines.decimal.Reads as reads
@@ -5,58 +19,59 @@ use Rattle.sheet.proofs.lines.decimal.Lts as lts
 use Rattle.sheet.proofs.bytes.kind_of.Reads as kind-of-reads
 
 abbrev Inv-loop : tie.InvT-loop
-Inv-loop f value₀ i₀ value i = ?
+Inv-loop f value₀ i₀ value i = (i ≤ length f) × (value < 10 ^ i) × (digitsFrom value (drop i f) ≡ digitsFrom 0 f)
 
 abbrev μ-loop : tie.MeasureT-loop
-μ-loop f value₀ i₀ value i = ?
+μ-loop f value₀ i₀ value i = length f - i
 
--- src/lines.rt:26:5
 loop-holds : tie.Need-loop-holds Inv-loop μ-loop
-loop-holds c = ?
+loop-holds c = (omega arith, omega arith, refl)
 
--- src/lines.rt:27:17
 shared-slice-read-b : tie.Need-shared-slice-read-b Inv-loop μ-loop
-shared-slice-read-b c = ?
+shared-slice-read-b c = omega arith
 
--- src/lines.rt:28:12
 kind-of-requires : tie.Need-kind-of-requires Inv-loop μ-loop
-kind-of-requires c κs = ?
+kind-of-requires c κs = search needs
 
--- src/lines.rt:29:13
 returns : tie.Need-returns Inv-loop μ-loop
-returns c = ?
+returns c =
+    let h = c .before .before .before .before in
+    sym (digits-stop _ _ _ (c .before .before .before .loop-test .taken) (λ e. c .if1 .taken (c .before .kind-of .ensures ∙ e))) ∙ h .loop .inv .2
 
--- src/lines.rt:31:17
+-- where a digit was found: its range, and that the value so far is small
+range : (c : tie.Else1 Inv-loop μ-loop) → let b = getD (c .before .before .before .before .before .before .args .f .now) (c .before .before .before .before .loop .i) 0 in (48 ≤ b) × (b ≤ 57)
+range c = digit-byte _ (sym (c .before .kind-of .ensures) ∙ c .if1 .left)
+
+low : (c : tie.Else1 Inv-loop μ-loop) → c .before .before .before .before .loop .value < 10 ^ 8
+low c = lt-of-lt-of-le (c .before .before .before .before .loop .inv .1) (pow-le-pow-right (lit< tt) {j = 8} (omega (arith, c .before .before .before)))
+
 mul-value : tie.Need-mul-value Inv-loop μ-loop
-mul-value c = ?
+mul-value c = omega (arith, low c)
 
--- src/lines.rt:31:31
 cast-value : tie.Need-cast-value Inv-loop μ-loop
-cast-value c = ?
+cast-value c = omega (arith, range c)
 
--- src/lines.rt:31:31
 sub-value : tie.Need-sub-value Inv-loop μ-loop
-sub-value c = ?
+sub-value c = omega (arith, range c)
 
--- src/lines.rt:31:17
 add-value : tie.Need-add-value Inv-loop μ-loop
-add-value c = ?
+add-value c = omega (arith, range c, low c)
 
--- src/lines.rt:32:9
 add-i : tie.Need-add-i Inv-loop μ-loop
-add-i c = ?
+add-i c = omega arith
 
--- src/lines.rt:26:5
 loop-less : tie.Need-loop-less Inv-loop μ-loop
-loop-less c = ?
+loop-less c = omega arith
 
--- src/lines.rt:26:5
 loop-again : tie.Need-loop-again Inv-loop μ-loop
-loop-again c = ?
+loop-again c =
+    let h = c .before .before .before .before in
+    (omega arith,
+    rw (add-one, pow-suc) (omega (arith, range c)),
+    sym (digits-more _ _ _ (c .before .before .before .loop-test .taken) (sym (c .before .kind-of .ensures) ∙ c .if1 .left)) ∙ h .loop .inv .2)
 
--- src/lines.rt:20:1
 returns-2 : tie.Need-returns-2 Inv-loop μ-loop
-returns-2 c = ?
+returns-2 c = sym (digits-end _ _ _ (c .loop-test .left)) ∙ c .before .loop .inv .2
 
 pub decimal-spec : {M : Type 1} → statement M
 decimal-spec =

@@ -1,57 +1,65 @@
+-- `sheet::reader::store` meets its contract. The loop's invariant: the first i numbers are written. The measure is what is left of w.
+-- Assumes nothing.
+use mathlib.Core.Path.{_≡_, refl, _∙_, ap}
+use Prim.Native.Nat.{ℕ, _-_, _≤_, _<_}
+use native.Mathlib.Omega.{arith}
+use lib.ListN.{length, take}
+use lib.Seq.{sets, length-sets}
+use borrow.Author.Needs.{needs}
+use Rattle.sheet.proofs.Stores.{sets-more}
 use Rattle.sheet.proofs.reader.store.Statement.{statement}
 use Rattle.sheet.proofs.reader.store.Tie as tie
 use Rattle.sheet.proofs.reader.store.Reads as reads
 use Rattle.sheet.proofs.reader.store.Lts as lts
 
 abbrev Inv-loop : tie.InvT-loop
-Inv-loop group₀ at w v i₀ group i = ?
+Inv-loop group₀ at w v i₀ group i = (i ≤ w) × (length v ≡ 8) × (group ≡ sets group₀ at (take i v))
 
 abbrev μ-loop : tie.MeasureT-loop
-μ-loop group₀ at w v i₀ group i = ?
+μ-loop group₀ at w v i₀ group i = w - i
 
--- src/reader.rt:35:5
 loop-holds : tie.Need-loop-holds Inv-loop μ-loop
-loop-holds c = ?
+loop-holds c = (omega arith, search needs, refl)
 
--- src/reader.rt:36:25
+-- stores keep the length
+same : (c : tie.In-loop Inv-loop μ-loop) → length (c .before .loop .group) ≡ length (c .before .before .args .group .now)
+same c = ap length (c .before .loop .inv .2) ∙ simp length-sets
+
 mul-group : tie.Need-mul-group Inv-loop μ-loop
-mul-group c = ?
+mul-group c = omega arith
 
--- src/reader.rt:36:25
 array-read-group : tie.Need-array-read-group Inv-loop μ-loop
-array-read-group c = ?
+array-read-group c = omega arith
 
--- src/reader.rt:36:15
 add-group : tie.Need-add-group Inv-loop μ-loop
-add-group c = ?
+add-group c = omega (arith, same c)
 
--- src/reader.rt:36:9
 mul-group-2 : tie.Need-mul-group-2 Inv-loop μ-loop
-mul-group-2 c = ?
+mul-group-2 c = omega (arith, same c)
 
--- src/reader.rt:36:9
 slice-write-group : tie.Need-slice-write-group Inv-loop μ-loop
-slice-write-group c = ?
+slice-write-group c = omega (arith, same c)
 
--- src/reader.rt:37:9
 add-i : tie.Need-add-i Inv-loop μ-loop
-add-i c = ?
+add-i c = omega arith
 
--- src/reader.rt:35:5
 loop-less : tie.Need-loop-less Inv-loop μ-loop
-loop-less c = ?
+loop-less c = omega arith
 
--- src/reader.rt:35:5
 loop-again : tie.Need-loop-again Inv-loop μ-loop
-loop-again c = ?
+loop-again c = 
+    let h = c .before in
+    let l : h .loop .i < length (h .before .args .t3) = omega arith in
+    (omega arith, h .loop .inv .1, rw (h .loop .inv .2) (sets-more (h .before .args .group .now) (h .before .args .t3) (h .before .args .at) (h .loop .i) l))
 
--- src/reader.rt:30:1
 same-length : tie.Need-same-length Inv-loop μ-loop
-same-length c = ?
+same-length c = ap length (c .before .loop .inv .2) ∙ simp length-sets
 
--- src/reader.rt:30:1
 returns : tie.Need-returns Inv-loop μ-loop
-returns c = ?
+returns c = 
+    let h = c .before in
+    let e : h .loop .i ≡ h .before .args .w = omega arith in
+    h .loop .inv .2 ∙ ap (λ (m : ℕ). sets (h .before .args .group .now) (h .before .args .at) (take m (h .before .args .t3))) e
 
 pub store-spec : {M : Type 1} → statement M
 store-spec =
