@@ -46,9 +46,9 @@ pub group-stop : (t : Tally) (l : Line) (ls : List Line) (f : ℕ) → FaultIs t
 group-stop t l ls f h z =
     record {
       of = λ before s. refuses z (λ rest.
-      let e : f ≡ fault before l = h .of before s in
-      let n : suc (length before) ≡ t .lines + 1 = omega (arith, s .counted) in
-      judge-faulty before l (map some ls ++ rest) (λ y. z (e ∙ y)) ∙ rw (← e, n));
+          let e : f ≡ fault before l = h .of before s in
+          let n : suc (length before) ≡ t .lines + 1 = omega (arith, s .counted) in
+          judge-faulty before l (map some ls ++ rest) (λ y. z (e ∙ y)) ∙ rw (← e, n));
     }
 
 -- the next line has none
@@ -71,11 +71,11 @@ pub remains-next : (t : Tally) (whole : List Line) (u r : Tally) (l : Line) (lef
 remains-next t whole u r l left f h x z k =
     record {
       of = λ v g. h .of v
-      (record {
-        of = λ before s.
-        let e : fault before l ≡ 0 = sym (x .of before s) ∙ z in
-        judged-next before l left e (g .of (before ++ (l ∷ [])) (k .of before s e));
-      });
+          (record {
+            of = λ before s.
+                let e : fault before l ≡ 0 = sym (x .of before s) ∙ z in
+                judged-next before l left e (g .of (before ++ (l ∷ [])) (k .of before s e));
+          });
     }
 
 -- a group after a group

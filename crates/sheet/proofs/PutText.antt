@@ -42,7 +42,7 @@ pub numbers-room : (xs : List ℕ) (i w : ℕ) → i ≤ w → length (numbersTe
 numbers-room xs i w h =
     let e : w ≡ i + (w - i) = omega arith in
     let p : numbersText (take w xs) ≡ numbersText (take i xs) ++ numbersText (take (w - i) (drop i xs)) =
-        ap (λ (m : ℕ). numbersText (take m xs)) e ∙ ap numbersText (take-add i (w - i) xs) ∙ bind-append numberText (take i xs) (take (w - i) (drop i xs)) in
+    ap (λ (m : ℕ). numbersText (take m xs)) e ∙ ap numbersText (take-add i (w - i) xs) ∙ bind-append numberText (take i xs) (take (w - i) (drop i xs)) in
     omega (arith, simp length-append at (ap length p))
 
 pub line-length : (k : Kind) (ns : List ℕ) → length (lineText (line k ns)) ≡ length (numbersText ns) + 2
@@ -96,7 +96,7 @@ group-length k (suc n) g =
     let r = group-length k n (drop w g) in
     let e : suc n * w ≡ w + n * w = omega (arith, suc-mul n w) in
     let s : numbersText (take (suc n * w) g) ≡ numbersText (take w g) ++ numbersText (take (n * w) (drop w g)) =
-        ap (λ (m : ℕ). numbersText (take m g)) e ∙ ap numbersText (take-add w (n * w) g) ∙ bind-append numberText (take w g) (take (n * w) (drop w g)) in
+    ap (λ (m : ℕ). numbersText (take m g)) e ∙ ap numbersText (take-add w (n * w) g) ∙ bind-append numberText (take w g) (take (n * w) (drop w g)) in
     omega (arith, simp length-append at (ap length s))
 
 -- one number more of a group: a comma and its digits

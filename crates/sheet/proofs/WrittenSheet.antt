@@ -133,10 +133,11 @@ module _ (h cs os : List ℕ) where
     unfolding sheetText
     groups-fit v j n =
         let p = judged-lines lines (sheetOfGroups h cs os) (judged-loaded v j n) .0 in
-        let q = subst (λ (s : Sheet). Valid s) (sheet-lines (sheetOfGroups h cs os)) (passes-valid lines shaped p (omega arith)) in
-        (omega (arith, q .most-corridors, rows-count 5 (length cs / 5) cs),
-        omega (arith, q .most-occupancies, rows-count 3 (length os / 3) os),
-        omega (arith, text-bound lines shaped p (omega arith), ap length sheet-text))
+        let q = subst (λ (s : Sheet). Valid s) (sheet-lines (sheetOfGroups h cs os)) (passes-valid lines shaped p (omega arith)) in (
+          omega (arith, q .most-corridors, rows-count 5 (length cs / 5) cs),
+          omega (arith, q .most-occupancies, rows-count 3 (length os / 3) os),
+          omega (arith, text-bound lines shaped p (omega arith), ap length sheet-text),
+        )
 
     write-written : (v : Verdict) (out : List ℕ) → JudgedGroup [] lines v → v .refusal ≡ 0 → writeCall h cs os out ≡ written (groupsText h cs os) out
     write-written v out j n =

@@ -106,7 +106,7 @@ put-digits-slice-write-out-2 : (t : ℕ) → put-digits-lts.Need-slice-write-out
   put-digits-below t,
   put-digits.Post,
 ) (put-digits-at t) put-digits.Post
-put-digits-slice-write-out-2 t c = 
+put-digits-slice-write-out-2 t c =
     let x = c .before .before in
     omega (arith, digits-big-length _ _ (x .before .before .before .if1 .left) (x .before .before .if2 .left), x .put-digits .kept .0)
 
@@ -114,7 +114,7 @@ put-digits-add-result-2 : (t : ℕ) → put-digits-lts.Need-add-result-2 (
   put-digits-below t,
   put-digits.Post,
 ) (put-digits-at t) put-digits.Post
-put-digits-add-result-2 t c = 
+put-digits-add-result-2 t c =
     let x = c .before .before in
     omega (arith, digits-big-length _ _ (x .before .before .before .if1 .left) (x .before .before .if2 .left), x .put-digits .kept .0)
 
@@ -122,7 +122,7 @@ put-digits-same-length-2 : (t : ℕ) → put-digits-lts.Need-same-length-2 (
   put-digits-below t,
   put-digits.Post,
 ) (put-digits-at t) put-digits.Post
-put-digits-same-length-2 t c = 
+put-digits-same-length-2 t c =
     let x = c .before .before in
     simp length-set (x .put-digits .kept .0)
 
@@ -130,10 +130,11 @@ put-digits-returns-3 : (t : ℕ) → put-digits-lts.Need-returns-3 (
   put-digits-below t,
   put-digits.Post,
 ) (put-digits-at t) put-digits.Post
-put-digits-returns-3 t c = 
-    let x = c .before .before in
-    (omega (arith, digits-big-length _ _ (x .before .before .before .if1 .left) (x .before .before .if2 .left)),
-    rw (x .put-digits .ensures .1, x .put-digits .ensures .0, digits-big _ _ (x .before .before .before .if1 .left) (x .before .before .if2 .left), sets-append))
+put-digits-returns-3 t c =
+    let x = c .before .before in (
+      omega (arith, digits-big-length _ _ (x .before .before .before .if1 .left) (x .before .before .if2 .left)),
+      rw (x .put-digits .ensures .1, x .put-digits .ensures .0, digits-big _ _ (x .before .before .before .if1 .left) (x .before .before .if2 .left), sets-append),
+    )
 
 pub +put-digits-spec : {M : Type 1} → statement M
 +put-digits-spec = close μ-put-digits λ t. put-digits-lts.spec (

@@ -17,7 +17,7 @@ use Rattle.sheet.proofs.kinds.width_of.Reads as width-of-reads
 use Rattle.sheet.proofs.text.digits_in.Reads as digits-in-reads
 
 abbrev Inv-loop : tie.InvT-loop
-Inv-loop k g n w m bytes₀ i₀ bytes i = 
+Inv-loop k g n w m bytes₀ i₀ bytes i =
     (m ≡ n * width (kindAt k))
     × (i ≤ m)
     × (bytes ≡ 2 * n + length (numbersText (take i g)))
@@ -30,7 +30,7 @@ width-of-requires : tie.Need-width-of-requires Inv-loop μ-loop
 width-of-requires c κs = search needs
 
 mul-m : tie.Need-mul-m Inv-loop μ-loop
-mul-m c = 
+mul-m c =
     let z = c .before .before in
     let a = z .args in
     omega (arith, few-numbers (a .k) (a .n) (z .pre .0) (z .pre .2), ap (λ (m : ℕ). a .n * m) (c .width-of .ensures))
@@ -42,12 +42,12 @@ loop-holds : tie.Need-loop-holds Inv-loop μ-loop
 loop-holds c = (ap (λ (m : ℕ). c .before .before .args .n * m) (c .width-of .ensures), omega arith, omega arith, omega arith)
 
 mul-digits-in : tie.Need-mul-digits-in Inv-loop μ-loop
-mul-digits-in c = 
+mul-digits-in c =
     let h = c .before in
     omega (arith, h .loop .inv .0, h .before .before .before .pre)
 
 shared-slice-read-digits-in : tie.Need-shared-slice-read-digits-in Inv-loop μ-loop
-shared-slice-read-digits-in c = 
+shared-slice-read-digits-in c =
     let h = c .before .before in
     omega (arith, h .loop .inv .0, h .before .before .before .pre)
 
@@ -76,18 +76,19 @@ loop-less : tie.Need-loop-less Inv-loop μ-loop
 loop-less c = omega (arith, c .before .before)
 
 loop-again : tie.Need-loop-again Inv-loop μ-loop
-loop-again c = 
+loop-again c =
     let y = c .before .before in
     let h = y .before in
     let a = h .before .before .before .args in
-    let e = number-more-length (a .g .now) (h .loop .i) (room y .0) in
-    (h .loop .inv .0,
-    omega (arith, y .loop-test .taken),
-    omega (arith, h .loop .inv .2, c .digits-in .ensures),
-    omega (arith, h .loop .inv .3, c .digits-in .ensures))
+    let e = number-more-length (a .g .now) (h .loop .i) (room y .0) in (
+      h .loop .inv .0,
+      omega (arith, y .loop-test .taken),
+      omega (arith, h .loop .inv .2, c .digits-in .ensures),
+      omega (arith, h .loop .inv .3, c .digits-in .ensures),
+    )
 
 returns : tie.Need-returns Inv-loop μ-loop
-returns c = 
+returns c =
     let h = c .before in
     let a = h .before .before .before .args in
     let e : h .loop .i ≡ a .n * width (kindAt (a .k)) = omega (arith, h .loop .inv .0, h .loop .inv .1, c .loop-test .left) in

@@ -22,7 +22,7 @@ use Rattle.sheet.proofs.kinds.width_of.Reads as width-of-reads
 use Rattle.sheet.proofs.text.put_line.Reads as put-line-reads
 
 abbrev Inv-loop : tie.InvT-loop
-Inv-loop out₀ at k g n w next₀ from₀ i₀ out next from i = 
+Inv-loop out₀ at k g n w next₀ from₀ i₀ out next from i =
     (i ≤ n)
     × (from + (n - i) * width (kindAt k) ≤ length g)
     × (length out ≡ length out₀)
@@ -36,7 +36,7 @@ width-of-requires : tie.Need-width-of-requires Inv-loop μ-loop
 width-of-requires c κs = search needs
 
 loop-holds : tie.Need-loop-holds Inv-loop μ-loop
-loop-holds c = 
+loop-holds c =
     (omega arith, rw (sub-zero, zero-add) (c .before .before .before .pre .1), refl, rw sub-zero refl, rw sub-zero refl)
 
 -- the next line's numbers are there, and what is left after it
@@ -56,13 +56,13 @@ size c =
     left-length (a .k) (a .n) (h .loop .i) (a .g .now) (h .loop .from) (c .loop-test .taken)
 
 put-line-requires : tie.Need-put-line-requires Inv-loop μ-loop
-put-line-requires c κs = 
+put-line-requires c κs =
     let h = c .before .before in
     let z = h .before .before .before .before in
     (z .pre .0, fits (c .before) .0, omega (arith, size (c .before), h .loop .inv .2, h .loop .inv .3, z .pre))
 
 add-from : tie.Need-add-from Inv-loop μ-loop
-add-from c = 
+add-from c =
     let y = c .before .before .before .before in
     let h = y .before in
     omega (arith, fits y, h .before .width-of .ensures, h .before .before .before .before .good)
@@ -74,27 +74,28 @@ loop-less : tie.Need-loop-less Inv-loop μ-loop
 loop-less c = omega (arith, c .before .before .before .before)
 
 loop-again : tie.Need-loop-again Inv-loop μ-loop
-loop-again c = 
+loop-again c =
     let x = c .before .before in
     let y = x .before .before in
     let h = y .before in
     let a = h .before .before .before .before .args in
     let w = width (kindAt (a .k)) in
-    rw (h .before .width-of .ensures)
-    (omega (arith, y),
-    fits y .1,
-    x .put-line .kept .0 ∙ h .loop .inv .2,
-    omega (arith, x .put-line .ensures .0, size y, h .loop .inv .3),
-    rw (x .put-line .ensures .1, x .put-line .ensures .0)
-    (sym (sets-append (lineText (line (kindAt (a .k)) (take w (drop (h .loop .from) (a .g .now))))) (left (a .k) (a .n) (h .loop .i + 1) (a .g .now) (h .loop .from + w)) (h .loop .out) (h .loop .next))
-    ∙ ap (sets (h .loop .out) (h .loop .next)) (sym (left-more (a .k) (a .n) (h .loop .i) (a .g .now) (h .loop .from) (y .loop-test .taken)))
-    ∙ h .loop .inv .4))
+    rw (h .before .width-of .ensures) (
+      omega (arith, y),
+      fits y .1,
+      x .put-line .kept .0 ∙ h .loop .inv .2,
+      omega (arith, x .put-line .ensures .0, size y, h .loop .inv .3),
+      rw (x .put-line .ensures .1, x .put-line .ensures .0)
+          (sym (sets-append (lineText (line (kindAt (a .k)) (take w (drop (h .loop .from) (a .g .now))))) (left (a .k) (a .n) (h .loop .i + 1) (a .g .now) (h .loop .from + w)) (h .loop .out) (h .loop .next))
+          ∙ ap (sets (h .loop .out) (h .loop .next)) (sym (left-more (a .k) (a .n) (h .loop .i) (a .g .now) (h .loop .from) (y .loop-test .taken)))
+          ∙ h .loop .inv .4),
+    )
 
 same-length : tie.Need-same-length Inv-loop μ-loop
 same-length c = c .before .loop .inv .2
 
 returns : tie.Need-returns Inv-loop μ-loop
-returns c = 
+returns c =
     let h = c .before in
     let a = h .before .before .before .before .args in
     let z : left (a .k) (a .n) (h .loop .i) (a .g .now) (h .loop .from) ≡ [] = left-none (a .k) (a .n) (h .loop .i) (a .g .now) (h .loop .from) (c .loop-test .left) in

@@ -22,7 +22,7 @@ use Rattle.sheet.proofs.kinds.width_of.Reads as width-of-reads
 use Rattle.sheet.proofs.text.put_number.Reads as put-number-reads
 
 abbrev Inv-loop : tie.InvT-loop
-Inv-loop out₀ at k g from w next₀ i₀ out next i = 
+Inv-loop out₀ at k g from w next₀ i₀ out next i =
     (i ≤ w)
     × (next ≡ at + 1 + length (numbersText (take i (drop from g))))
     × (out ≡ sets out₀ (at + 1) (numbersText (take i (drop from g))))
@@ -37,13 +37,13 @@ letter-of-requires : tie.Need-letter-of-requires Inv-loop μ-loop
 letter-of-requires c κs = search needs
 
 slice-write-out : tie.Need-slice-write-out Inv-loop μ-loop
-slice-write-out c = 
+slice-write-out c =
     let z = c .before .before .before .before in
     let a = z .args in
     omega (arith, z .pre, line-length (kindAt (a .k)) (take (width (kindAt (a .k))) (drop (a .from) (a .g .now))))
 
 add-next : tie.Need-add-next Inv-loop μ-loop
-add-next c = 
+add-next c =
     let z = c .before .before .before .before in
     let a = z .args in
     omega (arith, z .pre, line-length (kindAt (a .k)) (take (width (kindAt (a .k))) (drop (a .from) (a .g .now))))
@@ -65,20 +65,21 @@ shared-slice-read-put-number : tie.Need-shared-slice-read-put-number Inv-loop μ
 shared-slice-read-put-number c = omega (arith, c .before .before .before .before .before .width-of .ensures)
 
 put-number-requires : tie.Need-put-number-requires Inv-loop μ-loop
-put-number-requires c κs = 
+put-number-requires c κs =
     let h = c .before .before .before in
     let z = h .before .before .before .before .before in
     let a = z .args in
     let l : a .from + h .loop .i < length (a .g .now) = omega (arith, c .before .before, z .pre, h .before .before .width-of .ensures) in
     let m : h .loop .i + 1 ≤ width (kindAt (a .k)) = omega (arith, c .before .before, h .before .before .width-of .ensures) in
-    omega
-    (arith,
-    h .loop .inv,
-    z .pre,
-    len h,
-    numbers-more-length (a .g .now) (a .from) (h .loop .i) l,
-    numbers-room (drop (a .from) (a .g .now)) (h .loop .i + 1) (width (kindAt (a .k))) m,
-    line-length (kindAt (a .k)) (take (width (kindAt (a .k))) (drop (a .from) (a .g .now))))
+    omega (
+      arith,
+      h .loop .inv,
+      z .pre,
+      len h,
+      numbers-more-length (a .g .now) (a .from) (h .loop .i) l,
+      numbers-room (drop (a .from) (a .g .now)) (h .loop .i + 1) (width (kindAt (a .k))) m,
+      line-length (kindAt (a .k)) (take (width (kindAt (a .k))) (drop (a .from) (a .g .now))),
+    )
 
 add-i : tie.Need-add-i Inv-loop μ-loop
 add-i c = omega (arith, c .before .before .before .before .before)
@@ -87,20 +88,21 @@ loop-less : tie.Need-loop-less Inv-loop μ-loop
 loop-less c = omega (arith, c .before .before .before .before .before)
 
 loop-again : tie.Need-loop-again Inv-loop μ-loop
-loop-again c = 
+loop-again c =
     let x = c .before .before in
     let y = x .before .before .before in
     let h = y .before in
     let z = h .before .before .before .before .before in
     let a = z .args in
-    let l : a .from + h .loop .i < length (a .g .now) = omega (arith, y, z .pre, h .before .before .width-of .ensures) in
-    (omega (arith, y),
-    omega (arith, x .put-number .ensures .0, h .loop .inv .1, numbers-more-length (a .g .now) (a .from) (h .loop .i) l),
-    x .put-number .ensures .1
-    ∙ rw (numbers-more (a .g .now) (a .from) (h .loop .i) l, sets-append, ← (h .loop .inv .1), ← (h .loop .inv .2)))
+    let l : a .from + h .loop .i < length (a .g .now) = omega (arith, y, z .pre, h .before .before .width-of .ensures) in (
+      omega (arith, y),
+      omega (arith, x .put-number .ensures .0, h .loop .inv .1, numbers-more-length (a .g .now) (a .from) (h .loop .i) l),
+      x .put-number .ensures .1
+          ∙ rw (numbers-more (a .g .now) (a .from) (h .loop .i) l, sets-append, ← (h .loop .inv .1), ← (h .loop .inv .2)),
+    )
 
 slice-write-out-2 : tie.Need-slice-write-out-2 Inv-loop μ-loop
-slice-write-out-2 c = 
+slice-write-out-2 c =
     let h = c .before in
     let z = h .before .before .before .before .before in
     let a = z .args in
@@ -109,7 +111,7 @@ slice-write-out-2 c =
     omega (arith, len h, h .loop .inv .1, z .pre, line-length (kindAt (a .k)) (take (width (kindAt (a .k))) (drop (a .from) (a .g .now))))
 
 add-result : tie.Need-add-result Inv-loop μ-loop
-add-result c = 
+add-result c =
     let h = c .before in
     let z = h .before .before .before .before .before in
     let a = z .args in
@@ -121,14 +123,15 @@ same-length : tie.Need-same-length Inv-loop μ-loop
 same-length c = simp length-set (len (c .before))
 
 returns : tie.Need-returns Inv-loop μ-loop
-returns c = 
+returns c =
     let h = c .before in
     let z = h .before .before .before .before .before in
     let a = z .args in
     let e : h .loop .i ≡ width (kindAt (a .k)) = omega (arith, h .before .before .width-of .ensures, h .loop .inv .0, c .loop-test .left) in
-    let n = ap (λ (m : ℕ). length (numbersText (take m (drop (a .from) (a .g .now))))) e in
-    (omega (arith, h .loop .inv .1, line-length (kindAt (a .k)) (take (width (kindAt (a .k))) (drop (a .from) (a .g .now)))),
-    rw (h .loop .inv .2, h .loop .inv .1, e, h .before .letter-of .ensures) (line-sets (a .out .now) (a .at) (kindAt (a .k)) (take (width (kindAt (a .k))) (drop (a .from) (a .g .now)))))
+    let n = ap (λ (m : ℕ). length (numbersText (take m (drop (a .from) (a .g .now))))) e in (
+      omega (arith, h .loop .inv .1, line-length (kindAt (a .k)) (take (width (kindAt (a .k))) (drop (a .from) (a .g .now)))),
+      rw (h .loop .inv .2, h .loop .inv .1, e, h .before .letter-of .ensures) (line-sets (a .out .now) (a .at) (kindAt (a .k)) (take (width (kindAt (a .k))) (drop (a .from) (a .g .now)))),
+    )
 
 pub put-line-spec : {M : Type 1} → statement M
 put-line-spec =

@@ -21,7 +21,7 @@ use Rattle.sheet.proofs.kinds.width_of.Reads as width-of-reads
 use Rattle.sheet.proofs.writer.row_at.Reads as row-at-reads
 
 abbrev Inv-loop : tie.InvT-loop
-Inv-loop k g w n tally₀ i₀ tally i = 
+Inv-loop k g w n tally₀ i₀ tally i =
     (i ≤ length g / width (kindAt k))
     × (tally .kind < 3)
     × (tally .lines ≤ 5000000000000000000 + i)
@@ -38,7 +38,7 @@ div-n : tie.Need-div-n Inv-loop μ-loop
 div-n c = omega (arith, some-width (c .before .before .args .k) (c .before .before .pre .0), c .width-of .ensures)
 
 loop-holds : tie.Need-loop-holds Inv-loop μ-loop
-loop-holds c = 
+loop-holds c =
     let z = c .before .before in
     let a = z .args in
     (omega arith, z .pre .1, omega (arith, z .pre .2), omega (arith, z .pre .3), rw (left-all (a .k) (a .g .now)) (remains-all (a .t) (groupLines (a .k) (a .g .now))))
@@ -61,12 +61,12 @@ product : (c : tie.In-loop Inv-loop μ-loop) → let h = c .before in h .loop .i
 product c = ap (λ (m : ℕ). c .before .loop .i * m) (c .before .before .width-of .ensures)
 
 mul-row-at : tie.Need-mul-row-at Inv-loop μ-loop
-mul-row-at c = 
+mul-row-at c =
     let h = c .before in
     omega (arith, there c, product c, h .before .before .before .good)
 
 row-at-requires : tie.Need-row-at-requires Inv-loop μ-loop
-row-at-requires c κs = 
+row-at-requires c κs =
     let h = c .before in
     let z = h .before .before .before in
     (omega (arith, some-width (z .args .k) (z .pre .0), h .before .width-of .ensures), omega (arith, there c, product c, h .before .width-of .ensures))
@@ -82,33 +82,33 @@ row c =
     let z = h .before .before .before in
     let a = z .args in
     let e : c .row-at .result ≡ filled 8 (take (width (kindAt (a .k))) (drop (h .loop .i * width (kindAt (a .k))) (a .g .now))) =
-        c .row-at .ensures ∙ ap (λ (m : ℕ). filled 8 (take m (drop (h .loop .i * m) (a .g .now)))) (h .before .width-of .ensures) in
+    c .row-at .ensures ∙ ap (λ (m : ℕ). filled 8 (take m (drop (h .loop .i * m) (a .g .now)))) (h .before .width-of .ensures) in
     rw e (left-next (a .k) (a .g .now) (h .loop .i) (z .pre .0) (below (c .before)))
 
 add-t13 : tie.Need-add-t13 Inv-loop μ-loop
-add-t13 c = 
+add-t13 c =
     let y = c .before .before .before .before in
     omega (arith, there y, y .before .loop .inv .2, y .before .before .before .before .good)
 
 returns : tie.Need-returns Inv-loop μ-loop
-returns c = 
+returns c =
     let x = c .before .before in
     let y = x .before in
     let h = y .before .before in
     let a = h .before .before .before .args in
     let g : Remains (a .t) (groupLines (a .k) (a .g .now)) (h .loop .tally) (lineAt (a .k) (y .row-at .result) ∷ groupLeft (a .k) (a .g .now) (h .loop .i + 1)) =
-        rw (row y) at (h .loop .inv .4) in
+    rw (row y) at (h .loop .inv .4) in
     g .of _ (group-stop (h .loop .tally) (lineAt (a .k) (y .row-at .result)) (groupLeft (a .k) (a .g .now) (h .loop .i + 1)) (x .fault-of .result) (x .fault-of .ensures) (c .before .if1 .taken))
 
 with-line-requires : tie.Need-with-line-requires Inv-loop μ-loop
-with-line-requires c κs = 
+with-line-requires c κs =
     let y = c .before .before .before in
     let h = y .before in
     let z = h .before .before .before in
     (z .pre .0, omega (arith, there y, h .loop .inv .2, z .good), omega (arith, there y, h .loop .inv .3, z .good))
 
 add-i : tie.Need-add-i Inv-loop μ-loop
-add-i c = 
+add-i c =
     let y = c .before .before .before .before in
     omega (arith, there y, y .before .before .before .before .good)
 
@@ -116,23 +116,24 @@ loop-less : tie.Need-loop-less Inv-loop μ-loop
 loop-less c = omega (arith, below (c .before .before .before .before))
 
 loop-again : tie.Need-loop-again Inv-loop μ-loop
-loop-again c = 
+loop-again c =
     let x = c .before .before in
     let y = x .before in
     let h = y .before .before in
     let z = h .before .before .before in
     let a = z .args in
     let g : Remains (a .t) (groupLines (a .k) (a .g .now)) (h .loop .tally) (lineAt (a .k) (y .row-at .result) ∷ groupLeft (a .k) (a .g .now) (h .loop .i + 1)) =
-        rw (row y) at (h .loop .inv .4) in
-    let e = c .with-line .ensures in
-    (omega (arith, below (y .before)),
-    omega (arith, e .1, z .pre .0),
-    omega (arith, e .2, h .loop .inv .2),
-    omega (arith, e .3, h .loop .inv .3),
-    remains-next (a .t) (groupLines (a .k) (a .g .now)) (h .loop .tally) (c .with-line .result) (lineAt (a .k) (y .row-at .result)) (groupLeft (a .k) (a .g .now) (h .loop .i + 1)) (x .fault-of .result) g (x .fault-of .ensures) (c .before .if1 .left) (e .0))
+    rw (row y) at (h .loop .inv .4) in
+    let e = c .with-line .ensures in (
+      omega (arith, below (y .before)),
+      omega (arith, e .1, z .pre .0),
+      omega (arith, e .2, h .loop .inv .2),
+      omega (arith, e .3, h .loop .inv .3),
+      remains-next (a .t) (groupLines (a .k) (a .g .now)) (h .loop .tally) (c .with-line .result) (lineAt (a .k) (y .row-at .result)) (groupLeft (a .k) (a .g .now) (h .loop .i + 1)) (x .fault-of .result) g (x .fault-of .ensures) (c .before .if1 .left) (e .0),
+    )
 
 returns-2 : tie.Need-returns-2 Inv-loop μ-loop
-returns-2 c = 
+returns-2 c =
     let h = c .before in
     let a = h .before .before .before .args in
     let n : length (a .g .now) / width (kindAt (a .k)) ≤ h .loop .i = omega (arith, c .loop-test .left, ap (λ (m : ℕ). length (a .g .now) / m) (h .before .width-of .ensures)) in

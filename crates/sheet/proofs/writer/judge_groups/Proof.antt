@@ -39,13 +39,13 @@ second c =
     judged-then [] (line kindS (a .head .now) ∷ []) (groupLines 1 (a .corridors .now)) (x .judge-group .result) (c .judge-group2 .result) (first x) (c .before .if1 .left) (c .judge-group2 .ensures)
 
 returns : tie.Need-returns
-returns c = 
+returns c =
     let x = c .before .before in
     let a = x .before .before .before .before .before .args in
     judged-stop [] (line kindS (a .head .now) ∷ []) (groupLines 1 (a .corridors .now) ++ groupLines 2 (a .occupancies .now)) (x .judge-group .result) (first x) (c .if1 .taken)
 
 judge-group-requires-2 : tie.Need-judge-group-requires-2
-judge-group-requires-2 c κs = 
+judge-group-requires-2 c κs =
     let x = c .before .before in
     let a = x .before .before .before .before .before .args in
     let l = line kindS (a .head .now) ∷ [] in
@@ -53,13 +53,13 @@ judge-group-requires-2 c κs =
     (omega arith, t .0, omega (arith, t .1), omega (arith, t .2))
 
 returns-2 : tie.Need-returns-2
-returns-2 c = 
+returns-2 c =
     let y = c .before .before in
     let a = y .before .before .before .before .before .before .before .before .args in
     judged-stop [] (line kindS (a .head .now) ∷ groupLines 1 (a .corridors .now)) (groupLines 2 (a .occupancies .now)) (y .judge-group2 .result) (second y) (c .if2 .taken)
 
 judge-group-requires-3 : tie.Need-judge-group-requires-3
-judge-group-requires-3 c κs = 
+judge-group-requires-3 c κs =
     let y = c .before .before in
     let z = y .before .before .before .before .before .before .before .before in
     let a = z .args in
@@ -70,7 +70,7 @@ judge-group-requires-3 c κs =
     (omega arith, t .0, omega (arith, t .1, z .good), omega (arith, t .2, z .good))
 
 returns-3 : tie.Need-returns-3
-returns-3 c = 
+returns-3 c =
     let y = c .before .before .before in
     let a = y .before .before .before .before .before .before .before .before .args in
     judged-then [] (line kindS (a .head .now) ∷ groupLines 1 (a .corridors .now)) (groupLines 2 (a .occupancies .now)) (y .judge-group2 .result) (c .judge-group3 .result) (second y) (c .before .if2 .left) (c .judge-group3 .ensures)

@@ -44,7 +44,7 @@ loop-less : tie.Need-loop-less Inv-loop μ-loop
 loop-less c = omega arith
 
 loop-again : tie.Need-loop-again Inv-loop μ-loop
-loop-again c = 
+loop-again c =
     let h = c .before .before in
     let a = h .before .args in
     let l : h .loop .i < length (drop (a .from) (a .g .now)) = omega (arith, length-drop (a .from) (a .g .now), c .before) in
@@ -52,7 +52,7 @@ loop-again c =
     (omega arith, simp length-set (h .loop .inv .1), rw (h .loop .inv .2, ← (getD-drop (a .from) (a .g .now) (h .loop .i) 0)) (filled-more 8 (h .loop .i) (drop (a .from) (a .g .now)) n l))
 
 returns : tie.Need-returns Inv-loop μ-loop
-returns c = 
+returns c =
     let h = c .before in
     let a = h .before .args in
     let e : h .loop .i ≡ a .w = omega arith in

@@ -24,7 +24,7 @@ refuse-requires : tie.Need-refuse-requires
 refuse-requires c κs = search needs
 
 returns : tie.Need-returns
-returns c = 
+returns c =
     let a = c .before .before .before .before .before .before .args in
     refusal-is (c .refuse .result) 2 0 (a .out .now) (c .refuse .ensures) ∙ sym (write-uneven (a .head .now) (a .corridors .now) (a .occupancies .now) (a .out .now) (c .before .if1 .taken))
 
@@ -36,7 +36,7 @@ judge-groups-requires : tie.Need-judge-groups-requires
 judge-groups-requires c κs = whole c .seven
 
 cast-refuse : tie.Need-cast-refuse
-cast-refuse c = 
+cast-refuse c =
     let x = c .before .before .before in
     let a = x .before .before .before .before .before .before .args in
     omega (arith, refusal-line (a .head .now) (a .corridors .now) (a .occupancies .now) (whole (x .before)) (x .judge-groups .result) (x .judge-groups .ensures) (c .before .if2 .taken))
@@ -45,7 +45,7 @@ refuse-requires-2 : tie.Need-refuse-requires-2
 refuse-requires-2 c κs = search needs
 
 returns-2 : tie.Need-returns-2
-returns-2 c = 
+returns-2 c =
     let x = c .before .before .before .before in
     let a = x .before .before .before .before .before .before .args in
     let v = x .judge-groups .result in
@@ -67,7 +67,7 @@ group-bytes-requires-2 : tie.Need-group-bytes-requires-2
 group-bytes-requires-2 c κs = (omega arith, omega arith, fit (c .before) .0)
 
 add-bytes : tie.Need-add-bytes
-add-bytes c = 
+add-bytes c =
     let e = c .before .before in
     let a = e .before .before .before .before .before .before .before .before .args in
     omega (arith, c .before .group-bytes .ensures, c .group-bytes2 .ensures, fit e .2, groups-length (a .head .now) (a .corridors .now) (a .occupancies .now))
@@ -89,7 +89,7 @@ refuse-requires-3 : tie.Need-refuse-requires-3
 refuse-requires-3 c κs = search needs
 
 returns-3 : tie.Need-returns-3
-returns-3 c = 
+returns-3 c =
     let g = c .before .before in
     let e = g .before .before .before in
     let x = e .before .before in
@@ -98,7 +98,7 @@ returns-3 c =
     ∙ sym (write-short (a .head .now) (a .corridors .now) (a .occupancies .now) (whole (x .before)) (x .judge-groups .result) (a .out .now) (x .judge-groups .ensures) (e .if2 .left) (omega (arith, bytes g, c .before .if3 .taken)))
 
 put-group-requires : tie.Need-put-group-requires
-put-group-requires c κs = 
+put-group-requires c κs =
     let g = c .before .before in
     let z = g .before .before .before .before .before in
     let a = z .before .before .before .before .before .before .args in
@@ -111,7 +111,7 @@ put-group-requires-3 : tie.Need-put-group-requires-3
 put-group-requires-3 c κs = search needs
 
 cast-t28 : tie.Need-cast-t28
-cast-t28 c = 
+cast-t28 c =
     let g = c .before .before .before .before .before .before .before .before .before .before .before .before .before in
     omega (arith, bytes g, fit (g .before .before .before) .2)
 
@@ -119,7 +119,7 @@ same-length : tie.Need-same-length
 same-length c = search needs
 
 returns-4 : tie.Need-returns-4
-returns-4 c = 
+returns-4 c =
     let w = c .before .before in
     let y = w .before .before .before .before in
     let x = y .before .before .before .before in
@@ -130,8 +130,8 @@ returns-4 c =
     let a = j .before .before .before .before .before .before .args in
     let l : length (groupsText (a .head .now) (a .corridors .now) (a .occupancies .now)) ≤ length (a .out .now) = omega (arith, bytes g, b .if3 .left) in
     let t : w .put-group3 .last .0 ≡ sets (a .out .now) 0 (groupsText (a .head .now) (a .corridors .now) (a .occupancies .now)) =
-        rw (w .put-group3 .ensures .1, y .put-group2 .ensures .1, x .put-group .ensures .1)
-        (groups-sets (a .head .now) (a .corridors .now) (a .occupancies .now) (a .out .now) (x .put-group .result) (y .put-group2 .result) (x .put-group .ensures .0) (y .put-group2 .ensures .0)) in
+    rw (w .put-group3 .ensures .1, y .put-group2 .ensures .1, x .put-group .ensures .1)
+    (groups-sets (a .head .now) (a .corridors .now) (a .occupancies .now) (a .out .now) (x .put-group .result) (y .put-group2 .result) (x .put-group .ensures .0) (y .put-group2 .ensures .0)) in
     ap₂ (λ (n : ℕ) (o : List ℕ). writeEnd (record { refusal = 0; line = 0; bytes = n }) o) (bytes g) t
     ∙ sym (write-done (a .head .now) (a .corridors .now) (a .occupancies .now) (whole (j .before)) (j .judge-groups .result) (a .out .now) (j .judge-groups .ensures) (e .if2 .left) l)
 
