@@ -4,11 +4,10 @@ use mathlib.Core.Path.{_≡_, refl, sym, _∙_, ap, subst}
 use mathlib.Core.Bool.{Bool, true, false}
 use mathlib.Core.List.{List, [], _∷_, _++_, map, append-assoc, append-nil}
 use mathlib.Core.Option.{Option, some}
-use Prim.Native.Nat.{ℕ, zero, suc, _+_, _*_, _-_, _/_, _≤_, _<_}
+use Prim.Native.Nat.{ℕ, suc, _+_, _*_, _-_, _/_, _≤_, _<_}
 use native.Mathlib.Omega.{arith}
 use native.Mathlib.Numerals.{add-one}
 use native.Mathlib.Nat.{suc-mul, zero-mul, sub-zero}
-use lib.Dec.{eqb}
 use lib.ListN.{length, take, drop, length-drop}
 use lib.Seq.{append-snoc, take-all, take-at, drop-drop, length-take-le}
 use borrow.Author.Tests.{eq-eqb, ne-eqb}
@@ -98,10 +97,6 @@ module _ (before ls ms : List Line) where
   pub judged-then : (v u : Verdict) → JudgedGroup before ls v → v .refusal ≡ 0 → GroupIs (v .tally) ms u → JudgedGroup before (ls ++ ms) u
   judged-then v u (refuses z f) n g = absurd (z n)
   judged-then v u (passes z f s) n g = judged-after v u f (g .of (before ++ ls) s)
-
--- a line of a kind has three to seven numbers
-pub some-width : (k : ℕ) → k < 3 → (3 ≤ width (kindAt k)) × (width (kindAt k) ≤ 7)
-some-width k h = three (λ (j : ℕ). (3 ≤ width (kindAt j)) × (width (kindAt j) ≤ 7)) (omega arith, omega arith) (omega arith, omega arith) (omega arith, omega arith) k h
 
 -- the numbers of line i are there
 pub line-there : (k i n : ℕ) → k < 3 → i < n / width (kindAt k) → (i * width (kindAt k) + width (kindAt k) ≤ n) × (i * 3 ≤ n)

@@ -1,22 +1,22 @@
 -- Laws of the text of numbers, of lines and of groups: one number more, one line more, and what a group's text is long.
 -- Assumes nothing.
 use mathlib.Core.Path.{_≡_, refl, sym, _∙_, ap}
-use mathlib.Core.List.{List, [], _∷_, _++_, map, append-assoc, append-nil}
+use mathlib.Core.List.{List, [], _∷_, _++_, append-assoc, append-nil}
 use Prim.Native.Nat.{ℕ, zero, suc, _+_, _*_, _-_, _≤_, _<_}
 use native.Mathlib.Omega.{arith}
 use native.Mathlib.Nat.{suc-mul, zero-mul}
 use native.Mathlib.Numerals.{add-one}
 use lib.ListN.{length, take, drop, getD, set, length-append, length-drop}
 use lib.Seq.{sets, take-suc, take-add, getD-drop, drop-drop}
-use Rattle.sheet.specs.Lists.{bind, rows}
+use Rattle.sheet.specs.Lists.{bind}
 use Rattle.sheet.specs.Decimal.{digitsOf, most}
 use Rattle.sheet.specs.Kinds.{Kind}
-use Rattle.sheet.specs.Lines.{Line, line}
+use Rattle.sheet.specs.Lines.{line}
 use Rattle.sheet.specs.Text.{numberText, lineText}
 use Rattle.sheet.specs.Calls.{width}
 use Rattle.sheet.specs.Inner.{kindAt, groupText}
 use Rattle.sheet.proofs.Three.{three}
-use Rattle.sheet.proofs.Written.{sets-append}
+use Rattle.sheet.proofs.Stores.{sets-append}
 
 -- the text of numbers, each with its comma
 abbrev pub numbersText : List ℕ → List ℕ

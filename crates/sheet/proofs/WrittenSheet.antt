@@ -2,21 +2,21 @@
 -- Assumes nothing.
 use mathlib.Core.Path.{_≡_, refl, sym, _∙_, ap, ap₂, subst}
 use mathlib.Core.Bool.{Bool, true, false, not, _||_}
-use mathlib.Core.List.{List, [], _∷_, _++_, map, append-assoc, append-nil}
-use mathlib.Core.Option.{Option, some}
-use Prim.Native.Nat.{ℕ, suc, _+_, _/_, _%_, _≤_, _<_}
+use mathlib.Core.List.{List, [], _∷_, _++_, map, append-nil}
+use mathlib.Core.Option.{some}
+use Prim.Native.Nat.{ℕ, suc, _+_, _/_, _≤_, _<_}
 use native.Mathlib.Omega.{arith}
 use native.Mathlib.Nat.{zero-add}
-use lib.Dec.{ltb, eqb}
-use lib.ListN.{length, take, drop, length-append, length-map}
+use lib.Dec.{eqb}
+use lib.ListN.{length, drop, length-append, length-map}
 use lib.Seq.{sets, sets-eq, take-all, append-snoc}
 use borrow.Author.Tests.{lt-ltb, le-ltb, eqb-true, eqb-false}
-use Rattle.sheet.specs.Lists.{pick, _∈_, bind, rows}
+use Rattle.sheet.specs.Lists.{bind, rows}
 use Rattle.sheet.specs.Kinds.{kindS, kindC, kindO}
 use Rattle.sheet.specs.Lines.{Line, line}
 use Rattle.sheet.specs.Sheet.{Sheet, sheetOf, sheetLines, fault, Outcome, refused, loaded, judge}
 use Rattle.sheet.specs.Text.{lineText, sheetText}
-use Rattle.sheet.specs.Calls.{leftOver, sheetOfGroups, WriteEnd, writeRefused, written, writeJudged, writeCall}
+use Rattle.sheet.specs.Calls.{leftOver, sheetOfGroups, writeRefused, written, writeJudged, writeCall}
 use Rattle.sheet.specs.Inner.{JudgedGroup, refuses, passes, groupText, writeEnd}
 use Rattle.sheet.specs.Valid.{Valid}
 use Rattle.sheet.specs.declared.SheetWritten.{SheetWritten}
@@ -29,8 +29,8 @@ use Rattle.sheet.specs.Laws.Passed.{append-passes}
 use Rattle.sheet.specs.Laws.Groups.{sheet-lines, lines-sheet}
 use Rattle.sheet.specs.Laws.Valid.{passes-valid}
 use Rattle.sheet.specs.Laws.TextBound.{text-bound}
-use Rattle.sheet.specs.Laws.RoundTrip.{judged-lines, widths-shaped, Whole, groupsJudged, whole-of, whole-judged, groups-widths}
-use Rattle.sheet.proofs.Written.{sets-append}
+use Rattle.sheet.specs.Laws.RoundTrip.{judged-lines, widths-shaped, Whole, whole-judged, groups-widths}
+use Rattle.sheet.proofs.Stores.{sets-append}
 use Rattle.sheet.proofs.PutText.{bind-append}
 use Rattle.sheet.proofs.GroupJudged.{judge-passed, judge-faulty}
 

@@ -1,15 +1,12 @@
 -- `sheet::text::put_digits` meets its contract: by recursion on the count of digits that are left.
 -- Assumes nothing.
-use mathlib.Core.Path.{_≡_, refl, sym, _∙_, ap}
-use Prim.Native.Nat.{_+_, _≤_, _-_, _/_}
+use mathlib.Core.Path.{refl, ap}
+use Prim.Native.Nat.{_+_, _-_}
 use native.Mathlib.Omega.{arith}
-use native.Mathlib.Numerals.{add-one}
-use native.Mathlib.Nat.{add-zero, add-assoc}
-use borrow.Author.Needs.{needs}
+use native.Mathlib.Nat.{add-zero}
 use lib.ListN.{length, length-set}
-use lib.Seq.{sets, length-sets}
-use Rattle.sheet.specs.Decimal.{digitsOf}
-use Rattle.sheet.proofs.Written.{digits-none, digits-small, digits-big, digits-big-length, sets-append}
+use Rattle.sheet.proofs.Stores.{sets-append}
+use Rattle.sheet.proofs.Written.{digits-none, digits-small, digits-big, digits-big-length}
 use Prim.Native.Nat.{ℕ, _<_}
 use borrow.Fn.Kinds.{In}
 use borrow.Fn.PlainCycle.{Measures, is, falls, and}

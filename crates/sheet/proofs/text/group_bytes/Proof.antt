@@ -11,10 +11,6 @@ use Rattle.sheet.specs.Inner.{kindAt}
 use Rattle.sheet.proofs.PutText.{numbersText, number-more-length, group-length, few-numbers}
 use Rattle.sheet.proofs.text.group_bytes.Statement.{statement}
 use Rattle.sheet.proofs.text.group_bytes.Tie as tie
-use Rattle.sheet.proofs.text.group_bytes.Reads as reads
-use Rattle.sheet.proofs.text.group_bytes.Lts as lts
-use Rattle.sheet.proofs.kinds.width_of.Reads as width-of-reads
-use Rattle.sheet.proofs.text.digits_in.Reads as digits-in-reads
 
 abbrev Inv-loop : tie.InvT-loop
 Inv-loop k g n w m bytes₀ i₀ bytes i =

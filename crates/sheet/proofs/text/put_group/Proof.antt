@@ -2,7 +2,7 @@
 -- Assumes nothing.
 use mathlib.Core.Path.{_≡_, refl, sym, _∙_, ap}
 use mathlib.Core.List.{[]}
-use Prim.Native.Nat.{ℕ, _≤_, _<_, _-_, _+_, _*_}
+use Prim.Native.Nat.{_≤_, _-_, _+_, _*_}
 use native.Mathlib.Omega.{arith}
 use native.Mathlib.Nat.{sub-zero, zero-add}
 use lib.ListN.{length, take, drop}
@@ -12,14 +12,10 @@ use Rattle.sheet.specs.Lines.{line}
 use Rattle.sheet.specs.Text.{lineText}
 use Rattle.sheet.specs.Calls.{width}
 use Rattle.sheet.specs.Inner.{kindAt, groupText}
-use Rattle.sheet.proofs.Written.{sets-append}
+use Rattle.sheet.proofs.Stores.{sets-append}
 use Rattle.sheet.proofs.PutText.{left, left-none, left-more, left-length, left-fits}
 use Rattle.sheet.proofs.text.put_group.Statement.{statement}
 use Rattle.sheet.proofs.text.put_group.Tie as tie
-use Rattle.sheet.proofs.text.put_group.Reads as reads
-use Rattle.sheet.proofs.text.put_group.Lts as lts
-use Rattle.sheet.proofs.kinds.width_of.Reads as width-of-reads
-use Rattle.sheet.proofs.text.put_line.Reads as put-line-reads
 
 abbrev Inv-loop : tie.InvT-loop
 Inv-loop out₀ at k g n w next₀ from₀ i₀ out next from i =

@@ -1,6 +1,6 @@
 -- `sheet::text::put_number` meets its contract: a comma, and the digits after it.
 -- Assumes nothing.
-use mathlib.Core.Path.{_≡_, refl, sym, _∙_, ap}
+use mathlib.Core.Path.{refl, _∙_}
 use native.Mathlib.Omega.{arith}
 use native.Mathlib.Numerals.{add-one}
 use lib.ListN.{length-set}
@@ -8,9 +8,6 @@ use borrow.Author.Needs.{needs}
 use Rattle.sheet.specs.Text.{numberText}
 use Rattle.sheet.proofs.text.put_number.Statement.{statement}
 use Rattle.sheet.proofs.text.put_number.Tie as tie
-use Rattle.sheet.proofs.text.put_number.Reads as reads
-use Rattle.sheet.proofs.text.put_number.Lts as lts
-use Rattle.sheet.proofs.text.put_digits.Reads as put-digits-reads
 
 slice-write-out : tie.Need-slice-write-out
 unfolding numberText

@@ -1,24 +1,18 @@
 -- `sheet::writer::judge_group` meets its contract. Invariant: the lines that are left, after the tally, are judged as all of them after t.
 -- Assumes nothing.
-use mathlib.Core.Path.{_≡_, refl, sym, _∙_, ap, subst}
-use mathlib.Core.List.{List, [], _∷_}
+use mathlib.Core.Path.{_≡_, _∙_, ap}
+use mathlib.Core.List.{[], _∷_}
 use Prim.Native.Nat.{ℕ, _≤_, _<_, _-_, _+_, _*_, _/_}
 use native.Mathlib.Omega.{arith}
 use lib.ListN.{length, take, drop}
 use borrow.Author.Needs.{needs}
 use Rattle.sheet.specs.Lists.{filled}
-use Rattle.sheet.specs.Lines.{Line}
 use Rattle.sheet.specs.Calls.{width}
-use Rattle.sheet.specs.Inner.{kindAt, lineAt, FaultIs, groupLines}
-use Rattle.sheet.proofs.GroupJudged.{group-end, group-stop, Remains, remains-all, remains-next, some-width, line-there, groupLeft, left-all, left-end, left-next}
+use Rattle.sheet.specs.Inner.{kindAt, lineAt, groupLines}
+use Rattle.sheet.proofs.KindFacts.{some-number, width-small}
+use Rattle.sheet.proofs.GroupJudged.{group-end, group-stop, Remains, remains-all, remains-next, line-there, groupLeft, left-all, left-end, left-next}
 use Rattle.sheet.proofs.writer.judge_group.Statement.{statement}
 use Rattle.sheet.proofs.writer.judge_group.Tie as tie
-use Rattle.sheet.proofs.writer.judge_group.Reads as reads
-use Rattle.sheet.proofs.writer.judge_group.Lts as lts
-use Rattle.sheet.proofs.judge.fault_of.Reads as fault-of-reads
-use Rattle.sheet.proofs.judge.with_line.Reads as with-line-reads
-use Rattle.sheet.proofs.kinds.width_of.Reads as width-of-reads
-use Rattle.sheet.proofs.writer.row_at.Reads as row-at-reads
 
 abbrev Inv-loop : tie.InvT-loop
 Inv-loop k g w n tally₀ i₀ tally i =
@@ -35,7 +29,7 @@ width-of-requires : tie.Need-width-of-requires Inv-loop μ-loop
 width-of-requires c κs = search needs
 
 div-n : tie.Need-div-n Inv-loop μ-loop
-div-n c = omega (arith, some-width (c .before .before .args .k) (c .before .before .pre .0), c .width-of .ensures)
+div-n c = omega (arith, some-number (c .before .before .args .k) (c .before .before .pre .0), c .width-of .ensures)
 
 loop-holds : tie.Need-loop-holds Inv-loop μ-loop
 loop-holds c =
@@ -69,7 +63,7 @@ row-at-requires : tie.Need-row-at-requires Inv-loop μ-loop
 row-at-requires c κs =
     let h = c .before in
     let z = h .before .before .before in
-    (omega (arith, some-width (z .args .k) (z .pre .0), h .before .width-of .ensures), omega (arith, there c, product c, h .before .width-of .ensures))
+    (omega (arith, width-small (z .args .k) (z .pre .0), h .before .width-of .ensures), omega (arith, there c, product c, h .before .width-of .ensures))
 
 fault-of-requires : tie.Need-fault-of-requires Inv-loop μ-loop
 fault-of-requires c κs = (c .before .before .before .before .before .pre .0, c .before .before .loop .inv .1)

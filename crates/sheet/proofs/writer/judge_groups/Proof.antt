@@ -1,23 +1,19 @@
 -- `sheet::writer::judge_groups` meets its contract: the S line, then the C lines after it, then the O lines after those.
 -- Assumes nothing.
-use mathlib.Core.Path.{_≡_, ap, subst}
-use mathlib.Core.List.{List, [], _∷_, _++_, map}
-use Prim.Native.Nat.{ℕ, _/_}
+use mathlib.Core.Path.{subst}
+use mathlib.Core.List.{List, [], _∷_, _++_}
+use Prim.Native.Nat.{_/_}
 use native.Mathlib.Omega.{arith}
 use lib.ListN.{length, length-map}
 use borrow.Author.Needs.{needs}
 use Rattle.sheet.specs.Lists.{rows}
-use Rattle.sheet.specs.Kinds.{kindS, kindC, kindO}
+use Rattle.sheet.specs.Kinds.{kindS, kindC}
 use Rattle.sheet.specs.Lines.{Line, line}
 use Rattle.sheet.specs.Laws.Rows.{rows-count}
 use Rattle.sheet.specs.Inner.{JudgedGroup, groupLines}
 use Rattle.sheet.proofs.GroupJudged.{head-lines, judged-stop, judged-then, judged-tally, tally-counts}
 use Rattle.sheet.proofs.writer.judge_groups.Statement.{statement}
 use Rattle.sheet.proofs.writer.judge_groups.Tie as tie
-use Rattle.sheet.proofs.writer.judge_groups.Reads as reads
-use Rattle.sheet.proofs.writer.judge_groups.Lts as lts
-use Rattle.sheet.proofs.judge.no_lines.Reads as no-lines-reads
-use Rattle.sheet.proofs.writer.judge_group.Reads as judge-group-reads
 
 no-lines-requires : tie.Need-no-lines-requires
 no-lines-requires c κs = search needs

@@ -1,7 +1,7 @@
 -- `sheet::writer::row_at` meets its contract. Invariant: the first i numbers are there, and zeros after them.
 -- Assumes nothing.
 use mathlib.Core.Path.{_≡_, refl, _∙_, ap}
-use Prim.Native.Nat.{ℕ, _≤_, _<_, _-_, _+_}
+use Prim.Native.Nat.{ℕ, _≤_, _<_, _-_}
 use native.Mathlib.Omega.{arith}
 use lib.ListN.{length, take, drop, length-drop, length-set}
 use lib.Seq.{getD-drop}
@@ -10,8 +10,6 @@ use Rattle.sheet.specs.Lists.{filled}
 use Rattle.sheet.proofs.Written.{filled-more}
 use Rattle.sheet.proofs.writer.row_at.Statement.{statement}
 use Rattle.sheet.proofs.writer.row_at.Tie as tie
-use Rattle.sheet.proofs.writer.row_at.Reads as reads
-use Rattle.sheet.proofs.writer.row_at.Lts as lts
 
 abbrev Inv-loop : tie.InvT-loop
 Inv-loop g from w v₀ i₀ v i = (i ≤ w) × (length v ≡ 8) × (v ≡ filled 8 (take i (drop from g)))

@@ -1,24 +1,18 @@
 -- `sheet::writer::write` meets its contract: the lengths of the groups, then the judgement of their lines, then the room for their texts, and the
 -- three texts one after another. The line of a refusal and the count of bytes are small, since lines that pass are few.
 -- Assumes nothing.
-use mathlib.Core.Path.{_≡_, refl, sym, _∙_, ap, ap₂}
-use mathlib.Core.List.{List, []}
-use Prim.Native.Nat.{ℕ, _+_, _/_, _≤_, _<_}
+use mathlib.Core.Path.{_≡_, sym, _∙_, ap₂}
+use mathlib.Core.List.{List}
+use Prim.Native.Nat.{ℕ, _+_, _/_, _≤_}
 use native.Mathlib.Omega.{arith}
 use lib.ListN.{length}
 use lib.Seq.{sets}
 use borrow.Author.Needs.{needs}
-use Rattle.sheet.specs.Inner.{groupText, writeEnd}
+use Rattle.sheet.specs.Inner.{writeEnd}
 use Rattle.sheet.specs.Laws.RoundTrip.{Whole, whole-of}
 use Rattle.sheet.proofs.WrittenSheet.{groupsText, groups-length, groups-sets, refusal-line, write-refused, groups-fit, write-short, write-done, write-uneven, refusal-is}
 use Rattle.sheet.proofs.writer.write.Statement.{statement}
 use Rattle.sheet.proofs.writer.write.Tie as tie
-use Rattle.sheet.proofs.writer.write.Reads as reads
-use Rattle.sheet.proofs.writer.write.Lts as lts
-use Rattle.sheet.proofs.text.group_bytes.Reads as group-bytes-reads
-use Rattle.sheet.proofs.text.put_group.Reads as put-group-reads
-use Rattle.sheet.proofs.writer.judge_groups.Reads as judge-groups-reads
-use Rattle.sheet.proofs.writer.refuse.Reads as refuse-reads
 
 refuse-requires : tie.Need-refuse-requires
 refuse-requires c κs = search needs
