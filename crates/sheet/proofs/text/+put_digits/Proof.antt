@@ -1,7 +1,6 @@
 -- `sheet::text::put_digits` meets its contract: by recursion on the count of digits that are left.
 -- Assumes nothing.
 use mathlib.Core.Path.{refl, ap}
-use Prim.Native.Nat.{_+_, _-_}
 use native.Mathlib.Omega.{arith}
 use native.Mathlib.Nat.{add-zero}
 use lib.ListN.{length, length-set}
