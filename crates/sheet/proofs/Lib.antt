@@ -1,4 +1,7 @@
 pub mod Three
+pub mod Written
+pub mod PutText
+pub mod GroupJudged
 pub mod Table
 pub mod Digits
 pub mod Parts
@@ -10,3 +13,4 @@ pub mod Tallies
 pub mod Stores
 pub mod GroupStores
 pub mod Reading
+pub mod WrittenSheet

@@ -89,19 +89,19 @@ some-lines (l ∷ a) (m ∷ b) e =
     ap₂ (λ (j : Line) (ls : List Line). j ∷ ls) x (some-lines a b y)
 
 -- lines that are loaded all pass
-judged-lines : (ls : List Line) (s : Sheet) → judge [] (map some ls) ≡ loaded s → Passes [] ls × (s ≡ sheetOf ls)
+pub judged-lines : (ls : List Line) (s : Sheet) → judge [] (map some ls) ≡ loaded s → Passes [] ls × (s ≡ sheetOf ls)
 judged-lines ls s e =
     let j = judge-passes [] (map some ls) s e in
     let z : j .lines ≡ ls = some-lines (j .lines) ls (sym (j .all-lines)) in
     (subst (λ (k : List Line). Passes [] k) z (j .passes), j .sheet ∙ ap sheetOf z)
 
 -- the groups of a sheet hold as many numbers a line as their kinds have
-record Widths (s : Sheet) : Type 0 where
-  seven : length (s .head) ≡ 7
-  five : Wide 5 (s .corridors)
-  three : Wide 3 (s .occupancies)
+pub record Widths (s : Sheet) : Type 0 where
+  pub seven : length (s .head) ≡ 7
+  pub five : Wide 5 (s .corridors)
+  pub three : Wide 3 (s .occupancies)
 
-widths-shaped : (s : Sheet) → Widths s → AllShaped (sheetLines s)
+pub widths-shaped : (s : Sheet) → Widths s → AllShaped (sheetLines s)
 widths-shaped s w l (inl e) = rw e (record { known = inl refl; count = w .seven })
 widths-shaped s w l (inr m) = ⊎-elim of-c of-o (mem-append l (map (line kindC) (s .corridors)) (map (line kindO) (s .occupancies)) m)
   where
@@ -130,13 +130,23 @@ or-false false y e = (refl, e)
 or-false true y e = absurd (true≢false e)
 
 -- the groups make whole lines
-record Whole (h cs os : List ℕ) : Type 0 where
-  seven : length h ≡ 7
-  five : length cs % 5 ≡ 0
-  three : length os % 3 ≡ 0
+pub record Whole (h cs os : List ℕ) : Type 0 where
+  pub seven : length h ≡ 7
+  pub five : length cs % 5 ≡ 0
+  pub three : length os % 3 ≡ 0
 
-abbrev groupsJudged : List ℕ → List ℕ → List ℕ → Outcome
+abbrev pub groupsJudged : List ℕ → List ℕ → List ℕ → Outcome
 groupsJudged h cs os = judge [] (map some (sheetLines (sheetOfGroups h cs os)))
+
+pub whole-of : (h cs os : List ℕ) → not (eqb (length h) 7) || leftOver kindC cs || leftOver kindO os ≡ false → Whole h cs os
+whole-of h cs os q =
+    let a = or-false (not (eqb (length h) 7) || leftOver kindC cs) (leftOver kindO os) q in
+    let b = or-false (not (eqb (length h) 7)) (leftOver kindC cs) (a .0) in
+    record {
+      seven = eqb-true (length h) 7 (not-false (eqb (length h) 7) (b .0));
+      five = eqb-true (length cs % 5) 0 (not-false (eqb (length cs % 5) 0) (b .1));
+      three = eqb-true (length os % 3) 0 (not-false (eqb (length os % 3) 0) (a .1));
+    }
 
 -- what a writer's answer 0 comes from
 record Accepted (h cs os out : List ℕ) : Type 0 where
@@ -145,7 +155,7 @@ record Accepted (h cs os out : List ℕ) : Type 0 where
   judged : groupsJudged h cs os ≡ loaded sheet
   end : writeCall h cs os out ≡ writtenAll (sheetText sheet) out
 
-whole-judged : (h cs os out : List ℕ) → Whole h cs os → writeCall h cs os out ≡ writeJudged (groupsJudged h cs os) out
+pub whole-judged : (h cs os out : List ℕ) → Whole h cs os → writeCall h cs os out ≡ writeJudged (groupsJudged h cs os) out
 unfolding writeCall
 whole-judged h cs os out w = rw (eq-eqb (length h) 7 (w .seven), eq-eqb (length cs % 5) 0 (w .five), eq-eqb (length os % 3) 0 (w .three))
 
@@ -167,26 +177,16 @@ write-accepted : (h cs os out : List ℕ) → writeCall h cs os out .answer .ref
 unfolding writeCall
 write-accepted h cs os out e = go (not (eqb (length h) 7) || leftOver kindC cs || leftOver kindO os) refl e
   where
-    whole-of : not (eqb (length h) 7) || leftOver kindC cs || leftOver kindO os ≡ false → Whole h cs os
-    whole-of q =
-        let a = or-false (not (eqb (length h) 7) || leftOver kindC cs) (leftOver kindO os) q in
-        let b = or-false (not (eqb (length h) 7)) (leftOver kindC cs) (a .0) in
-        record {
-          seven = eqb-true (length h) 7 (not-false (eqb (length h) 7) (b .0));
-          five = eqb-true (length cs % 5) 0 (not-false (eqb (length cs % 5) 0) (b .1));
-          three = eqb-true (length os % 3) 0 (not-false (eqb (length os % 3) 0) (a .1));
-        }
-
     go : (t : Bool) → not (eqb (length h) 7) || leftOver kindC cs || leftOver kindO os ≡ t
         → (pick t (writeRefused 2 0 out) (writeJudged (groupsJudged h cs os) out)) .answer .refusal ≡ 0 → Accepted h cs os out
     go true q e = absurd (omega arith)
     go false q e =
-        let w = whole-of q in
+        let w = whole-of h cs os q in
         let r = outcome-loaded h cs os out (groupsJudged h cs os) refl e in
         record { whole = w; sheet = r .0; judged = r .1; end = whole-judged h cs os out w ∙ r .2 }
 
 -- the groups of numbers and the sheet of them
-groups-widths : (h cs os : List ℕ) → Whole h cs os → Widths (sheetOfGroups h cs os)
+pub groups-widths : (h cs os : List ℕ) → Whole h cs os → Widths (sheetOfGroups h cs os)
 groups-widths h cs os w = record { seven = w .seven; five = rows-wide 5 cs; three = rows-wide 3 os }
 
 flat-sheet : (s : Sheet) → Widths s → sheetOfGroups (s .head) (flat (s .corridors)) (flat (s .occupancies)) ≡ s

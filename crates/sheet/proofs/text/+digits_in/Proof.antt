@@ -1,3 +1,9 @@
+-- `sheet::text::digits_in` meets its contract: by recursion on the count of digits that are left.
+-- Assumes nothing.
+use native.Mathlib.Omega.{arith}
+use mathlib.Core.Path.{ap}
+use lib.ListN.{length}
+use Rattle.sheet.proofs.Written.{digits-none, digits-small, digits-big-length}
 use Prim.Native.Nat.{ℕ, _<_}
 use borrow.Fn.Kinds.{In}
 use borrow.Fn.PlainCycle.{Measures, is, falls, and}
@@ -8,7 +14,7 @@ use Rattle.sheet.proofs.text.+digits_in.{statement}
 use Rattle.sheet.proofs.text.+digits_in.Tie.{close}
 
 abbrev μ-digits-in : Measures 0 digits-in-kinds.ps ℕ
-μ-digits-in κs a = ?
+μ-digits-in κs a = a .1 .0
 
 abbrev digits-in-at : ℕ → In 0 digits-in-kinds.ps
 digits-in-at t = and 0 digits-in-kinds.ps (is 0 digits-in-kinds.ps μ-digits-in t) digits-in.Pre
@@ -17,52 +23,49 @@ abbrev digits-in-below : ℕ → In 0 digits-in-kinds.ps
 digits-in-below t =
     and 0 digits-in-kinds.ps (falls 0 digits-in-kinds.ps _<_ μ-digits-in t) digits-in.Pre
 
--- src/text.rt:37:9
 digits-in-returns :
     (t : ℕ) →
     digits-in-lts.Need-returns (digits-in-below t, digits-in.Post) (digits-in-at t) digits-in.Post
-digits-in-returns t c = ?
+digits-in-returns t c = let e = ap length (digits-none (c .before .args .most) (c .before .args .n) (c .if1 .taken)) in (omega arith, omega arith)
 
--- src/text.rt:40:9
 digits-in-returns-2 :
     (t : ℕ) →
     digits-in-lts.Need-returns-2
     (digits-in-below t, digits-in.Post)
     (digits-in-at t)
     digits-in.Post
-digits-in-returns-2 t c = ?
+digits-in-returns-2 t c = let e = ap length (digits-small (c .before .before .args .most) (c .before .before .args .n) (c .before .if1 .left) (c .if2 .taken)) in (omega arith, omega arith)
 
--- src/text.rt:42:23
 digits-in-sub-digits-in : (t : ℕ) → digits-in-lts.Need-sub-digits-in (
   digits-in-below t,
   digits-in.Post,
 ) (digits-in-at t) digits-in.Post
-digits-in-sub-digits-in t c = ?
+digits-in-sub-digits-in t c = omega arith
 
--- src/text.rt:42:5
 digits-in-digits-in-requires : (t : ℕ) → digits-in-lts.Need-digits-in-requires (
   digits-in-below t,
   digits-in.Post,
 ) (digits-in-at t) digits-in.Post
-digits-in-digits-in-requires t c κs = ?
+digits-in-digits-in-requires t c κs = omega arith
 
--- src/text.rt:42:5
 digits-in-add-result :
     (t : ℕ) →
     digits-in-lts.Need-add-result
     (digits-in-below t, digits-in.Post)
     (digits-in-at t)
     digits-in.Post
-digits-in-add-result t c = ?
+digits-in-add-result t c = omega arith
 
--- src/text.rt:33:1
 digits-in-returns-3 :
     (t : ℕ) →
     digits-in-lts.Need-returns-3
     (digits-in-below t, digits-in.Post)
     (digits-in-at t)
     digits-in.Post
-digits-in-returns-3 t c = ?
+digits-in-returns-3 t c =
+    let a = c .before .before .before in
+    let e = digits-big-length (a .args .most) (a .args .n) (c .before .before .if1 .left) (c .before .if2 .left) in
+    (omega arith, omega arith)
 
 pub +digits-in-spec : {M : Type 1} → statement M
 +digits-in-spec =

@@ -1,3 +1,11 @@
+-- `sheet::text::put_digits` meets its contract: by recursion on the count of digits that are left.
+-- Assumes nothing.
+use mathlib.Core.Path.{refl, ap}
+use native.Mathlib.Omega.{arith}
+use native.Mathlib.Nat.{add-zero}
+use lib.ListN.{length, length-set}
+use Rattle.sheet.proofs.Stores.{sets-append}
+use Rattle.sheet.proofs.Written.{digits-none, digits-small, digits-big, digits-big-length}
 use Prim.Native.Nat.{ℕ, _<_}
 use borrow.Fn.Kinds.{In}
 use borrow.Fn.PlainCycle.{Measures, is, falls, and}
@@ -8,7 +16,7 @@ use Rattle.sheet.proofs.text.+put_digits.{statement}
 use Rattle.sheet.proofs.text.+put_digits.Tie.{close}
 
 abbrev μ-put-digits : Measures 1 put-digits-kinds.ps ℕ
-μ-put-digits κs a = ?
+μ-put-digits κs a = a .1 .1 .1 .0
 
 abbrev put-digits-at : ℕ → In 1 put-digits-kinds.ps
 put-digits-at t =
@@ -18,116 +26,111 @@ abbrev put-digits-below : ℕ → In 1 put-digits-kinds.ps
 put-digits-below t =
     and 1 put-digits-kinds.ps (falls 1 put-digits-kinds.ps _<_ μ-put-digits t) put-digits.Pre
 
--- src/text.rt:21:9
 put-digits-returns :
     (t : ℕ) →
     put-digits-lts.Need-returns
     (put-digits-below t, put-digits.Post)
     (put-digits-at t)
     put-digits.Post
-put-digits-returns t c = ?
+put-digits-returns t c = rw (digits-none _ _ (c .if1 .taken)) (rw add-zero refl, refl)
 
--- src/text.rt:24:24
 put-digits-cast-out :
     (t : ℕ) →
     put-digits-lts.Need-cast-out
     (put-digits-below t, put-digits.Post)
     (put-digits-at t)
     put-digits.Post
-put-digits-cast-out t c = ?
+put-digits-cast-out t c = omega arith
 
--- src/text.rt:24:19
 put-digits-add-out :
     (t : ℕ) →
     put-digits-lts.Need-add-out
     (put-digits-below t, put-digits.Post)
     (put-digits-at t)
     put-digits.Post
-put-digits-add-out t c = ?
+put-digits-add-out t c = omega arith
 
--- src/text.rt:24:9
 put-digits-slice-write-out : (t : ℕ) → put-digits-lts.Need-slice-write-out (
   put-digits-below t,
   put-digits.Post,
 ) (put-digits-at t) put-digits.Post
-put-digits-slice-write-out t c = ?
+put-digits-slice-write-out t c = omega (arith, ap length (digits-small _ _ (c .before .if1 .left) (c .if2 .taken)))
 
--- src/text.rt:25:16
 put-digits-add-result : (t : ℕ) → put-digits-lts.Need-add-result (
   put-digits-below t,
   put-digits.Post,
 ) (put-digits-at t) put-digits.Post
-put-digits-add-result t c = ?
+put-digits-add-result t c = omega (arith, ap length (digits-small _ _ (c .before .if1 .left) (c .if2 .taken)))
 
--- src/text.rt:25:9
 put-digits-same-length : (t : ℕ) → put-digits-lts.Need-same-length (
   put-digits-below t,
   put-digits.Post,
 ) (put-digits-at t) put-digits.Post
-put-digits-same-length t c = ?
+put-digits-same-length t c = simp length-set
 
--- src/text.rt:25:9
 put-digits-returns-2 : (t : ℕ) → put-digits-lts.Need-returns-2 (
   put-digits-below t,
   put-digits.Post,
 ) (put-digits-at t) put-digits.Post
-put-digits-returns-2 t c = ?
+put-digits-returns-2 t c = rw (digits-small _ _ (c .before .if1 .left) (c .if2 .taken)) (refl, refl)
 
--- src/text.rt:27:44
 put-digits-sub-put-digits : (t : ℕ) → put-digits-lts.Need-sub-put-digits (
   put-digits-below t,
   put-digits.Post,
 ) (put-digits-at t) put-digits.Post
-put-digits-sub-put-digits t c = ?
+put-digits-sub-put-digits t c = omega arith
 
--- src/text.rt:27:9
 put-digits-put-digits-requires : (t : ℕ) → put-digits-lts.Need-put-digits-requires (
   put-digits-below t,
   put-digits.Post,
 ) (put-digits-at t) put-digits.Post
-put-digits-put-digits-requires t c κs = ?
+put-digits-put-digits-requires t c κs = (omega arith, omega (arith, digits-big-length _ _ (c .before .before .if1 .left) (c .before .if2 .left)))
 
--- src/text.rt:28:22
 put-digits-cast-out-2 : (t : ℕ) → put-digits-lts.Need-cast-out-2 (
   put-digits-below t,
   put-digits.Post,
 ) (put-digits-at t) put-digits.Post
-put-digits-cast-out-2 t c = ?
+put-digits-cast-out-2 t c = omega arith
 
--- src/text.rt:28:17
 put-digits-add-out-2 : (t : ℕ) → put-digits-lts.Need-add-out-2 (
   put-digits-below t,
   put-digits.Post,
 ) (put-digits-at t) put-digits.Post
-put-digits-add-out-2 t c = ?
+put-digits-add-out-2 t c = omega arith
 
--- src/text.rt:28:5
 put-digits-slice-write-out-2 : (t : ℕ) → put-digits-lts.Need-slice-write-out-2 (
   put-digits-below t,
   put-digits.Post,
 ) (put-digits-at t) put-digits.Post
-put-digits-slice-write-out-2 t c = ?
+put-digits-slice-write-out-2 t c =
+    let x = c .before .before in
+    omega (arith, digits-big-length _ _ (x .before .before .before .if1 .left) (x .before .before .if2 .left), x .put-digits .kept .0)
 
--- src/text.rt:29:5
 put-digits-add-result-2 : (t : ℕ) → put-digits-lts.Need-add-result-2 (
   put-digits-below t,
   put-digits.Post,
 ) (put-digits-at t) put-digits.Post
-put-digits-add-result-2 t c = ?
+put-digits-add-result-2 t c =
+    let x = c .before .before in
+    omega (arith, digits-big-length _ _ (x .before .before .before .if1 .left) (x .before .before .if2 .left), x .put-digits .kept .0)
 
--- src/text.rt:16:1
 put-digits-same-length-2 : (t : ℕ) → put-digits-lts.Need-same-length-2 (
   put-digits-below t,
   put-digits.Post,
 ) (put-digits-at t) put-digits.Post
-put-digits-same-length-2 t c = ?
+put-digits-same-length-2 t c =
+    let x = c .before .before in
+    simp length-set (x .put-digits .kept .0)
 
--- src/text.rt:16:1
 put-digits-returns-3 : (t : ℕ) → put-digits-lts.Need-returns-3 (
   put-digits-below t,
   put-digits.Post,
 ) (put-digits-at t) put-digits.Post
-put-digits-returns-3 t c = ?
+put-digits-returns-3 t c =
+    let x = c .before .before in (
+      omega (arith, digits-big-length _ _ (x .before .before .before .if1 .left) (x .before .before .if2 .left)),
+      rw (x .put-digits .ensures .1, x .put-digits .ensures .0, digits-big _ _ (x .before .before .before .if1 .left) (x .before .before .if2 .left), sets-append),
+    )
 
 pub +put-digits-spec : {M : Type 1} → statement M
 +put-digits-spec = close μ-put-digits λ t. put-digits-lts.spec (
