@@ -1,8 +1,8 @@
 -- Arrivals and leading arrivals (document 01, "Safe intervals and leading arrivals"; 001: labels, definition 2), and the arrivals table.
 use mathlib.Core.Path.{_≡_}
 use mathlib.Core.Logic.{_≢_}
-use mathlib.Core.Bool.{Bool, true, false, not, _&&_}
-use mathlib.Core.List.{List, [], _∷_, _++_, map}
+use mathlib.Core.Bool.{Bool, not, _&&_}
+use mathlib.Core.List.{List, _∷_, _++_, map}
 use Prim.Native.Nat.{ℕ, zero, suc, _-_, _≤_, _/_}
 use lib.Dec.{eqb, leb, ltb}
 use lib.ListN.{length}

@@ -5,7 +5,6 @@ use mathlib.Core.List.{List, [], _∷_}
 use mathlib.Core.Option.{Option, some, none}
 use Prim.Native.Nat.{ℕ}
 use lib.Dec.{eqb}
-use mathlib.Core.Bool.{Bool, _&&_}
 use Rattle.sheet.specs.Lists.{_∈_, filter, numbersFrom}
 use Rattle.sheet.specs.Sheet.{Sheet, from, to}
 use Rattle.sheet.specs.declared.Place.{Place}

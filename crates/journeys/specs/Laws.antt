@@ -4,6 +4,9 @@ pub mod Front
 pub mod Goal
 pub mod Exact
 pub mod Tie
+pub mod Horizon
 pub mod Served
 pub mod Demand3
+pub mod Page
 pub mod Marked
+pub mod Boundary

@@ -1,6 +1,5 @@
 -- The page that the program prints, as bytes (document 01, "What is handed back": `F,costs,arrivals`, then for each cost
 -- `J,c1,c2,c3,arrival` and `P,` with the places; a refusal is `R,number,line` alone).
-use mathlib.Core.Bool.{Bool}
 use mathlib.Core.List.{List, [], _∷_, _++_}
 use Prim.Native.Nat.{ℕ, _*_}
 use lib.ListN.{length}

@@ -13,3 +13,5 @@ pub mod Groups
 pub mod Valid
 pub mod TextBound
 pub mod RoundTrip
+pub mod Ascii
+pub mod Boundary

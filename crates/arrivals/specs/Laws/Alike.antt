@@ -1,9 +1,8 @@
 -- What the leading arrivals depend on: the start, the horizon, the waiting costs, the crossings, and which places are free at which steps within
 -- the horizon. So the goal plays no part, and a step past T has no effect.
-use mathlib.Core.Path.{_≡_, refl, sym, _∙_, ap, subst}
-use mathlib.Core.Logic.{_↔_}
+use mathlib.Core.Path.{_≡_, refl, sym, _∙_, subst}
 use mathlib.Core.List.{List}
-use Prim.Native.Nat.{ℕ, zero, suc, _-_, _≤_, _<_}
+use Prim.Native.Nat.{ℕ, suc, _-_, _≤_}
 use native.Mathlib.Omega.{arith}
 use lib.ListN.{set}
 use lib.Seq.{getD-set-other}
@@ -12,10 +11,10 @@ use Rattle.sheet.specs.Sheet.{Sheet, steps, start}
 use Rattle.sheet.specs.Laws.Ascending.{ascending-unique}
 use Rattle.costs.specs.Costs.{Cost, add, times, AtMost}
 use Rattle.costs.specs.Moves.{waitOf, Crossing}
-use Rattle.intervals.specs.Intervals.{freeb, Free, Together}
+use Rattle.intervals.specs.Intervals.{freeb, Together}
 use Rattle.intervals.specs.Laws.Horizon.{SameWithin, same-back, same-interval, withinHorizon, past-horizon}
 use Rattle.arrivals.specs.Ways.{Move, waits, crosses, Way}
-use Rattle.arrivals.specs.Arrivals.{Arrival, keyOf, Arrives, waited, Leads, Leading, leading}
+use Rattle.arrivals.specs.Arrivals.{Arrival, keyOf, Arrives, Leads, Leading, leading}
 use Rattle.arrivals.specs.Laws.Leading.{leading-is, is-leading, leading-ascending}
 
 -- two sheets on which the same ways are lawful within the horizon

@@ -1,13 +1,12 @@
 -- On a valid sheet a move has one cost, and no figure of an arrival is above 255 times 60,000.
-use mathlib.Core.Path.{_≡_, refl, sym, _∙_, ap, subst}
-use Prim.Native.Nat.{ℕ, zero, suc, _+_, _*_, _≤_, _<_}
+use mathlib.Core.Path.{_≡_, sym, _∙_}
+use Prim.Native.Nat.{ℕ, zero, suc, _*_, _≤_, _<_}
 use mathlib.Core.List.{List}
 use native.Mathlib.Omega.{arith}
-use native.Mathlib.Nat.{mul-le-mul-right}
 use Rattle.sheet.specs.Lists.{number}
-use Rattle.sheet.specs.Sheet.{Sheet, steps}
+use Rattle.sheet.specs.Sheet.{Sheet}
 use Rattle.sheet.specs.Valid.{Valid}
-use Rattle.costs.specs.Costs.{Cost, fig, zeroCost, add}
+use Rattle.costs.specs.Costs.{Cost, fig}
 use Rattle.costs.specs.Laws.Figures.{fig-add, fig-zero}
 use Rattle.costs.specs.Laws.Moves.{wait-bounded, crossing-bounded, crossing-once, crossing-apart}
 use Rattle.arrivals.specs.Ways.{Move, waits, crosses, total, Way}

@@ -3,25 +3,25 @@
 use mathlib.Core.Path.{_≡_, refl, sym, _∙_, ap, subst}
 use mathlib.Core.Logic.{_⊎_, inl, inr, _≢_}
 use mathlib.Core.Bool.{Bool, true, false, not, _&&_, true≢false}
-use mathlib.Core.List.{List, [], _∷_, _++_, map, reverse}
-use Prim.Native.Nat.{ℕ, zero, suc, _+_, _-_, _*_, _≤_, _<_}
+use mathlib.Core.List.{List, _∷_, map, reverse}
+use Prim.Native.Nat.{ℕ, zero, suc, _+_, _-_, _*_, _≤_}
 use native.Mathlib.Omega.{arith}
 use lib.ListN.{length}
 use lib.Dec.{eqb, leb}
 use borrow.Author.Tests.{eqb-true, eq-eqb, eqb-false, leb-true, leb-false, le-leb, not-true}
-use Rattle.sheet.specs.Lists.{_∈_, number, filter, all, sortUnique, Ascending}
+use Rattle.sheet.specs.Lists.{_∈_, number, Ascending}
 use Rattle.sheet.specs.Sheet.{Sheet, steps}
 use Rattle.sheet.specs.Laws.Order.{and-true, true-and, decided}
 use Rattle.sheet.specs.Laws.Members.{mem-left, mem-right, mem-append, filter-mem, mem-filter, map-mem, mem-map, all-true, true-all, least-below, Least}
 use Rattle.sheet.specs.Laws.Ascending.{sortUnique-mem, mem-sortUnique, sortUnique-ascending, filter-ascending}
-use Rattle.costs.specs.Costs.{Cost, figures, fig, add, times, AtMost, atMostb, sameb}
+use Rattle.costs.specs.Costs.{Cost, figures, fig, times, AtMost, atMostb, sameb}
 use Rattle.costs.specs.Laws.Figures.{fig-add, fig-times, atMostb-true, at-most-atMostb, sameb-true, sameb-refl, at-most-refl, at-most-antisym}
 use Rattle.costs.specs.Moves.{waitOf}
-use Rattle.intervals.specs.Intervals.{Free, freeb, Run, runb, Together}
+use Rattle.intervals.specs.Intervals.{Free, Run, runb}
 use Rattle.intervals.specs.Laws.Runs.{run-one, run-join, together-run, run-together, together-within, runb-true, run-runb}
-use Rattle.arrivals.specs.Ways.{Way, Walk, walks}
+use Rattle.arrivals.specs.Ways.{Way, walks}
 use Rattle.arrivals.specs.Arrivals.{Arrival, arrival, keyOf, Arrives, waited, Leads, Leading, leadsb, atStep, arrivalsTo, arrivals, unledb, leading}
-use Rattle.arrivals.specs.Laws.Trails.{Trail, backward, walks-trail, trail-walks, trail-three, trail-free, Made, trail-way, Traced, way-trail}
+use Rattle.arrivals.specs.Laws.Trails.{Trail, walks-trail, trail-walks, trail-three, trail-way, way-trail}
 
 pub arrival-path : (a b : Arrival) → a .place ≡ b .place → a .step ≡ b .step → a .cost ≡ b .cost → a ≡ b
 arrival-path a b p q r = λ i. record { place = p i; step = q i; cost = r i }

@@ -1,21 +1,21 @@
 -- Ways read backwards. A trail is a list of places, the last step first, so that a way one step longer has one place more in front: the
 -- form that proofs go by. The enumeration lists exactly the trails, and a trail turned round is exactly a way.
 use mathlib.Core.Path.{_≡_, refl, sym, _∙_, ap, subst}
-use mathlib.Core.Logic.{_⊎_, inl, inr, _≢_}
+use mathlib.Core.Logic.{_⊎_, inl, inr}
 use mathlib.Core.Bool.{Bool, true, false}
-use mathlib.Core.List.{List, [], _∷_, _++_, map, reverse, reverse-cons, reverse-append, append-nil}
+use mathlib.Core.List.{List, [], _∷_, _++_, reverse, reverse-cons, reverse-append}
 use Prim.Native.Nat.{ℕ, zero, suc, _+_, _≤_, _<_}
 use native.Mathlib.Omega.{arith}
 use lib.Dec.{eqb, ltb}
-use lib.ListN.{length, getD, take, length-append, length-reverse, List·getD-append}
+use lib.ListN.{length, take, length-append, length-reverse, List·getD-append}
 use lib.Seq.{take-suc, take-all, getD-take, getD-append-seam, length-take-le}
-use borrow.Author.Tests.{eqb-true, eqb-false, eq-eqb, ne-eqb, ltb-true, ltb-false}
-use Rattle.sheet.specs.Lists.{_∈_, pick, number, keep, filter, bind}
+use borrow.Author.Tests.{eq-eqb, ne-eqb, ltb-true, ltb-false}
+use Rattle.sheet.specs.Lists.{_∈_, pick, number, filter}
 use Rattle.sheet.specs.Sheet.{Sheet, start, to}
 use Rattle.sheet.specs.Laws.Members.{mem-bind, bind-mem, mem-map, map-mem, mem-keep, keep-head, filter-mem, mem-filter}
 use Rattle.costs.specs.Costs.{Cost, figures, zeroCost, add}
 use Rattle.costs.specs.Laws.Figures.{length-add}
-use Rattle.costs.specs.Moves.{waitOf, costOf, Crossing, leaving}
+use Rattle.costs.specs.Moves.{waitOf, costOf, leaving}
 use Rattle.costs.specs.Laws.Moves.{wait-three, crossing-three, leaving-crossing, crossing-leaving}
 use Rattle.intervals.specs.Intervals.{Free, freeb}
 use Rattle.arrivals.specs.Ways.{Move, waits, crosses, total, Way, Walk, Target, across, targets, onward, grow, walks}
@@ -129,11 +129,6 @@ trail-three s [] g h = absurd h
 trail-three s (v ∷ []) g h = rw (h .nothing)
 trail-three s (v ∷ u ∷ p) g h =
     rw (h .sum) (length-add (h .before) (h .price) figures (trail-three s (u ∷ p) (h .before) (h .trail)) (move-three s u v (length p) (h .price) (h .move)))
-
--- the place of a trail is unoccupied at its step
-pub trail-free : (s : Sheet) (v : ℕ) (p : List ℕ) (g : Cost) → Trail s (v ∷ p) g → Free s v (length p)
-trail-free s v [] g h = h .free
-trail-free s v (u ∷ p) g h = h .free
 
 -- a trail turned round is a way: one step more
 total-same : (f g : ℕ → Cost) (n : ℕ) → ((t : ℕ) → t < n → f t ≡ g t) → total f n ≡ total g n

@@ -1,15 +1,14 @@
 -- Laws of costs, each shown for the figure at any position: sums and multiples, the order figure by figure and dominance, with their tests.
 use mathlib.Core.Path.{_≡_, refl, sym, _∙_, ap, subst}
-use mathlib.Core.Logic.{_⊎_, inl, inr}
 use mathlib.Core.Bool.{Bool, true, false, not, _&&_, true≢false}
 use mathlib.Core.List.{List, [], _∷_}
 use Prim.Native.Nat.{ℕ, zero, suc, _+_, _*_, _≤_, _<_}
 use native.Mathlib.Omega.{arith}
-use lib.Dec.{leb, ltb, eqb}
-use lib.ListN.{length, getD, List·getD-eq-default}
+use lib.Dec.{leb, eqb}
+use lib.ListN.{length}
 use lib.Seq.{ext-getD}
-use borrow.Author.Tests.{ltb-true, ltb-false, leb-true, leb-false, eqb-true, le-leb, eq-eqb, not-true}
-use Rattle.sheet.specs.Laws.Order.{split, and-true, true-and, decided}
+use borrow.Author.Tests.{leb-true, leb-false, eqb-true, le-leb, eq-eqb, not-true}
+use Rattle.sheet.specs.Laws.Order.{and-true, true-and, decided}
 use Rattle.costs.specs.Costs.{Cost, figures, fig, zeroCost, add, times, AtMost, Dominates, atMostb, dominatesb, sameb}
 
 pub fig-add : (a b : Cost) (i : ℕ) → fig (add a b) i ≡ fig a i + fig b i
@@ -83,22 +82,8 @@ dominates-irrefl a p = omega (arith, p .smaller)
 pub zero-right : (g : Cost) → length g ≡ figures → add g zeroCost ≡ g
 zero-right g l = same-figures (add g zeroCost) g (length-add g zeroCost figures l refl ∙ sym l) (λ i. omega (arith, fig-add g zeroCost i, fig-zero i))
 
-pub zero-left : (g : Cost) → length g ≡ figures → add zeroCost g ≡ g
-zero-left g l = same-figures (add zeroCost g) g (length-add zeroCost g figures refl l ∙ sym l) (λ i. omega (arith, fig-add zeroCost g i, fig-zero i))
-
-pub cancel-left : (a b c : Cost) → length b ≡ length c → add a b ≡ add a c → b ≡ c
-cancel-left a b c l e = same-figures b c l (λ i. omega (arith, fig-add a b i, fig-add a c i, ap (λ (x : Cost). fig x i) e))
-
 pub cancel-right : (a b c : Cost) → length a ≡ length b → add a c ≡ add b c → a ≡ b
 cancel-right a b c l e = same-figures a b l (λ i. omega (arith, fig-add a c i, fig-add b c i, ap (λ (x : Cost). fig x i) e))
-
-pub dominates-under : (a b c : Cost) → Dominates b c → Dominates (add a b) (add a c)
-dominates-under a b c d =
-    record {
-      at-most = record { every = λ i. omega (arith, fig-add a b i, fig-add a c i, d .at-most .every i) };
-      at = d .at;
-      smaller = omega (arith, fig-add a b (d .at), fig-add a c (d .at), d .smaller);
-    }
 
 -- the tests
 at-most-head : (x y : ℕ) (a b : Cost) → x ≤ y → AtMost a b → AtMost (x ∷ a) (y ∷ b)

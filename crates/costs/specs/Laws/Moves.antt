@@ -1,21 +1,20 @@
 -- Laws of waits and crossings: all that the crates above know of the definitions. A cost has three figures; what leaves a place crosses;
 -- on a valid sheet a crossing has one cost, and no figure is above 60,000.
 use mathlib.Core.Path.{_≡_, refl, sym, _∙_, ap, subst}
-use mathlib.Core.Logic.{_↔_, _⊎_, inl, inr}
-use mathlib.Core.Bool.{Bool, true, false}
+use mathlib.Core.Logic.{inl}
+use mathlib.Core.Bool.{true}
 use mathlib.Core.List.{List, [], _∷_}
 use mathlib.Core.Option.{Option, some, none}
-use Prim.Native.Nat.{ℕ, zero, suc, _+_, _≤_, _<_}
+use Prim.Native.Nat.{ℕ, zero, suc, _≤_}
 use native.Mathlib.Omega.{arith}
 use lib.Dec.{eqb}
-use lib.ListN.{length, take, getD}
-use lib.Seq.{getD-take}
+use lib.ListN.{length, take}
 use borrow.Author.Tests.{eqb-true, eq-eqb}
-use Rattle.sheet.specs.Lists.{_∈_, filter, number, numbersFrom, Ascending}
+use Rattle.sheet.specs.Lists.{_∈_, filter, number, numbersFrom}
 use Rattle.sheet.specs.Laws.Members.{filter-mem, mem-filter}
 use Rattle.sheet.specs.Laws.Ascending.{ascending-once}
 use Rattle.sheet.specs.Sheet.{Sheet, from, to}
-use Rattle.sheet.specs.Valid.{Valid, ValidCorridor}
+use Rattle.sheet.specs.Valid.{Valid}
 use Rattle.sheet.specs.declared.Place.{Place}
 use Rattle.sheet.specs.declared.Step.{Step}
 use Rattle.costs.specs.Costs.{Cost, figures, fig}

@@ -1,6 +1,6 @@
 -- A place is free at a step where no line of the sheet occupies it, and occupied everywhere else.
 use mathlib.Core.Path.{_≡_, refl, sym, _∙_}
-use mathlib.Core.Logic.{_↔_, _⊎_, inl, inr}
+use mathlib.Core.Logic.{_↔_, inl, inr}
 use mathlib.Core.Bool.{Bool, true, false, not, _&&_, true≢false}
 use mathlib.Core.List.{List, [], _∷_}
 use Prim.Native.Nat.{ℕ, _≤_}
@@ -9,7 +9,7 @@ use borrow.Author.Tests.{eqb-true, eq-eqb, leb-true, le-leb, not-true}
 use Rattle.sheet.specs.Lists.{_∈_, all}
 use Rattle.sheet.specs.Sheet.{Sheet, placeOf, first, last}
 use Rattle.sheet.specs.Laws.Order.{and-true, true-and}
-use Rattle.sheet.specs.Laws.Members.{all-true, true-all}
+use Rattle.sheet.specs.Laws.Members.{all-true}
 use Rattle.intervals.specs.Intervals.{Occupied, occupiesb, freeb, Free}
 
 -- the line o occupies place v at step t

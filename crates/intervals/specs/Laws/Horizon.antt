@@ -1,17 +1,17 @@
 -- "A step past T has no effect" (document 01, "The sheet"): with the occupancies cut off at the horizon, every place is free at the same
 -- steps within 0 to T, and has the same safe intervals.
-use mathlib.Core.Path.{_≡_, refl, sym, _∙_, ap, subst}
+use mathlib.Core.Path.{_≡_, refl, sym, _∙_}
 use mathlib.Core.Logic.{_⊎_, inl, inr}
-use mathlib.Core.Bool.{Bool, true, false, not, _&&_, true≢false}
+use mathlib.Core.Bool.{Bool, true, false, not, _&&_}
 use mathlib.Core.List.{List, [], _∷_, map}
-use Prim.Native.Nat.{ℕ, _+_, _-_, _≤_, _<_}
+use Prim.Native.Nat.{ℕ, _+_, _-_, _≤_}
 use native.Mathlib.Omega.{arith}
 use lib.Dec.{leb}
-use borrow.Author.Tests.{leb-true, leb-false, le-leb}
-use Rattle.sheet.specs.Lists.{_∈_, pick, keep, filter, all}
+use borrow.Author.Tests.{leb-true, leb-false}
+use Rattle.sheet.specs.Lists.{pick, keep, filter, all}
 use Rattle.sheet.specs.Sheet.{Sheet, steps, placeOf, first, last}
-use Rattle.intervals.specs.Intervals.{occupiesb, freeb, Free, Interval}
-use Rattle.intervals.specs.Laws.Free.{Occupies, occupiesb-true, occupies-occupiesb}
+use Rattle.intervals.specs.Intervals.{occupiesb, freeb, Interval}
+use Rattle.intervals.specs.Laws.Free.{occupiesb-true, occupies-occupiesb}
 
 -- two sheets with one horizon, whose places are free at the same steps within it
 pub record SameWithin (s r : Sheet) : Type 0 where

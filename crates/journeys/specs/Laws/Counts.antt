@@ -1,9 +1,8 @@
 -- Which arrivals at the goal count: all that the rest knows of the definition.
 use mathlib.Core.Path.{_≡_}
-use mathlib.Core.Bool.{Bool, true, false}
+use mathlib.Core.Bool.{true}
 use Prim.Native.Nat.{ℕ, _≤_}
 use native.Mathlib.Omega.{arith}
-use lib.Dec.{leb}
 use borrow.Author.Tests.{leb-true, le-leb}
 use Rattle.sheet.specs.Sheet.{Sheet, steps, goal}
 use Rattle.intervals.specs.Intervals.{Run}

@@ -16,7 +16,7 @@ use Rattle.journeys.specs.Calls.{FrontEnd, frontServed, frontCall}
 use Rattle.journeys.specs.Demand3.{figureAt, SameLists, MeetsRead, CanMeet}
 use Rattle.journeys.specs.Laws.Journeys.{has-three}
 use Rattle.journeys.specs.Laws.Front.{front-on, same-front}
-use Rattle.journeys.specs.Laws.Served.{Fits, Served, served, listed}
+use Rattle.journeys.specs.Laws.Served.{Served, served, listed}
 
 -- the end e of a call on the sheet s: the count and the figures of the front
 record Handed (s : Sheet) (e : FrontEnd) : Type 0 where

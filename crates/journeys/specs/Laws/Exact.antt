@@ -2,15 +2,11 @@
 -- becomes it by waiting. Were the leading arrival lower, the front cost would be dominated. What lies ahead is read forwards from any place and
 -- step, over any relation of steps and any end.
 use mathlib.Core.Path.{_≡_, refl, sym, _∙_, ap, subst}
-use mathlib.Core.Logic.{_↔_, _⊎_, inl, inr, _≢_}
-use mathlib.Core.Bool.{Bool, true, false, _&&_}
-use mathlib.Core.List.{List, [], _∷_, _++_, map, reverse, reverse-reverse}
-use Prim.Native.Nat.{ℕ, zero, suc, _+_, _-_, _≤_, _<_}
+use mathlib.Core.Logic.{_↔_}
+use mathlib.Core.List.{List, [], _∷_}
+use Prim.Native.Nat.{ℕ, suc, _+_, _-_, _≤_}
 use native.Mathlib.Omega.{arith}
-use lib.ListN.{length, length-reverse}
-use lib.Seq.{append-snoc}
-use lib.Dec.{eqb, leb, ltb}
-use borrow.Author.Tests.{eqb-true, eq-eqb, eqb-false, leb-true, leb-false, ltb-true, ltb-false}
+use lib.ListN.{length}
 use Rattle.sheet.specs.Sheet.{Sheet, steps, goal}
 use Rattle.costs.specs.Costs.{Cost, zeroCost, fig, add, AtMost}
 use Rattle.costs.specs.Laws.Figures.{fig-add, add-assoc, zero-right, at-most-antisym, undominated-same}

@@ -2,21 +2,20 @@
 -- one of them, and the front is what none of their costs dominates. An arrival at the goal with a front cost is led by one of the same cost, since a
 -- lower cost would dominate.
 use mathlib.Core.Path.{_≡_, refl, sym, _∙_, ap, subst}
-use mathlib.Core.Logic.{_↔_, _⊎_, inl, inr, _≢_}
+use mathlib.Core.Logic.{_⊎_, inl, inr, _≢_}
 use mathlib.Core.Bool.{Bool, true, false, _&&_}
-use mathlib.Core.List.{List, [], _∷_, _++_, map, reverse, reverse-reverse}
-use Prim.Native.Nat.{ℕ, zero, suc, _+_, _-_, _≤_, _<_}
+use mathlib.Core.List.{List, map}
+use Prim.Native.Nat.{ℕ, _-_, _≤_, _<_}
 use native.Mathlib.Omega.{arith}
-use lib.ListN.{length, length-reverse}
-use lib.Seq.{append-snoc}
-use lib.Dec.{eqb, leb, ltb}
-use borrow.Author.Tests.{eqb-true, eq-eqb, eqb-false, leb-true, leb-false, ltb-true, ltb-false}
-use Rattle.sheet.specs.Lists.{_∈_, filter, Lex, Ascending}
-use Rattle.sheet.specs.Sheet.{Sheet, steps, goal}
+use lib.ListN.{length}
+use lib.Dec.{eqb}
+use borrow.Author.Tests.{eqb-true, eq-eqb, eqb-false}
+use Rattle.sheet.specs.Lists.{_∈_, filter, Lex}
+use Rattle.sheet.specs.Sheet.{Sheet, goal}
 use Rattle.sheet.specs.Laws.Order.{and-true, true-and}
 use Rattle.sheet.specs.Laws.Members.{filter-mem, mem-filter, map-mem, mem-map}
 use Rattle.sheet.specs.Laws.Ascending.{ascending-unique}
-use Rattle.costs.specs.Costs.{Cost, fig, AtMost, Dominates}
+use Rattle.costs.specs.Costs.{Cost, AtMost, Dominates}
 use Rattle.costs.specs.Laws.Figures.{undominated-same, at-most-dominates}
 use Rattle.arrivals.specs.Arrivals.{Arrival, arrival, Arrives, Leading, leading}
 use Rattle.arrivals.specs.Laws.Leading.{arrival-path, fig-waited, Led, led, leading-is, is-leading}

@@ -2,14 +2,14 @@
 -- tie rule selects one journey for each cost, which `journeyOf` computes.
 use mathlib.Core.Path.{_≡_, refl, sym, _∙_, ap, subst}
 use mathlib.Core.Logic.{_⊎_, inl, inr}
-use mathlib.Core.Bool.{Bool, true, false, _&&_}
-use mathlib.Core.List.{List, [], _∷_, _++_, map, reverse, reverse-reverse}
+use mathlib.Core.Bool.{Bool, true, false}
+use mathlib.Core.List.{List, [], _∷_, map, reverse, reverse-reverse}
 use Prim.Native.Nat.{ℕ, zero, suc, _≤_}
 use native.Mathlib.Omega.{arith}
 use lib.ListN.{length}
 use lib.Dec.{eqb, leb}
 use borrow.Author.Tests.{eqb-true, eq-eqb, leb-true, leb-false}
-use Rattle.sheet.specs.Lists.{_∈_, number, filter, Lex, sortUnique, Ascending}
+use Rattle.sheet.specs.Lists.{_∈_, filter, Lex, sortUnique, Ascending}
 use Rattle.sheet.specs.Sheet.{Sheet, steps, goal}
 use Rattle.sheet.specs.Valid.{Valid}
 use Rattle.sheet.specs.Laws.Order.{and-true, true-and, Lex-irrefl, Lex-trans}
@@ -17,8 +17,8 @@ use Rattle.sheet.specs.Laws.Members.{mem-left, mem-right, mem-append, filter-me
 use Rattle.sheet.specs.Laws.Ascending.{before-all, sortUnique-mem, mem-sortUnique, sortUnique-ascending}
 use Rattle.costs.specs.Costs.{Cost, figures, fig}
 use Rattle.costs.specs.Laws.Figures.{sameb-true, sameb-refl}
-use Rattle.arrivals.specs.Ways.{Way, Walk, walks}
-use Rattle.arrivals.specs.Laws.Trails.{Trail, walks-trail, trail-walks, Made, trail-way, Traced, way-trail, way-three}
+use Rattle.arrivals.specs.Ways.{Walk, walks}
+use Rattle.arrivals.specs.Laws.Trails.{Trail, walks-trail, trail-walks, trail-way, way-trail, way-three}
 use Rattle.arrivals.specs.Laws.Bounds.{way-bounded}
 use Rattle.journeys.specs.Journeys.{Counts, countsb, Journey, HasCost, rank, Selected, atGoal, journeysTo, journeys, pathOf, withCost, headOr, journeyOf}
 use Rattle.journeys.specs.Laws.Counts.{countsb-true, counts-countsb, counts-within}

@@ -1,15 +1,15 @@
 -- When a call of the front is served, and what it then hands back: refusal 0 exactly when the bytes read as a sheet, the leading arrivals fit the
 -- room of the table and the front costs fit the room of the list. So demand 3 is not empty talk.
-use mathlib.Core.Path.{_≡_, refl, sym, _∙_, ap, subst}
+use mathlib.Core.Path.{_≡_, refl, _∙_, ap}
 use mathlib.Core.Logic.{_↔_, inl, inr}
 use mathlib.Core.Bool.{Bool, true, false}
-use mathlib.Core.List.{List, [], _∷_, _++_, map}
+use mathlib.Core.List.{List, [], _∷_, map}
 use Prim.Native.Nat.{ℕ, zero, suc, _+_, _*_, _-_, _≤_, _<_}
 use native.Mathlib.Omega.{arith}
 use lib.Dec.{ltb}
-use lib.ListN.{length, getD, replicate, length-append, length-map, List·getD-append, List·getD-map}
-use borrow.Author.Tests.{ltb-true, ltb-false, le-ltb}
-use Rattle.sheet.specs.Lists.{_∈_, pick, number, filled, bind, flat}
+use lib.ListN.{length, getD, replicate, length-append, length-map, List·getD-append}
+use borrow.Author.Tests.{ltb-false, le-ltb}
+use Rattle.sheet.specs.Lists.{_∈_, pick, number, bind, flat}
 use Rattle.sheet.specs.Sheet.{Sheet, Outcome, refused, loaded, readOf}
 use Rattle.sheet.specs.Laws.Members.{map-mem}
 use Rattle.sheet.specs.Laws.Rows.{flat-length, flat-at, bind-flat}

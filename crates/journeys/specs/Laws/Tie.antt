@@ -1,15 +1,15 @@
 -- The tie rule read backwards: from the earliest arrival at the goal, at each step back the lowest place that can stand before, gives the journey
 -- that the tie rule selects. `Chain` is the invariant of that walk.
 use mathlib.Core.Path.{_≡_, refl, sym, _∙_, ap, subst}
-use mathlib.Core.Logic.{_↔_, _⊎_, inl, inr, _≢_}
-use mathlib.Core.Bool.{Bool, true, false, _&&_}
-use mathlib.Core.List.{List, [], _∷_, _++_, map, reverse, reverse-reverse}
-use Prim.Native.Nat.{ℕ, zero, suc, _+_, _-_, _≤_, _<_}
+use mathlib.Core.Logic.{_⊎_, inl, inr, _≢_}
+use mathlib.Core.Bool.{Bool, true, false}
+use mathlib.Core.List.{List, [], _∷_, _++_, reverse, reverse-reverse}
+use Prim.Native.Nat.{ℕ, suc, _+_, _-_, _≤_, _<_}
 use native.Mathlib.Omega.{arith}
 use lib.ListN.{length, length-reverse}
 use lib.Seq.{append-snoc}
 use lib.Dec.{eqb, leb, ltb}
-use borrow.Author.Tests.{eqb-true, eq-eqb, eqb-false, leb-true, leb-false, ltb-true, ltb-false}
+use borrow.Author.Tests.{eqb-true, eqb-false, leb-true, leb-false, ltb-true, ltb-false}
 use Rattle.sheet.specs.Lists.{Lex}
 use Rattle.sheet.specs.Sheet.{Sheet, steps, goal}
 use Rattle.costs.specs.Costs.{Cost, add}
@@ -20,7 +20,7 @@ use Rattle.arrivals.specs.Arrivals.{arrival, Arrives}
 use Rattle.arrivals.specs.Laws.Trails.{Begins, Trail, trail-three}
 use Rattle.arrivals.specs.Laws.Leading.{came-arrives}
 use Rattle.journeys.specs.Journeys.{Counts, Journey, rank, Selected, journeyOf}
-use Rattle.journeys.specs.Laws.Journeys.{Homeward, homeward-journey, Backward, journey-backward, backward-path, selected-unique, journeyOf-selected}
+use Rattle.journeys.specs.Laws.Journeys.{homeward-journey, Backward, journey-backward, backward-path, selected-unique, journeyOf-selected}
 use Rattle.journeys.specs.Laws.Goal.{AtGoal, journey-at}
 
 -- one cost for each move, as on every valid sheet (`move-once`)

@@ -1,7 +1,7 @@
 -- Laws of members: of appended lists, of filters and tests, of lists made member by member; and minimal members under a decided strict order.
 use mathlib.Core.Path.{_≡_, refl, sym, _∙_, ap, subst}
 use mathlib.Core.Logic.{_⊎_, inl, inr}
-use mathlib.Core.Bool.{Bool, true, false, _&&_, true≢false}
+use mathlib.Core.Bool.{Bool, true, false, true≢false}
 use mathlib.Core.List.{List, [], _∷_, _++_, map}
 use Rattle.sheet.specs.Lists.{_∈_, keep, filter, all, bind}
 use Rattle.sheet.specs.Laws.Order.{and-true, true-and}

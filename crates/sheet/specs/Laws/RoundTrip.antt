@@ -2,7 +2,7 @@
 -- Both ways the lines between are the same list, in shape and passing every test, of which sheet and text are each a one-to-one image.
 use mathlib.Core.Path.{_≡_, refl, sym, _∙_, ap, ap₂, subst}
 use mathlib.Core.Logic.{inl, inr, ⊎-elim, _≢_}
-use mathlib.Core.Bool.{Bool, true, false, not, _||_, true≢false}
+use mathlib.Core.Bool.{Bool, true, false, not, _||_}
 use mathlib.Core.List.{List, [], _∷_, _++_, map}
 use mathlib.Core.Option.{Option, some, none}
 use Prim.Native.Nat.{ℕ, suc, _*_, _/_, _%_, _≤_}
@@ -19,9 +19,10 @@ use Rattle.sheet.specs.Text.{lineText, sheetText}
 use Rattle.sheet.specs.Valid.{Valid}
 use Rattle.sheet.specs.Calls.{readAnswer, readCall, leftOver, sheetOfGroups, WriteEnd, writeRefused, written, writeJudged, writeCall}
 use Rattle.sheet.specs.Laws.Members.{mem-left, mem-right, mem-append, mem-map, map-mem}
+use Rattle.sheet.specs.Laws.Passed.{or-false}
 use Rattle.sheet.specs.Laws.Judge.{Passes, not-loaded, judge-passes, passes-judge}
 use Rattle.sheet.specs.Laws.Shape.{Shaped, AllShaped}
-use Rattle.sheet.specs.Laws.LineText.{Small, lines-back, lines-unread}
+use Rattle.sheet.specs.Laws.LineText.{lines-back, lines-unread}
 use Rattle.sheet.specs.Laws.Groups.{sheet-lines, lines-sheet}
 use Rattle.sheet.specs.Laws.Valid.{numbers-below, passes-valid, valid-shaped, valid-passes}
 use Rattle.sheet.specs.Laws.TextBound.{text-bound}
@@ -124,10 +125,6 @@ shaped-widths s h =
 -- the text t in the buffer
 abbrev pub writtenAll : List ℕ → List ℕ → WriteEnd
 writtenAll t out = record { answer = record { refusal = 0; line = 0; bytes = length t }; out = t ++ drop (length t) out }
-
-or-false : (x y : Bool) → x || y ≡ false → (x ≡ false) × (y ≡ false)
-or-false false y e = (refl, e)
-or-false true y e = absurd (true≢false e)
 
 -- the groups make whole lines
 pub record Whole (h cs os : List ℕ) : Type 0 where

@@ -1,7 +1,6 @@
 -- A line in shape: of a kind that a sheet may hold, with as many numbers as the kind has. Every line that is read is in shape.
 use mathlib.Core.Path.{_≡_}
 use mathlib.Core.List.{List}
-use Prim.Native.Nat.{ℕ}
 use lib.ListN.{length}
 use Rattle.sheet.specs.Lists.{_∈_}
 use Rattle.sheet.specs.Kinds.{kinds}
