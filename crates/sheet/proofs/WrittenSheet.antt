@@ -16,8 +16,8 @@ use Rattle.sheet.specs.Kinds.{kindS, kindC, kindO}
 use Rattle.sheet.specs.Lines.{Line, line}
 use Rattle.sheet.specs.Sheet.{Sheet, sheetOf, sheetLines, fault, Outcome, refused, loaded, judge}
 use Rattle.sheet.specs.Text.{lineText, sheetText}
-use Rattle.sheet.specs.Calls.{leftOver, sheetOfGroups, writeRefused, written, writeJudged, writeCall}
-use Rattle.sheet.specs.Inner.{JudgedGroup, refuses, passes, groupText, writeEnd}
+use Rattle.sheet.specs.Calls.{leftOver, sheetOfGroups, writeRefused, written, writeJudged, writeCall, writeEnd}
+use Rattle.sheet.specs.Inner.{JudgedGroup, refuses, passes, groupText}
 use Rattle.sheet.specs.Valid.{Valid}
 use Rattle.sheet.specs.declared.SheetWritten.{SheetWritten}
 use Rattle.sheet.specs.declared.judge.Verdict.{Verdict}

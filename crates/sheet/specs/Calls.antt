@@ -51,6 +51,9 @@ pub record WriteEnd : Type 0 where
   pub answer : SheetWritten
   pub out : List ℕ
 
+abbrev pub writeEnd : SheetWritten → List ℕ → WriteEnd
+writeEnd r out = record { answer = r; out = out }
+
 abbrev pub writeRefused : ℕ → ℕ → List ℕ → WriteEnd
 writeRefused k n out = record { answer = record { refusal = k; line = n; bytes = 0 }; out = out }
 

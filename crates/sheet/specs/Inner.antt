@@ -12,7 +12,7 @@ use Rattle.sheet.specs.Kinds.{Limit, between, place, Kind, kindS, kindC,
 use Rattle.sheet.specs.Lines.{Line, line}
 use Rattle.sheet.specs.Sheet.{isKind, group, placesIn, latest, fault, Outcome, refused, judge}
 use Rattle.sheet.specs.Text.{lineText}
-use Rattle.sheet.specs.Calls.{width, WriteEnd}
+use Rattle.sheet.specs.Calls.{width}
 use Rattle.sheet.specs.Laws.Shape.{AllShaped}
 use Rattle.sheet.specs.declared.lines.Number.{Number}
 use Rattle.sheet.specs.declared.lines.Number.the-variants.{Value, Bad}
@@ -20,7 +20,6 @@ use Rattle.sheet.specs.declared.lines.Numbers.{Numbers}
 use Rattle.sheet.specs.declared.lines.Parsed.{Parsed}
 use Rattle.sheet.specs.declared.judge.Tally.{Tally}
 use Rattle.sheet.specs.declared.judge.Verdict.{Verdict}
-use Rattle.sheet.specs.declared.SheetWritten.{SheetWritten}
 
 -- the kind of line with number k in the order of kinds
 abbrev pub kindAt : ℕ → Kind
@@ -117,7 +116,3 @@ groupLines k g = map (line (kindAt k)) (rows (width (kindAt k)) (length g / widt
 unfoldable pub groupText : ℕ → ℕ → List ℕ → List ℕ
 unfolding lineText
 groupText k n g = bind (map (line (kindAt k)) (rows (width (kindAt k)) n g)) lineText
-
--- the writer's answer with the buffer that it left
-abbrev pub writeEnd : SheetWritten → List ℕ → WriteEnd
-writeEnd r out = record { answer = r; out = out }

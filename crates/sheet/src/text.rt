@@ -10,7 +10,8 @@ ghost use Rattle.sheet.specs.Lines.{line};
 ghost use Rattle.sheet.specs.Text.{numberText, lineText};
 ghost use Rattle.sheet.specs.Calls.{width};
 ghost use Rattle.sheet.specs.Inner.{kindAt, groupText};
-use crate::kinds::{letter_of, width_of};
+use crate::kinds::letter_of;
+use crate::kinds::width_of;
 
 // Writes the digits of n, at most `most` of them, from `at` on; the position after them.
 pub fn put_digits(out: &mut [u8], at: usize, n: u32, most: usize) -> usize

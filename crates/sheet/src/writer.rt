@@ -5,12 +5,17 @@ ghost use Prim.Native.Nat.{ℕ, _+_, _≤_, _<_};
 ghost use lib.ListN.{length, take, drop};
 ghost use Rattle.sheet.specs.Lists.{filled};
 ghost use Rattle.sheet.specs.Sheet.{sheetLines};
-ghost use Rattle.sheet.specs.Calls.{sheetOfGroups, writeCall};
-ghost use Rattle.sheet.specs.Inner.{groupLines, GroupIs, JudgedGroup, writeEnd};
-use crate::judge::{fault_of, no_lines, with_line, Tally, Verdict};
-use crate::kinds::width_of;
-use crate::text::{group_bytes, put_group};
+ghost use Rattle.sheet.specs.Calls.{sheetOfGroups, writeCall, writeEnd};
+ghost use Rattle.sheet.specs.Inner.{groupLines, GroupIs, JudgedGroup};
 use crate::SheetWritten;
+use crate::judge::Tally;
+use crate::judge::Verdict;
+use crate::judge::fault_of;
+use crate::judge::no_lines;
+use crate::judge::with_line;
+use crate::kinds::width_of;
+use crate::text::group_bytes;
+use crate::text::put_group;
 
 // The numbers of g from `from` on, w of them, then zeros.
 fn row_at(g: &[u32], from: usize, w: usize) -> [u32; 8]
@@ -39,18 +44,30 @@ fn judge_group(t: Tally, k: usize, g: &[u32]) -> Verdict
         let v = row_at(g, i * w, w);
         let f = fault_of(tally, k, v);
         if f != 0 {
-            return Verdict { refusal: f, line: tally.lines + 1, tally };
+            return Verdict {
+                refusal: f,
+                line: tally.lines + 1,
+                tally,
+            };
         }
         tally = with_line(tally, k, v);
         i += 1;
     }
-    Verdict { refusal: 0, line: 0, tally }
+    Verdict {
+        refusal: 0,
+        line: 0,
+        tally,
+    }
 }
 
 fn refuse(number: u32, line: u32) -> SheetWritten
     ensures { λ r. ⌜ (r .refusal ≡ number) × (r .line ≡ line) × (r .bytes ≡ 0) ⌝ }
 {
-    SheetWritten { refusal: number, line, bytes: 0 }
+    SheetWritten {
+        refusal: number,
+        line,
+        bytes: 0,
+    }
 }
 
 // Judges the three groups as the lines of a sheet.
@@ -83,12 +100,18 @@ pub fn write(head: &[u32], corridors: &[u32], occupancies: &[u32], out: &mut [u8
     }
     let c = corridors.len() / 5;
     let o = occupancies.len() / 3;
-    let bytes = group_bytes(0, head, 1) + group_bytes(1, corridors, c) + group_bytes(2, occupancies, o);
+    let bytes = group_bytes(0, head, 1)
+        + group_bytes(1, corridors, c)
+        + group_bytes(2, occupancies, o);
     if out.len() < bytes {
         return refuse(12, 0);
     }
     let a = put_group(out, 0, 0, head, 1);
     let b = put_group(out, a, 1, corridors, c);
     put_group(out, b, 2, occupancies, o);
-    SheetWritten { refusal: 0, line: 0, bytes: bytes as u32 }
+    SheetWritten {
+        refusal: 0,
+        line: 0,
+        bytes: bytes as u32,
+    }
 }

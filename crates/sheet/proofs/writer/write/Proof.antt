@@ -8,7 +8,7 @@ use native.Mathlib.Omega.{arith}
 use lib.ListN.{length}
 use lib.Seq.{sets}
 use borrow.Author.Needs.{needs}
-use Rattle.sheet.specs.Inner.{writeEnd}
+use Rattle.sheet.specs.Calls.{writeEnd}
 use Rattle.sheet.specs.Laws.RoundTrip.{Whole, whole-of}
 use Rattle.sheet.proofs.WrittenSheet.{groupsText, groups-length, groups-sets, refusal-line, write-refused, groups-fit, write-short, write-done, write-uneven, refusal-is}
 use Rattle.sheet.proofs.writer.write.Statement.{statement}
