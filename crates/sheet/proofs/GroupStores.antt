@@ -100,10 +100,11 @@ module _ (k : ℕ) (h : k < 3) (v : List ℕ) (w : length v ≡ 8) (before : Lis
   module _ (z : fault before this ≡ 0) where
     few : length (group (kindAt k) before) < kindAt k .most
     few =
-        omega
-        (arith,
-        length-map (filter (isKind (kindAt k)) before) (λ l. l .numbers),
-        leb-false (kindAt k .most) (length (filter (isKind (kindAt k)) before)) (fault-passed before this z .few))
+        omega (
+          arith,
+          length-map (filter (isKind (kindAt k)) before) (λ l. l .numbers),
+          leb-false (kindAt k .most) (length (filter (isKind (kindAt k)) before)) (fault-passed before this z .few),
+        )
 
     -- the array of the line's kind, with its numbers stored after the others
     holds-same : (g : List ℕ) (at : ℕ) → at ≡ length (group (kindAt k) before) * width (kindAt k) → Holds before k g

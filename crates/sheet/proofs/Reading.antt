@@ -183,7 +183,7 @@ module _ {src head corridors occupancies ls : List ℕ} {t : Tally} {n at : ℕ}
         let s = sheetOf (R .before) in
         let q : sheetLines s ≡ R .before = lines-sheet (R .before) (R .stored .shaped) (R .passes) (omega (arith, R .counted)) in
         let z : group kindS (map (line kindC) (s .corridors) ++ map (line kindO) (s .occupancies)) ≡ [] =
-            rw (group-append kindS (map (line kindC) (s .corridors)) (map (line kindO) (s .occupancies)), group-other kindS kindC (s .corridors) (omega arith)) (group-other kindS kindO (s .occupancies) (omega arith))
+        rw (group-append kindS (map (line kindC) (s .corridors)) (map (line kindO) (s .occupancies)), group-other kindS kindC (s .corridors) (omega arith)) (group-other kindS kindO (s .occupancies) (omega arith))
         in
         ap (λ (l : List Line). length (group kindS l)) (sym q) ∙ ap (λ (g : List (List ℕ)). suc (length g)) z
 
@@ -193,6 +193,6 @@ module _ {src head corridors occupancies ls : List ℕ} {t : Tally} {n at : ℕ}
         let S = R .stored in
         let one : ls ≡ 1 ∷ length (group kindC (R .before)) ∷ length (group kindO (R .before)) ∷ [] = S .counts ∙ ap (λ (m : ℕ). m ∷ length (group kindC (R .before)) ∷ length (group kindO (R .before)) ∷ []) (one-head e) in
         let same : _≡_ {A = SheetRead} (record { refusal = 0; line = 0; lines = ls; head = head; corridors = corridors; occupancies = occupancies }) (readAnswer (loaded (sheetOf (R .before)))) =
-            λ i. record { refusal = 0; line = 0; lines = one i; head = S .of-s i; corridors = S .of-c i; occupancies = S .of-o i }
+        λ i. record { refusal = 0; line = 0; lines = one i; head = S .of-s i; corridors = S .of-c i; occupancies = S .of-o i }
         in
         same ∙ answers src (loaded (sheetOf (R .before))) (all-loaded e)

@@ -174,12 +174,13 @@ module _ (before : List Line) (t : Tally) (T : Tallied before t) (k : ℕ) (h : 
         last = latest-last before this ∙ rw (ne-eqb (t .lines + 1) 0 (λ q. omega arith));
         of-kind =
             let one : length (filter (isKind (kindAt k)) (this ∷ [])) ≡ 1 = rw (eq-eqb (kindAt k .order) (kindAt k .order) refl) in
-            omega
-            (arith,
-            e,
-            count-at placed,
-            ap length (filter-append (isKind (kindAt k)) before (this ∷ [])),
-            length-append (filter (isKind (kindAt k)) before) (filter (isKind (kindAt k)) (this ∷ [])));
+            omega (
+              arith,
+              e,
+              count-at placed,
+              ap length (filter-append (isKind (kindAt k)) before (this ∷ [])),
+              length-append (filter (isKind (kindAt k)) before) (filter (isKind (kindAt k)) (this ∷ [])),
+            );
         none-later = λ l m. ⊎-elim (not-later placed l) (⊎-elim (λ q. omega (arith, ap (λ (j : Line). j .kind .order) q, order-at k h)) (λ m. absurd m)) (mem-append l before (this ∷ []) m);
       }
 

@@ -9,7 +9,10 @@ ghost use Rattle.sheet.specs.Lists.{pick, lexb};
 ghost use Rattle.sheet.specs.Sheet.{beyond, outside, unpaired};
 ghost use Rattle.sheet.specs.Calls.{width};
 ghost use Rattle.sheet.specs.Inner.{kindAt, limitOf, lineAt, Tallied, FaultIs, Continues};
-use crate::kinds::{key_of, limit_of, most_of, width_of};
+use crate::kinds::key_of;
+use crate::kinds::limit_of;
+use crate::kinds::most_of;
+use crate::kinds::width_of;
 
 // The lines before a line: their count, the places of the sheet, and the last of them, with the number of lines of its kind.
 pub struct Tally {
@@ -24,7 +27,13 @@ pub struct Tally {
 pub fn no_lines() -> Tally
     ensures { λ r. ⌜ Tallied [] r ⌝ }
 {
-    Tally { lines: 0, places: 0, kind: 0, count: 0, values: [0u32; 8] }
+    Tally {
+        lines: 0,
+        places: 0,
+        kind: 0,
+        count: 0,
+        values: [0u32; 8],
+    }
 }
 
 // Whether n is outside the limit with these ends, on a sheet of `places` places.
@@ -165,7 +174,13 @@ pub fn with_line(t: Tally, kind: usize, values: [u32; 8]) -> Tally
 {
     let count = count_of(t, kind) + 1;
     let places = places_with(t, values);
-    Tally { lines: t.lines + 1, places, kind, count, values }
+    Tally {
+        lines: t.lines + 1,
+        places,
+        kind,
+        count,
+        values,
+    }
 }
 
 // The judgement of a group of lines: the refusal with its line, or 0 and the tally with them.

@@ -6,11 +6,14 @@ ghost use lib.Seq.{sets};
 ghost use Rattle.sheet.specs.Sheet.{refused};
 ghost use Rattle.sheet.specs.Calls.{readAnswer, readCall};
 ghost use Rattle.sheet.specs.Inner.{lineAt, Storable, Stores};
-use crate::bytes::{until, LINE_FEED};
-use crate::judge::{fault_of, no_lines, with_line};
+use crate::SheetRead;
+use crate::bytes::LINE_FEED;
+use crate::bytes::until;
+use crate::judge::fault_of;
+use crate::judge::no_lines;
+use crate::judge::with_line;
 use crate::kinds::width_of;
 use crate::lines::line_in;
-use crate::SheetRead;
 
 // A refusal: its number, its line, and zeros.
 fn refuse(number: u32, line: u32) -> SheetRead
@@ -39,7 +42,14 @@ fn store(group: &mut [u32], at: usize, v: [u32; 8], w: usize)
 }
 
 // Stores a line that has no fault into the group of its kind, after the lines before it.
-fn store_line(head: &mut [u32], corridors: &mut [u32], occupancies: &mut [u32], lines: &mut [u32], kind: usize, v: [u32; 8])
+fn store_line(
+    head: &mut [u32],
+    corridors: &mut [u32],
+    occupancies: &mut [u32],
+    lines: &mut [u32],
+    kind: usize,
+    v: [u32; 8],
+)
     requires { ⌜ (kind < 3) × Storable (lineAt kind v) (now head) (now corridors) (now occupancies) (now lines) ⌝ }
     ensures { λ r. ⌜ Stores (lineAt kind v) (now (head .entry)) (now (corridors .entry)) (now (occupancies .entry)) (now (lines .entry)) (now (head .exit)) (now (corridors .exit)) (now (occupancies .exit)) (now (lines .exit)) ⌝ }
 {
@@ -87,7 +97,14 @@ pub fn read(src: &[u8]) -> SheetRead
         if f != 0 {
             return refuse(f, n);
         }
-        store_line(&mut head, &mut corridors, &mut occupancies, &mut lines, kind, v);
+        store_line(
+            &mut head,
+            &mut corridors,
+            &mut occupancies,
+            &mut lines,
+            kind,
+            v,
+        );
         t = with_line(t, kind, v);
         at = e + 1;
         n += 1;
@@ -95,5 +112,12 @@ pub fn read(src: &[u8]) -> SheetRead
     if n == 1 {
         return refuse(3, 1);
     }
-    SheetRead { refusal: 0, line: 0, lines, head, corridors, occupancies }
+    SheetRead {
+        refusal: 0,
+        line: 0,
+        lines,
+        head,
+        corridors,
+        occupancies,
+    }
 }

@@ -42,7 +42,7 @@ is-misplaced-requires : tie.Need-is-misplaced-requires
 is-misplaced-requires c κs = search needs
 
 returns : tie.Need-returns
-returns c = 
+returns c =
     let a = c .before .before .args in
     fault-is (a .t) (a .kind) (c .before .before .pre .0) (a .values) 3 (rw (sym (c .before .is-misplaced .ensures) ∙ c .if1 .taken))
 
@@ -53,7 +53,7 @@ count-of-requires : tie.Need-count-of-requires
 count-of-requires c κs = search needs
 
 returns-2 : tie.Need-returns-2
-returns-2 c = 
+returns-2 c =
     let a = c .before .before .before .before .before .args in
     fault-is (a .t) (a .kind) (c .before .before .before .before .before .pre .0) (a .values) 7 (rw (placed (c .before .before .before), le-leb (kindAt (a .kind) .most) (countAt (a .t) (a .kind)) (omega (arith, c .before .before .most-of .ensures, c .before .count-of .ensures))))
 
@@ -64,7 +64,7 @@ is-outside-requires : tie.Need-is-outside-requires
 is-outside-requires c κs = search needs
 
 returns-3 : tie.Need-returns-3
-returns-3 c = 
+returns-3 c =
     let a = c .before .before .before .before .before .before .before .before .args in
     fault-is (a .t) (a .kind) (c .before .before .before .before .before .before .before .before .pre .0) (a .values) 4 (rw (placed (c .before .before .before .before .before .before), few (c .before .before .before), outside-is (c .before) true (c .if3 .taken)))
 
@@ -72,7 +72,7 @@ is-unpaired-requires : tie.Need-is-unpaired-requires
 is-unpaired-requires c κs = search needs
 
 returns-4 : tie.Need-returns-4
-returns-4 c = 
+returns-4 c =
     let a = c .before .before .before .before .before .before .before .before .before .before .args in
     fault-is (a .t) (a .kind) (c .before .before .before .before .before .before .before .before .before .before .pre .0) (a .values) 6 (rw (placed (c .before .before .before .before .before .before .before .before), few (c .before .before .before .before .before), within (c .before .before), sym (c .before .is-unpaired .ensures) ∙ c .if4 .taken))
 
@@ -80,12 +80,12 @@ is-not-above-requires : tie.Need-is-not-above-requires
 is-not-above-requires c κs = search needs
 
 returns-5 : tie.Need-returns-5
-returns-5 c = 
+returns-5 c =
     let a = c .before .before .before .before .before .before .before .before .before .before .before .before .args in
     fault-is (a .t) (a .kind) (c .before .before .before .before .before .before .before .before .before .before .before .before .pre .0) (a .values) 5 (rw (placed (c .before .before .before .before .before .before .before .before .before .before), few (c .before .before .before .before .before .before .before), within (c .before .before .before .before), paired (c .before .before), sym (c .before .is-not-above .ensures) ∙ c .if5 .taken))
 
 returns-6 : tie.Need-returns-6
-returns-6 c = 
+returns-6 c =
     let a = c .before .before .before .before .before .before .before .before .before .before .before .before .args in
     fault-is (a .t) (a .kind) (c .before .before .before .before .before .before .before .before .before .before .before .before .pre .0) (a .values) 0 (rw (placed (c .before .before .before .before .before .before .before .before .before .before), few (c .before .before .before .before .before .before .before), within (c .before .before .before .before), paired (c .before .before), sym (c .before .is-not-above .ensures) ∙ c .if5 .left))
 

@@ -32,7 +32,7 @@ array-read-if1-2 : tie.Need-array-read-if1-2 Inv-loop μ-loop
 array-read-if1-2 c = omega arith
 
 returns : tie.Need-returns Inv-loop μ-loop
-returns c = 
+returns c =
     let x = c .before in
     let a = x .before .before .args in
     sym (lex-below (a .n) (a .t1) (a .t2) (omega arith) (omega arith) (x .before .loop .i) (omega arith) (c .if1 .taken)) ∙ x .before .loop .inv .3
@@ -50,7 +50,7 @@ array-read-if2-2 : tie.Need-array-read-if2-2 Inv-loop μ-loop
 array-read-if2-2 c = omega arith
 
 returns-2 : tie.Need-returns-2 Inv-loop μ-loop
-returns-2 c = 
+returns-2 c =
     let x = c .before .before in
     let a = x .before .before .args in
     sym (lex-above (a .n) (a .t1) (a .t2) (omega arith) (omega arith) (x .before .loop .i) (omega arith) (c .if2 .taken)) ∙ x .before .loop .inv .3
@@ -62,7 +62,7 @@ loop-less : tie.Need-loop-less Inv-loop μ-loop
 loop-less c = omega arith
 
 loop-again : tie.Need-loop-again Inv-loop μ-loop
-loop-again c = 
+loop-again c =
     let x = c .before .before in
     let a = x .before .before .args in (
       omega arith,
@@ -72,7 +72,7 @@ loop-again c =
     )
 
 returns-3 : tie.Need-returns-3 Inv-loop μ-loop
-returns-3 c = 
+returns-3 c =
     let x = c .before in
     let a = x .before .args in
     sym (lex-none (a .n) (a .t1) (a .t2) (omega arith) (omega arith) (x .loop .i) (omega arith)) ∙ x .loop .inv .3

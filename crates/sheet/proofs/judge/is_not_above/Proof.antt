@@ -25,7 +25,7 @@ is-before-requires : tie.Need-is-before-requires
 is-before-requires c κs = omega (arith, c .key-of .ensures, key-within (c .before .before .before .before .args .kind) (c .before .before .before .before .pre .0), width-small (c .before .before .before .before .args .kind) (c .before .before .before .before .pre .0))
 
 returns-3 : tie.Need-returns-3
-returns-3 c = 
+returns-3 c =
     let x = c .before .before .before in
     let a = x .before .before .args in
     rw (ne-eqb (a .t .lines) 0 (x .before .if1 .left), eq-eqb (a .t .kind) (a .kind) (x .if2 .left))

@@ -39,7 +39,7 @@ is-beyond-requires : tie.Need-is-beyond-requires Inv-loop μ-loop
 is-beyond-requires c κs = search needs
 
 returns : tie.Need-returns Inv-loop μ-loop
-returns c = 
+returns c =
     let y = c .before .before in
     let x = y .before .before in
     let a = x .before .before .args in
@@ -53,7 +53,7 @@ loop-less : tie.Need-loop-less Inv-loop μ-loop
 loop-less c = omega arith
 
 loop-again : tie.Need-loop-again Inv-loop μ-loop
-loop-again c = 
+loop-again c =
     let y = c .before .before in
     let x = y .before .before in
     let a = x .before .before .args in
@@ -65,7 +65,7 @@ loop-again c =
     )
 
 returns-2 : tie.Need-returns-2 Inv-loop μ-loop
-returns-2 c = 
+returns-2 c =
     let x = c .before in
     let a = x .before .before .args in
     sym (outside-none (a .places) (kindAt (a .kind) .limits) (a .t3) (omega (arith, x .before .width-of .ensures)) (x .loop .i) (omega (arith, x .before .width-of .ensures))) ∙ x .loop .inv .3

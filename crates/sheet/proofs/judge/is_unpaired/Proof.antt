@@ -15,7 +15,7 @@ array-read-result-2 : tie.Need-array-read-result-2
 array-read-result-2 c = search needs
 
 returns : tie.Need-returns
-returns c = 
+returns c =
     let v = c .before .args .t2 in
     rw (c .if1 .taken) (simp (getD-take 5 v 0 0 (lit< tt), getD-take 5 v 1 0 (lit< tt)))
 
@@ -26,12 +26,12 @@ array-read-result-4 : tie.Need-array-read-result-4
 array-read-result-4 c = search needs
 
 returns-2 : tie.Need-returns-2
-returns-2 c = 
+returns-2 c =
     let v = c .before .before .args .t2 in
     rw (c .if2 .taken) (simp (getD-take 3 v 1 0 (lit< tt), getD-take 3 v 2 0 (lit< tt)))
 
 returns-3 : tie.Need-returns-3
-returns-3 c = 
+returns-3 c =
     let e : c .before .before .args .kind ≡ 0 = omega arith in
     rw e refl
 

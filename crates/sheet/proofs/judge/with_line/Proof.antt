@@ -20,7 +20,7 @@ add-t6 : tie.Need-add-t6
 add-t6 c = search needs
 
 returns : tie.Need-returns
-returns c = 
+returns c =
     let x = c .before .before in
     let a = x .before .args in (
       continues (a .t) (a .kind) (x .before .pre .0) (a .values) (c .before .places-with .result) (x .count-of .result) (c .before .places-with .ensures) (x .count-of .ensures),

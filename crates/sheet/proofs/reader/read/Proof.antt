@@ -17,7 +17,7 @@ use Rattle.sheet.proofs.reader.read.Statement.{statement}
 use Rattle.sheet.proofs.reader.read.Tie as tie
 
 abbrev Inv-loop : tie.InvT-loop
-Inv-loop src head₀ corridors₀ occupancies₀ lines₀ t₀ n₀ at₀ head corridors occupancies lines t n at = 
+Inv-loop src head₀ corridors₀ occupancies₀ lines₀ t₀ n₀ at₀ head corridors occupancies lines t n at =
     Reading src head corridors occupancies lines t n at
     × (at ≤ length src)
     × (length src ≤ 10240)
@@ -59,7 +59,7 @@ refuse-requires : tie.Need-refuse-requires Inv-loop μ-loop
 refuse-requires c κs = search needs
 
 returns : tie.Need-returns Inv-loop μ-loop
-returns c = 
+returns c =
     let src = c .before .before .before .args .src .now in
     c .refuse .ensures ∙ answers src (refused 1 0) (read-long src (c .before .if1 .taken))
 
@@ -67,7 +67,7 @@ no-lines-requires : tie.Need-no-lines-requires Inv-loop μ-loop
 no-lines-requires c κs = search needs
 
 loop-holds : tie.Need-loop-holds Inv-loop μ-loop
-loop-holds c = 
+loop-holds c =
     let T = c .no-lines .ensures in (
       nothing-read (c .before .before .before .args .src .now) (c .no-lines .result) (c .before .if1 .left) T,
       omega arith,
@@ -88,7 +88,7 @@ refuse-requires-2 : tie.Need-refuse-requires-2 Inv-loop μ-loop
 refuse-requires-2 c κs = search needs
 
 returns-2 : tie.Need-returns-2 Inv-loop μ-loop
-returns-2 c = 
+returns-2 c =
     let u = c .before .before in
     let h = u .before .before in
     let src = h .before .before .before .before .args .src .now in
@@ -111,7 +111,7 @@ refuse-requires-3 : tie.Need-refuse-requires-3 Inv-loop μ-loop
 refuse-requires-3 c κs = search needs
 
 returns-3 : tie.Need-returns-3 Inv-loop μ-loop
-returns-3 c = 
+returns-3 c =
     let x = c .before .before .before .before .before .before in
     let h = x .before .before .before in
     let r = c .before .before .before .before .line-in in
@@ -125,7 +125,7 @@ refuse-requires-4 : tie.Need-refuse-requires-4 Inv-loop μ-loop
 refuse-requires-4 c κs = search needs
 
 returns-4 : tie.Need-returns-4 Inv-loop μ-loop
-returns-4 c = 
+returns-4 c =
     let x = c .before .before .before .before .before .before .before .before in
     let h = x .before .before .before in
     let r = c .before .before .before .before .before .before .line-in in
@@ -149,7 +149,7 @@ slice-aggregate-store-line-4 : tie.Need-slice-aggregate-store-line-4 Inv-loop μ
 slice-aggregate-store-line-4 c = sym (c .before .before .before .before .before .before .before .before .before .before .before .before .before .before .loop .inv .9)
 
 store-line-requires : tie.Need-store-line-requires Inv-loop μ-loop
-store-line-requires c κs = 
+store-line-requires c κs =
     let R = c .before .before .before .before .before .before .before .before .before .before .before .before .before .before .loop .inv .0 in
     (c .before .before .before .before .before .before .before .before .before .line-in .ensures .1, record { before = R .before; stored = R .stored; no-fault = no-fault (c .before .before .before .before) })
 
@@ -166,7 +166,7 @@ loop-less : tie.Need-loop-less Inv-loop μ-loop
 loop-less c = omega (arith, within (c .before .before .before .before .before .before .before .before .before .before .before .before .before .before .before .before .before .before), c .before .before .before .before .before .before .before .before .before .before .before .before .before .before .before .before .before .if2 .left)
 
 loop-again : tie.Need-loop-again Inv-loop μ-loop
-loop-again c = 
+loop-again c =
     let x = c .before .before .before .before .before .before .before .before .before .before .before .before .before .before .before .before .before in
     let h = x .before .before .before in
     let r = c .before .before .before .before .before .before .before .before .before .before .before .before .before .before .before .line-in in
@@ -177,7 +177,7 @@ loop-again c =
     let e = c .before .before .before .before .before .store-line .kept in
     let u = within (x .before) in (
       read-next R l z (x .before .until .result + 1) (c .before .before .before .before .before .store-line .ensures) (c .with-line .ensures .0)
-      (judged-next R (lineOf (first x)) (after x) (onward x) l (parsed-good (r .result) (lineOf (first x)) (r .ensures .0) k) z),
+          (judged-next R (lineOf (first x)) (after x) (onward x) l (parsed-good (r .result) (lineOf (first x)) (r .ensures .0) k) z),
       omega (arith, u, x .if2 .left),
       h .loop .inv .2,
       omega (arith, u, h .loop .inv .3),
@@ -193,7 +193,7 @@ refuse-requires-5 : tie.Need-refuse-requires-5 Inv-loop μ-loop
 refuse-requires-5 c κs = search needs
 
 returns-5 : tie.Need-returns-5 Inv-loop μ-loop
-returns-5 c = 
+returns-5 c =
     let h = c .before .before .before in
     let src = h .before .before .before .before .args .src .now in
     c .refuse5 .ensures ∙ answers src (refused 3 1) (refused-empty (h .loop .inv .0) (c .before .before .loop-test .left) (c .before .if5 .taken))

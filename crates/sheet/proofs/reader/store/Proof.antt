@@ -45,7 +45,7 @@ loop-less : tie.Need-loop-less Inv-loop μ-loop
 loop-less c = omega arith
 
 loop-again : tie.Need-loop-again Inv-loop μ-loop
-loop-again c = 
+loop-again c =
     let h = c .before in
     let l : h .loop .i < length (h .before .args .t3) = omega arith in
     (omega arith, h .loop .inv .1, rw (h .loop .inv .2) (sets-more (h .before .args .group .now) (h .before .args .t3) (h .before .args .at) (h .loop .i) l))
@@ -54,7 +54,7 @@ same-length : tie.Need-same-length Inv-loop μ-loop
 same-length c = ap length (c .before .loop .inv .2) ∙ simp length-sets
 
 returns : tie.Need-returns Inv-loop μ-loop
-returns c = 
+returns c =
     let h = c .before in
     let e : h .loop .i ≡ h .before .args .w = omega arith in
     h .loop .inv .2 ∙ ap (λ (m : ℕ). sets (h .before .args .group .now) (h .before .args .at) (take m (h .before .args .t3))) e

@@ -65,7 +65,7 @@ slice-write-lines : tie.Need-slice-write-lines
 slice-write-lines c = omega (arith, three-counts (c .before .before .before .before .before .before))
 
 store-requires : tie.Need-store-requires
-store-requires c κs = 
+store-requires c κs =
     let x = c .before .before .before in
     let s = x .before .before .before .before .before in
     (omega (arith, x .width-of .ensures, width-small (s .args .kind) (s .pre .0)), room x 0 (c .before .if1 .taken) (s .args .head .now) (s .pre .1 .stored .of-s))
@@ -77,7 +77,7 @@ same-length-2 : tie.Need-same-length-2
 same-length-2 c = search needs
 
 returns : tie.Need-returns
-returns c = 
+returns c =
     let x = c .before .before .before .before .before .before in
     let s = x .before .before .before .before .before in
     let a = s .args in
@@ -87,7 +87,7 @@ returns c =
     (own-kept (a .kind) (a .v) (a .lines .now) 2 (a .occupancies .now) (λ e. omega (arith, c .before .before .before .before .if1 .taken)))
 
 store-requires-2 : tie.Need-store-requires-2
-store-requires-2 c κs = 
+store-requires-2 c κs =
     let x = c .before .before .before .before in
     let s = x .before .before .before .before .before in
     (omega (arith, x .width-of .ensures, width-small (s .args .kind) (s .pre .0)), room x 1 (c .before .if2 .taken) (s .args .corridors .now) (s .pre .1 .stored .of-c))
@@ -99,7 +99,7 @@ same-length-4 : tie.Need-same-length-4
 same-length-4 c = search needs
 
 returns-2 : tie.Need-returns-2
-returns-2 c = 
+returns-2 c =
     let x = c .before .before .before .before .before .before .before in
     let s = x .before .before .before .before .before in
     let a = s .args in
@@ -109,7 +109,7 @@ returns-2 c =
     (own-kept (a .kind) (a .v) (a .lines .now) 2 (a .occupancies .now) (λ e. omega (arith, c .before .before .before .before .if2 .taken)))
 
 store-requires-3 : tie.Need-store-requires-3
-store-requires-3 c κs = 
+store-requires-3 c κs =
     let x = c .before .before .before .before in
     let s = x .before .before .before .before .before in
     (omega (arith, x .width-of .ensures, width-small (s .args .kind) (s .pre .0)), room x 2 (last-kind (c .before)) (s .args .occupancies .now) (s .pre .1 .stored .of-o))
@@ -121,7 +121,7 @@ same-length-6 : tie.Need-same-length-6
 same-length-6 c = search needs
 
 returns-3 : tie.Need-returns-3
-returns-3 c = 
+returns-3 c =
     let x = c .before .before .before .before .before .before .before in
     let s = x .before .before .before .before .before in
     let a = s .args in
