@@ -9,4 +9,5 @@ pub mod Passing
 pub mod Tallies
 pub mod Stores
 pub mod GroupStores
+pub mod JudgeSteps
 pub mod Reading

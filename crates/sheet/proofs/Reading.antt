@@ -7,15 +7,13 @@ use mathlib.Core.List.{List, [], _∷_, _++_, map}
 use mathlib.Core.Option.{Option, some, none}
 use Prim.Native.Nat.{ℕ, suc, _+_, _-_, _≤_, _<_}
 use native.Mathlib.Omega.{arith}
-use lib.Dec.{eqb}
 use lib.ListN.{length, take, drop, replicate, length-append, length-drop, drop-of-length-le}
 use lib.Seq.{take-all, drop-drop}
-use borrow.Author.Tests.{lt-ltb, le-ltb, eq-eqb, ne-eqb}
-use Rattle.sheet.specs.Lists.{pick}
+use borrow.Author.Tests.{lt-ltb, le-ltb}
 use Rattle.sheet.specs.Bytes.{lineFeed, split}
 use Rattle.sheet.specs.Kinds.{kindS, kindC, kindO}
 use Rattle.sheet.specs.Lines.{Line, line, unended, lineOf, linesOf, textLines}
-use Rattle.sheet.specs.Sheet.{group, sheetOf, sheetLines, fault, Outcome, refused, loaded, judge, readOf}
+use Rattle.sheet.specs.Sheet.{group, sheetOf, sheetLines, Outcome, refused, loaded, judge, readOf}
 use Rattle.sheet.specs.Calls.{readAnswer, readCall}
 use Rattle.sheet.specs.Inner.{spanOf, lineAt, asParsed, Tallied, FaultIs, Continues, Stored, Storable, Stores, NextIs}
 use Rattle.sheet.specs.Laws.Judge.{Passes}
@@ -25,6 +23,7 @@ use Rattle.sheet.specs.declared.SheetRead.{SheetRead}
 use Rattle.sheet.specs.declared.judge.Tally.{Tally}
 use Rattle.sheet.specs.declared.lines.Parsed.{Parsed}
 use Rattle.sheet.specs.declared.reader.Next.{Next}
+use Rattle.sheet.proofs.JudgeSteps.{judge-passed, judge-faulty, judge-none}
 use Rattle.sheet.proofs.Parts.{span-le, split-step}
 
 -- the first line of a text, up to its line feed, and the lines after it
@@ -66,30 +65,6 @@ module _ (src : List ℕ) (at e : ℕ) (h : at < length src) (d : e ≡ at + spa
       text-line (drop at src) (omega (arith, end-within, length-drop at src))
       ∙ rw (drop-drop (suc (spanOf lineFeed (drop at src))) at src, m, n)
 
--- one line is judged
-module _ (before : List Line) (ls : List (Option Line)) where
-  judge-none : judge before (none ∷ ls) ≡ refused 2 (suc (length before))
-  unfolding judge
-  judge-none = go before
-    where
-      go : (b : List Line) → judge b (none ∷ ls) ≡ refused 2 (suc (length b))
-      go [] = refl
-      go (m ∷ b) = refl
-
-  judge-line : (l : Line) → judge before (some l ∷ ls) ≡ pick (eqb (fault before l) 0) (judge (before ++ (l ∷ [])) ls) (refused (fault before l) (suc (length before)))
-  unfolding judge
-  judge-line l = go before
-    where
-      go : (b : List Line) → judge b (some l ∷ ls) ≡ pick (eqb (fault b l) 0) (judge (b ++ (l ∷ [])) ls) (refused (fault b l) (suc (length b)))
-      go [] = refl
-      go (m ∷ b) = refl
-
-  judge-fault : (l : Line) → fault before l ≢ 0 → judge before (some l ∷ ls) ≡ refused (fault before l) (suc (length before))
-  judge-fault l h = judge-line l ∙ rw (ne-eqb (fault before l) 0 h)
-
-  judge-next : (l : Line) → fault before l ≡ 0 → judge before (some l ∷ ls) ≡ judge (before ++ (l ∷ [])) ls
-  judge-next l h = judge-line l ∙ rw (eq-eqb (fault before l) 0 h)
-
 -- the next line, by what was found of it
 module _ (src : List ℕ) (at e : ℕ) (t : Tally) (h : at < length src) (d : e ≡ at + spanOf lineFeed (drop at src)) where
   refused-two : (k : ℕ) → k < 3 → (v : List ℕ) (rest : List (Option Line)) → textLines (drop at src) ≡ none ∷ rest
@@ -127,9 +102,9 @@ module _ (src : List ℕ) (at e : ℕ) (t : Tally) (h : at < length src) (d : e 
           ahead = end-within src at e h d .0;
           within = λ z. omega (arith, end-within src at e h d, q);
           refuses = λ before T z.
-              ap (judge before) x ∙ judge-fault before rest this (λ y. z (F .of before T ∙ y)) ∙ ap (λ (g : ℕ). refused g (suc (length before))) (sym (F .of before T));
+              ap (judge before) x ∙ judge-faulty before this rest (λ y. z (F .of before T ∙ y)) ∙ ap (λ (g : ℕ). refused g (suc (length before))) (sym (F .of before T));
           no-fault = λ before T z. sym (F .of before T) ∙ z;
-          passes = λ before T z. ap (judge before) x ∙ judge-next before rest this (sym (F .of before T) ∙ z);
+          passes = λ before T z. ap (judge before) x ∙ judge-passed before this rest (sym (F .of before T) ∙ z);
         }
 
 -- what has been read up to position `at`, where n is the number of the next line
