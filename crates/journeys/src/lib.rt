@@ -1,10 +1,10 @@
 // The front of journeys and the journey of each front cost, and the calls for the host (document 01, "What is handed back").
 ghost use mathlib.Core.Path.{_≡_};
 ghost use Rattle.sheet.specs.Calls.{readCall, writeCall, writeEnd};
-use sheet::reader::read;
-use sheet::writer::write;
 use sheet::SheetRead;
 use sheet::SheetWritten;
+use sheet::reader::read;
+use sheet::writer::write;
 
 // What a call of the front hands back: the count of front costs and the number of leading arrivals.
 #[repr(C)]
@@ -35,7 +35,12 @@ pub extern "C" fn planner_read(sheet: &[u8]) -> SheetRead
 // Writes the sheet of the three groups into the lent buffer and hands back the count of bytes, or one numbered refusal (2, 4 to 7, 12) with the
 // line at fault; the buffer past the bytes, and after a refusal all of it, is kept.
 #[no_mangle]
-pub extern "C" fn planner_write(head: &[u32], corridors: &[u32], occupancies: &[u32], out: &mut [u8]) -> SheetWritten
+pub extern "C" fn planner_write(
+    head: &[u32],
+    corridors: &[u32],
+    occupancies: &[u32],
+    out: &mut [u8],
+) -> SheetWritten
     ensures { λ r. ⌜ writeEnd r (now (out .exit)) ≡ writeCall (now (head .entry)) (now (corridors .entry)) (now (occupancies .entry)) (now (out .entry)) ⌝ }
 {
     write(head, corridors, occupancies, out)

@@ -10,28 +10,16 @@ use native.Mathlib.Numerals.{add-one}
 use native.Mathlib.Nat.{suc-mul, zero-mul, sub-zero}
 use lib.ListN.{length, take, drop, length-drop}
 use lib.Seq.{append-snoc, take-all, take-at, drop-drop, length-take-le}
-use borrow.Author.Tests.{eq-eqb, ne-eqb}
 use Rattle.sheet.specs.Lists.{filled, rows, keep, filter}
 use Rattle.sheet.specs.Kinds.{kindS}
 use Rattle.sheet.specs.Lines.{Line, line}
-use Rattle.sheet.specs.Sheet.{isKind, fault, refused, judge}
+use Rattle.sheet.specs.Sheet.{isKind, fault, judge}
 use Rattle.sheet.specs.Calls.{width}
 use Rattle.sheet.specs.Inner.{kindAt, lineAt, Tallied, FaultIs, Continues, JudgedGroup, refuses, passes, GroupIs, groupLines}
 use Rattle.sheet.specs.declared.judge.Tally.{Tally}
 use Rattle.sheet.specs.declared.judge.Verdict.{Verdict}
+use Rattle.sheet.proofs.JudgeSteps.{judge-passed, judge-faulty}
 use Rattle.sheet.proofs.Three.{three}
-
--- one line judged: without a fault the rest is judged after it, with a fault it is refused
-pub judge-passed : (before : List Line) (l : Line) (ls : List (Option Line)) → fault before l ≡ 0 → judge before (some l ∷ ls) ≡ judge (before ++ (l ∷ [])) ls
-unfolding judge
-judge-passed [] l ls e = rw (eq-eqb (fault [] l) 0 e)
-judge-passed (m ∷ before) l ls e = rw (eq-eqb (fault (m ∷ before) l) 0 e)
-
-pub judge-faulty : (before : List Line) (l : Line) (ls : List (Option Line)) → (fault before l ≡ 0 → ⊥)
-    → judge before (some l ∷ ls) ≡ refused (fault before l) (suc (length before))
-unfolding judge
-judge-faulty [] l ls e = rw (ne-eqb (fault [] l) 0 e)
-judge-faulty (m ∷ before) l ls e = rw (ne-eqb (fault (m ∷ before) l) 0 e)
 
 -- no line is left
 pub group-end : (t : Tally) → GroupIs t [] (record { refusal = 0; line = 0; tally = t })

@@ -1,7 +1,4 @@
 pub mod Three
-pub mod Written
-pub mod PutText
-pub mod GroupJudged
 pub mod Table
 pub mod Digits
 pub mod Parts
@@ -12,5 +9,9 @@ pub mod Passing
 pub mod Tallies
 pub mod Stores
 pub mod GroupStores
+pub mod JudgeSteps
 pub mod Reading
+pub mod Written
+pub mod PutText
+pub mod GroupJudged
 pub mod WrittenSheet

@@ -1,29 +1,29 @@
 -- Reading line after line: the first line of what is left of a text, the judgement of one line, and the answer at the end.
 -- Assumes nothing.
-use mathlib.Core.Path.{_≡_, refl, sym, _∙_, ap, ap₂}
+use mathlib.Core.Path.{_≡_, refl, sym, _∙_, ap}
 use mathlib.Core.Logic.{_≢_}
 use mathlib.Core.Bool.{true, false}
 use mathlib.Core.List.{List, [], _∷_, _++_, map}
 use mathlib.Core.Option.{Option, some, none}
 use Prim.Native.Nat.{ℕ, suc, _+_, _-_, _≤_, _<_}
 use native.Mathlib.Omega.{arith}
-use lib.Dec.{eqb}
 use lib.ListN.{length, take, drop, replicate, length-append, length-drop, drop-of-length-le}
 use lib.Seq.{take-all, drop-drop}
-use borrow.Author.Tests.{lt-ltb, le-ltb, eq-eqb, ne-eqb}
-use Rattle.sheet.specs.Lists.{pick}
+use borrow.Author.Tests.{lt-ltb, le-ltb}
 use Rattle.sheet.specs.Bytes.{lineFeed, split}
 use Rattle.sheet.specs.Kinds.{kindS, kindC, kindO}
 use Rattle.sheet.specs.Lines.{Line, line, unended, lineOf, linesOf, textLines}
-use Rattle.sheet.specs.Sheet.{group, sheetOf, sheetLines, fault, Outcome, refused, loaded, judge, readOf}
+use Rattle.sheet.specs.Sheet.{group, sheetOf, sheetLines, Outcome, refused, loaded, judge, readOf}
 use Rattle.sheet.specs.Calls.{readAnswer, readCall}
-use Rattle.sheet.specs.Inner.{spanOf, lineAt, asParsed, Tallied, Continues, Stored, Stores}
+use Rattle.sheet.specs.Inner.{spanOf, lineAt, asParsed, Tallied, FaultIs, Continues, Stored, Storable, Stores, NextIs}
 use Rattle.sheet.specs.Laws.Judge.{Passes}
 use Rattle.sheet.specs.Laws.Passed.{append-passes}
 use Rattle.sheet.specs.Laws.Groups.{group-append, group-other, lines-sheet}
 use Rattle.sheet.specs.declared.SheetRead.{SheetRead}
 use Rattle.sheet.specs.declared.judge.Tally.{Tally}
 use Rattle.sheet.specs.declared.lines.Parsed.{Parsed}
+use Rattle.sheet.specs.declared.reader.Next.{Next}
+use Rattle.sheet.proofs.JudgeSteps.{judge-passed, judge-faulty, judge-none}
 use Rattle.sheet.proofs.Parts.{span-le, split-step}
 
 -- the first line of a text, up to its line feed, and the lines after it
@@ -55,39 +55,57 @@ module _ (src : List ℕ) (at e : ℕ) (h : at < length src) (d : e ≡ at + spa
   pub end-within : (at ≤ e) × (e ≤ length src)
   end-within = (omega arith, omega (arith, span-le lineFeed (drop at src), length-drop at src))
 
-  pub cut-line : e ≡ length src → textLines (drop at src) ≡ none ∷ []
+  cut-line : e ≡ length src → textLines (drop at src) ≡ none ∷ []
   cut-line q = text-cut (drop at src) (omega (arith, length-drop at src)) (omega (arith, length-drop at src))
 
-  pub next-line : e ≢ length src → textLines (drop at src) ≡ lineOf (take (e - at) (drop at src)) ∷ textLines (drop (e + 1) src)
+  next-line : e ≢ length src → textLines (drop at src) ≡ lineOf (take (e - at) (drop at src)) ∷ textLines (drop (e + 1) src)
   next-line q =
       let n : spanOf lineFeed (drop at src) ≡ e - at = omega arith in
       let m : at + suc (spanOf lineFeed (drop at src)) ≡ e + 1 = omega arith in
       text-line (drop at src) (omega (arith, end-within, length-drop at src))
       ∙ rw (drop-drop (suc (spanOf lineFeed (drop at src))) at src, m, n)
 
--- one line is judged
-module _ (before : List Line) (ls : List (Option Line)) where
-  judge-none : judge before (none ∷ ls) ≡ refused 2 (suc (length before))
-  unfolding judge
-  judge-none = go before
-    where
-      go : (b : List Line) → judge b (none ∷ ls) ≡ refused 2 (suc (length b))
-      go [] = refl
-      go (m ∷ b) = refl
+-- the next line, by what was found of it
+module _ (src : List ℕ) (at e : ℕ) (t : Tally) (h : at < length src) (d : e ≡ at + spanOf lineFeed (drop at src)) where
+  refused-two : (k : ℕ) → k < 3 → (v : List ℕ) (rest : List (Option Line)) → textLines (drop at src) ≡ none ∷ rest
+      → NextIs src at t (record { refusal = 2; end = e; kind = k; values = v })
+  refused-two k i v rest q =
+      record {
+        known = i;
+        ahead = end-within src at e h d .0;
+        within = λ z. absurd (omega arith);
+        refuses = λ before T z. ap (judge before) q ∙ judge-none before rest;
+        no-fault = λ before T z. absurd (omega arith);
+        passes = λ before T z. absurd (omega arith);
+      }
 
-  judge-line : (l : Line) → judge before (some l ∷ ls) ≡ pick (eqb (fault before l) 0) (judge (before ++ (l ∷ [])) ls) (refused (fault before l) (suc (length before)))
-  unfolding judge
-  judge-line l = go before
-    where
-      go : (b : List Line) → judge b (some l ∷ ls) ≡ pick (eqb (fault b l) 0) (judge (b ++ (l ∷ [])) ls) (refused (fault b l) (suc (length b)))
-      go [] = refl
-      go (m ∷ b) = refl
+  -- its line feed is missing
+  pub next-cut : e ≡ length src → (v : List ℕ) → NextIs src at t (record { refusal = 2; end = e; kind = 0; values = v })
+  next-cut q v = refused-two 0 (omega arith) v [] (cut-line src at e h d q)
 
-  judge-fault : (l : Line) → fault before l ≢ 0 → judge before (some l ∷ ls) ≡ refused (fault before l) (suc (length before))
-  judge-fault l h = judge-line l ∙ rw (ne-eqb (fault before l) 0 h)
+  -- its bytes are no line, or they are one
+  module _ (q : e ≢ length src) (r : Parsed) (p : asParsed r ≡ lineOf (take (e - at) (drop at src))) (i : r .kind < 3) where
+    abbrev rest : List (Option Line)
+    rest = textLines (drop (e + 1) src)
 
-  judge-next : (l : Line) → fault before l ≡ 0 → judge before (some l ∷ ls) ≡ judge (before ++ (l ∷ [])) ls
-  judge-next l h = judge-line l ∙ rw (eq-eqb (fault before l) 0 h)
+    abbrev this : Line
+    this = lineAt (r .kind) (r .values)
+
+    pub next-bad : r .ok ≡ false → NextIs src at t (record { refusal = 2; end = e; kind = r .kind; values = r .values })
+    next-bad b = refused-two (r .kind) i (r .values) rest (next-line src at e h d q ∙ ap (λ (o : Option Line). o ∷ rest) (sym p ∙ rw b))
+
+    pub next-judged : r .ok ≡ true → (f : ℕ) → FaultIs t this f → NextIs src at t (record { refusal = f; end = e; kind = r .kind; values = r .values })
+    next-judged b f F =
+        let x : textLines (drop at src) ≡ some this ∷ rest = next-line src at e h d q ∙ ap (λ (o : Option Line). o ∷ rest) (sym p ∙ rw b) in
+        record {
+          known = i;
+          ahead = end-within src at e h d .0;
+          within = λ z. omega (arith, end-within src at e h d, q);
+          refuses = λ before T z.
+              ap (judge before) x ∙ judge-faulty before this rest (λ y. z (F .of before T ∙ y)) ∙ ap (λ (g : ℕ). refused g (suc (length before))) (sym (F .of before T));
+          no-fault = λ before T z. sym (F .of before T) ∙ z;
+          passes = λ before T z. ap (judge before) x ∙ judge-passed before this rest (sym (F .of before T) ∙ z);
+        }
 
 -- what has been read up to position `at`, where n is the number of the next line
 pub record Reading (src head corridors occupancies ls : List ℕ) (t : Tally) (n at : ℕ) : Type 0 where
@@ -116,45 +134,30 @@ nothing-stored = record { shaped = λ l m. absurd m; of-s = refl; of-c = refl; o
 pub nothing-read : (src : List ℕ) (t : Tally) → length src ≤ 10240 → Tallied [] t → Reading src (replicate 7 0) (replicate 1280 0) (replicate 768 0) (replicate 3 0) t 1 0
 nothing-read src t h T = record { before = []; tallied = T; stored = nothing-stored; passes = tt; judged = read-whole src h; counted = refl }
 
--- a line as it was read
-pub parsed-bad : (r : Parsed) (o : Option Line) → asParsed r ≡ o → r .ok ≡ false → o ≡ none
-parsed-bad r o e q = sym e ∙ rw q
-
-pub parsed-good : (r : Parsed) (o : Option Line) → asParsed r ≡ o → r .ok ≡ true → o ≡ some (lineAt (r .kind) (r .values))
-parsed-good r o e q = sym e ∙ rw q
-
 -- one line more, or the answer
 module _ {src head corridors occupancies ls : List ℕ} {t : Tally} {n at : ℕ} (R : Reading src head corridors occupancies ls t n at) where
-  pub refused-cut : textLines (drop at src) ≡ none ∷ [] → refused 2 n ≡ readOf src
-  refused-cut e = ap (refused 2) (R .counted) ∙ sym (judge-none (R .before) []) ∙ ap (judge (R .before)) (sym e) ∙ R .judged
+  module _ (r : Next) (N : NextIs src at t r) where
+    pub refused-next : r .refusal ≢ 0 → refused (r .refusal) n ≡ readOf src
+    refused-next z = ap (refused (r .refusal)) (R .counted) ∙ sym (N .refuses (R .before) (R .tallied) z) ∙ R .judged
 
-  -- the next line, as it was read, and the lines after it
-  module _ (o : Option Line) (rest : List (Option Line)) (e : textLines (drop at src) ≡ o ∷ rest) where
-    pub refused-line : o ≡ none → refused 2 n ≡ readOf src
-    refused-line q = ap (refused 2) (R .counted) ∙ sym (judge-none (R .before) rest) ∙ ap (λ (p : Option Line). judge (R .before) (p ∷ rest)) (sym q) ∙ ap (judge (R .before)) (sym e) ∙ R .judged
+    abbrev this-line : Line
+    this-line = lineAt (r .kind) (r .values)
 
-    judged-line : (l : Line) → o ≡ some l → judge (R .before) (some l ∷ rest) ≡ readOf src
-    judged-line l q = ap (λ (p : Option Line). judge (R .before) (p ∷ rest)) (sym q) ∙ ap (judge (R .before)) (sym e) ∙ R .judged
+    pub storable-next : r .refusal ≡ 0 → Storable this-line head corridors occupancies ls
+    storable-next z = record { before = R .before; stored = R .stored; no-fault = N .no-fault (R .before) (R .tallied) z }
 
-    pub refused-fault : (l : Line) → o ≡ some l → (f : ℕ) → f ≡ fault (R .before) l → f ≢ 0 → refused f n ≡ readOf src
-    refused-fault l q f d z =
-        ap₂ refused d (R .counted) ∙ sym (judge-fault (R .before) rest l (λ y. z (d ∙ y))) ∙ judged-line l q
-
-    pub judged-next : (l : Line) → o ≡ some l → fault (R .before) l ≡ 0 → judge (R .before ++ (l ∷ [])) rest ≡ readOf src
-    judged-next l q z = sym (judge-next (R .before) rest l z) ∙ judged-line l q
-
-  pub read-next : (l : Line) → fault (R .before) l ≡ 0 → {head′ corridors′ occupancies′ ls′ : List ℕ} {t′ : Tally} (at′ : ℕ)
-      → Stores l head corridors occupancies ls head′ corridors′ occupancies′ ls′ → Continues t l t′
-      → judge (R .before ++ (l ∷ [])) (textLines (drop at′ src)) ≡ readOf src → Reading src head′ corridors′ occupancies′ ls′ t′ (n + 1) at′
-  read-next l z at′ S C e =
-      record {
-        before = R .before ++ (l ∷ []);
-        tallied = C .of (R .before) (R .tallied) z;
-        stored = S .of (R .before) (R .stored) z;
-        passes = append-passes [] (R .before) (l ∷ []) (R .passes) (z, tt);
-        judged = e;
-        counted = omega (arith, R .counted, length-append (R .before) (l ∷ []));
-      }
+    pub read-next : r .refusal ≡ 0 → {head′ corridors′ occupancies′ ls′ : List ℕ} {t′ : Tally} → Stores this-line head corridors occupancies ls head′ corridors′ occupancies′ ls′
+        → Continues t this-line t′ → Reading src head′ corridors′ occupancies′ ls′ t′ (n + 1) (r .end + 1)
+    read-next z S C =
+        let y = N .no-fault (R .before) (R .tallied) z in
+        record {
+          before = R .before ++ (this-line ∷ []);
+          tallied = C .of (R .before) (R .tallied) y;
+          stored = S .of (R .before) (R .stored) y;
+          passes = append-passes [] (R .before) (this-line ∷ []) (R .passes) (y, tt);
+          judged = sym (N .passes (R .before) (R .tallied) z) ∙ R .judged;
+          counted = omega (arith, R .counted, length-append (R .before) (this-line ∷ []));
+        }
 
   -- after the last line feed
   module _ (h : length src ≤ at) where

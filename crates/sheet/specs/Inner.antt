@@ -3,13 +3,13 @@ use mathlib.Core.Path.{_≡_}
 use mathlib.Core.Bool.{Bool, true, false}
 use mathlib.Core.List.{List, [], _∷_, _++_, map}
 use mathlib.Core.Option.{Option, some, none}
-use Prim.Native.Nat.{ℕ, zero, suc, _/_, _≤_, _<_}
+use Prim.Native.Nat.{ℕ, zero, suc, _+_, _/_, _≤_, _<_}
 use lib.Dec.{ltb, leb, eqb}
 use lib.ListN.{length, take, drop}
 use Rattle.sheet.specs.Lists.{pick, _∈_, filter, filled, rows, bind, flat}
 use Rattle.sheet.specs.Bytes.{kindOf, split}
 use Rattle.sheet.specs.Kinds.{Limit, between, place, Kind, kindS, kindC, kindO}
-use Rattle.sheet.specs.Lines.{Line, line}
+use Rattle.sheet.specs.Lines.{Line, line, textLines}
 use Rattle.sheet.specs.Sheet.{isKind, group, placesIn, latest, fault, Outcome, refused, judge}
 use Rattle.sheet.specs.Text.{lineText}
 use Rattle.sheet.specs.Calls.{width}
@@ -20,6 +20,7 @@ use Rattle.sheet.specs.declared.lines.Numbers.{Numbers}
 use Rattle.sheet.specs.declared.lines.Parsed.{Parsed}
 use Rattle.sheet.specs.declared.judge.Tally.{Tally}
 use Rattle.sheet.specs.declared.judge.Verdict.{Verdict}
+use Rattle.sheet.specs.declared.reader.Next.{Next}
 
 -- the kind of line with number k in the order of kinds
 abbrev pub kindAt : ℕ → Kind
@@ -99,6 +100,15 @@ pub record Storable (l : Line) (head corridors occupancies lines : List ℕ) : T
 -- the arrays afterwards hold the same lines and then l
 pub record Stores (l : Line) (head corridors occupancies lines head′ corridors′ occupancies′ lines′ : List ℕ) : Type 0 where
   pub of : (before : List Line) → Stored before head corridors occupancies lines → fault before l ≡ 0 → Stored (before ++ (l ∷ [])) head′ corridors′ occupancies′ lines′
+
+-- r is the next line of the text from `at` on, judged after the lines that t tallies: the refusal, or the line up to its line feed, with no fault
+pub record NextIs (src : List ℕ) (at : ℕ) (t : Tally) (r : Next) : Type 0 where
+  pub known : r .kind < 3
+  pub ahead : at ≤ r .end
+  pub within : r .refusal ≡ 0 → r .end < length src
+  pub refuses : (before : List Line) → Tallied before t → (r .refusal ≡ 0 → ⊥) → judge before (textLines (drop at src)) ≡ refused (r .refusal) (suc (length before))
+  pub no-fault : (before : List Line) → Tallied before t → r .refusal ≡ 0 → fault before (lineAt (r .kind) (r .values)) ≡ 0
+  pub passes : (before : List Line) → Tallied before t → r .refusal ≡ 0 → judge before (textLines (drop at src)) ≡ judge (before ++ (lineAt (r .kind) (r .values) ∷ [])) (textLines (drop (r .end + 1) src))
 
 -- the judgement of a group's lines, after the lines before it and ahead of the rest: the refusal, or the tally with them
 pub data JudgedGroup (before ls : List Line) (v : Verdict) : Type 0 where

@@ -5,10 +5,11 @@ ghost use lib.ListN.{length, take};
 ghost use lib.Seq.{sets};
 ghost use Rattle.sheet.specs.Sheet.{refused};
 ghost use Rattle.sheet.specs.Calls.{readAnswer, readCall};
-ghost use Rattle.sheet.specs.Inner.{lineAt, Storable, Stores};
+ghost use Rattle.sheet.specs.Inner.{lineAt, Storable, Stores, NextIs};
 use crate::SheetRead;
 use crate::bytes::LINE_FEED;
 use crate::bytes::until;
+use crate::judge::Tally;
 use crate::judge::fault_of;
 use crate::judge::no_lines;
 use crate::judge::with_line;
@@ -68,6 +69,48 @@ fn store_line(
     store(occupancies, at, v, w);
 }
 
+// The next line of a text: its end, its kind and its numbers, or a refusal.
+pub struct Next {
+    pub refusal: u32,
+    pub end: usize,
+    pub kind: usize,
+    pub values: [u32; 8],
+}
+
+// The line of src from `at` on, judged after the lines that t tallies.
+fn next_line(src: &[u8], at: usize, t: Tally) -> Next
+    requires { ⌜ (at < length (now src)) × (t .kind < 3) ⌝ }
+    ensures { λ r. ⌜ NextIs (now (src .entry)) at t r ⌝ }
+{
+    let e = until(src, at, LINE_FEED);
+    if e == src.len() {
+        return Next {
+            refusal: 2,
+            end: e,
+            kind: 0,
+            values: [0u32; 8],
+        };
+    }
+    let l = line_in(&src[at..e]);
+    let kind = l.kind;
+    let values = l.values;
+    if !l.ok {
+        return Next {
+            refusal: 2,
+            end: e,
+            kind,
+            values,
+        };
+    }
+    let refusal = fault_of(t, kind, values);
+    Next {
+        refusal,
+        end: e,
+        kind,
+        values,
+    }
+}
+
 // Reads a sheet: its groups, or one numbered refusal with the line at fault. No byte is looked at more than a fixed number of times.
 pub fn read(src: &[u8]) -> SheetRead
     ensures { λ r. ⌜ r ≡ readCall (now (src .entry)) ⌝ }
@@ -78,35 +121,20 @@ pub fn read(src: &[u8]) -> SheetRead
     let mut head = [0u32; 7];
     let mut corridors = [0u32; 1280];
     let mut occupancies = [0u32; 768];
-    let mut lines = [0u32; 3];
+    let mut used = [0u32; 3];
     let mut t = no_lines();
     let mut n: u32 = 1;
     let mut at = 0;
     while at < src.len() {
-        let e = until(src, at, LINE_FEED);
-        if e == src.len() {
-            return refuse(2, n);
+        let l = next_line(src, at, t);
+        if l.refusal != 0 {
+            return refuse(l.refusal, n);
         }
-        let l = line_in(&src[at..e]);
-        let kind = l.kind;
+        let k = l.kind;
         let v = l.values;
-        if !l.ok {
-            return refuse(2, n);
-        }
-        let f = fault_of(t, kind, v);
-        if f != 0 {
-            return refuse(f, n);
-        }
-        store_line(
-            &mut head,
-            &mut corridors,
-            &mut occupancies,
-            &mut lines,
-            kind,
-            v,
-        );
-        t = with_line(t, kind, v);
-        at = e + 1;
+        store_line(&mut head, &mut corridors, &mut occupancies, &mut used, k, v);
+        t = with_line(t, k, v);
+        at = l.end + 1;
         n += 1;
     }
     if n == 1 {
@@ -115,7 +143,7 @@ pub fn read(src: &[u8]) -> SheetRead
     SheetRead {
         refusal: 0,
         line: 0,
-        lines,
+        lines: used,
         head,
         corridors,
         occupancies,
