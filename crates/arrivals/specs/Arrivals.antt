@@ -1,8 +1,8 @@
 -- Arrivals and leading arrivals (document 01, "Safe intervals and leading arrivals"; 001: labels, definition 2), and the arrivals table.
 use mathlib.Core.Path.{_≡_}
 use mathlib.Core.Logic.{_≢_}
-use mathlib.Core.Bool.{Bool, not, _&&_}
-use mathlib.Core.List.{List, _∷_, _++_, map}
+use mathlib.Core.Bool.{Bool, true, false, not, _&&_}
+use mathlib.Core.List.{List, [], _∷_, _++_, map}
 use Prim.Native.Nat.{ℕ, zero, suc, _-_, _≤_, _/_}
 use lib.Dec.{eqb, leb, ltb}
 use lib.ListN.{length}
@@ -114,5 +114,5 @@ pub record SearchEnd : Type 0 where
 unfoldable pub searchOn : Sheet → List ℕ → SearchEnd
 unfolding crowded leading arrivalTable
 searchOn s table =
-    let r = record { served = true; arrivals = length (leading s); table = arrivalTable s (length table) } in
+    let r : SearchEnd = record { served = true; arrivals = length (leading s); table = arrivalTable s (length table) } in
     pick (crowded s (length table)) (record { served = false; arrivals = 0; table = filled (length table) [] }) r
