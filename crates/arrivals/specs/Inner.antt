@@ -11,6 +11,7 @@ pub mod Table
 pub mod Group
 pub mod Index
 pub mod Gather
+pub mod Meaning
 
 -- the answer of the search with the table that it left
 abbrev pub searchEnd : Searched → List ℕ → SearchEnd

@@ -261,30 +261,20 @@ filled-step k rs t f =
       complete = λ s u g l p q w c. f .complete s u g (⊎-elim (λ a. ⊎-elim (λ lt. inl lt) (λ ge. inr (omega arith, q)) (lt-or-le s t)) (λ a. absurd (omega (arith, a .1))) l) p q w c;
     }
 
--- the rows fill the room, and the search has one more
-pub record Full (k : Case) (xs : List ℕ) (n : ℕ) : Type 0 where
+-- the rows so far and one more, which there is no room for
+pub record Crowded (k : Case) (room t v : ℕ) : Type 0 where
+  pub rows : List Row
   pub step : ℕ
   pub place : ℕ
-  pub cost : List ℕ
-  pub filling : Filling k (rowsOf xs n) step place
-  pub missing : Open k (rowsOf xs n) place step cost
-  pub inside : place < k .places
-  pub later : 1 ≤ step
-  pub free : Vacant k place step
-  pub full : length xs < n * 5 + 5
-
--- the rows so far and one that is missing, more than the room holds
-pub record Crowded (k : Case) (room : ℕ) : Type 0 where
-  pub rows : List Row
-  pub ascending : Falling rows
-  pub sound : Sound k rows
+  pub filling : Filling k rows step place
+  pub before : Less step place t v
   pub more : room < length rows * 5
 
 -- what a search of the table xs, whose room is a fifth of its length, leaves: n rows, filled in before place v at step t where ok; else the room is full and a row is missing
 pub record Result (k : Case) (xs : List ℕ) (t v : ℕ) (ok : Bool) (n : ℕ) : Type 0 where
   pub room : n * 5 ≤ length xs
   pub done : ok ≡ true → Filled k (rowsOf xs n) t v
-  pub full : ok ≡ false → Crowded k (length xs)
+  pub full : ok ≡ false → Crowded k (length xs) t v
 
 -- what the code of the search asks of what it is lent
 pub record Given (k : Case) (links : List ℕ) (m : ℕ) (free : List ℕ) : Type 0 where
@@ -319,7 +309,7 @@ next-stop k rs t v rf rc f l e = filled-place k rs t v f (λ g o. false-not-true
 pub result-done : (k : Case) (xs : List ℕ) (t v n : ℕ) → n * 5 ≤ length xs → Filled k (rowsOf xs n) t v → Result k xs t v true n
 result-done k xs t v n l f = record { room = l; done = λ e. f; full = λ e. absurd (false-not-true e refl) }
 
-pub result-full : (k : Case) (xs : List ℕ) (t v n : ℕ) → n * 5 ≤ length xs → Crowded k (length xs) → Result k xs t v false n
+pub result-full : (k : Case) (xs : List ℕ) (t v n : ℕ) → n * 5 ≤ length xs → Crowded k (length xs) t v → Result k xs t v false n
 result-full k xs t v n l f = record { room = l; done = λ e. absurd (false-not-true refl e); full = λ e. f }
 
 pub filling-as : {k : Case} {rs qs : List Row} {t v : ℕ} → rs ≡ qs → Filling k qs t v → Filling k rs t v
@@ -330,7 +320,7 @@ pub record Search (k : Case) (t size : ℕ) (xs : List ℕ) (ok : Bool) (n : ℕ
   pub same : length xs ≡ size
   pub done : ok ≡ true → Filled k (rowsOf xs n) t 0
   pub rest : (j : ℕ) → n * 5 ≤ j → getD xs j 0 ≡ 0
-  pub full : ok ≡ false → (n ≡ 0) × Crowded k size
+  pub full : ok ≡ false → (n ≡ 0) × Crowded k size t 0
 
 pub filled-end : (k : Case) (rs : List Row) (t v : ℕ) → v ≤ k .places → k .places ≤ v → Filled k rs t v → Filled k rs (t + 1) 0
 filled-end k rs t v l m f = filled-step k rs t (subst (λ (j : ℕ). Filled k rs t j) (omega arith) f)
@@ -343,14 +333,26 @@ unfolding rowsOf
 count-rows xs zero = refl
 count-rows xs (suc n) = ap suc (count-rows xs n)
 
-pub crowded-of : (k : Case) (xs : List ℕ) (n : ℕ) → Full k xs n → Crowded k (length xs)
-crowded-of k xs n f =
+pub crowded-next : (k : Case) (xs : List ℕ) (n t v : ℕ) (rf : Bool) (rc : List ℕ) → Legal k → 1 ≤ t → v < k .places → Vacant k v t → Filling k (rowsOf xs n) t v
+    → Least (Scanned k (rowsOf xs n) v t) rf rc → rf ≡ true → length xs < n * 5 + 5 → Crowded k (length xs) t (v + 1)
+crowded-next k xs n t v rf rc legal one inside free f l e full =
     record {
-      rows = record { place = f .place; step = f .step; cost = f .cost } ∷ rowsOf xs n;
-      ascending = more-falling (all-both (row-after (f .place) (f .step) (f .cost)) (f .filling .keys) (f .filling .ahead (f .cost) (f .missing))) (f .filling .ascending);
-      sound = entered (f .inside) (f .later) (f .free) (f .missing) (f .filling .sound);
-      more = omega (arith, f .full, count-rows xs n);
+      rows = record { place = v; step = t; cost = rc } ∷ rowsOf xs n;
+      step = t;
+      place = v;
+      filling = next-more k (rowsOf xs n) t v rf rc legal one inside free f l e;
+      before = inr (refl, omega arith);
+      more = omega (arith, count-rows xs n);
     }
+
+pub crowded-later : {k : Case} {room t v : ℕ} (u w : ℕ) → ((s p : ℕ) → Less s p t v → Less s p u w) → Crowded k room t v → Crowded k room u w
+crowded-later u w f c = record { rows = c .rows; step = c .step; place = c .place; filling = c .filling; before = f (c .step) (c .place) (c .before); more = c .more }
+
+pub crowded-step : {k : Case} {room t v : ℕ} → Crowded k room t v → Crowded k room (t + 1) 0
+crowded-step {k} {room} {t} {v} c = crowded-later (t + 1) 0 (λ s p l. inl (⊎-elim (λ a. omega arith) (λ a. omega (arith, a .0)) l)) c
+
+pub crowded-last : {k : Case} {room t : ℕ} (last : ℕ) → t ≤ last + 1 → Crowded k room t 0 → Crowded k room (last + 1) 0
+crowded-last last h c = crowded-later (last + 1) 0 (λ s p l. inl (⊎-elim (λ a. omega arith) (λ a. absurd (omega (arith, a .1))) l)) c
 
 -- the first row
 
@@ -365,8 +367,25 @@ filled-first k f =
       complete = λ s u g l o p f c. absurd (⊎-elim (λ a. omega arith) (λ a. omega (arith, a .1)) l);
     }
 
-pub crowded-first : (k : Case) (n : ℕ) → n < 5 → Vacant k (k .start) 0 → Crowded k n
-crowded-first k n l f = record { rows = record { place = k .start; step = 0; cost = zeroCost } ∷ []; ascending = more-falling none none-falling; sound = first f; more = omega arith }
+pub crowded-first : (k : Case) (n : ℕ) → n < 5 → Vacant k (k .start) 0 → Crowded k n 1 0
+crowded-first k n l f =
+    let w = filled-first k f in
+    record {
+      rows = startRow k ∷ [];
+      step = 0;
+      place = k .start;
+      filling = record {
+        bounded = w .bounded;
+        keys = more {r = startRow k} (inr (refl, omega arith)) none;
+        ascending = w .ascending;
+        sound = w .sound;
+        complete = λ s u g a o p q c. absurd (⊎-elim (λ x. omega arith) (λ x. omega (arith, x .0)) a);
+        started = w .started;
+        ahead = λ g o. absurd (any-out (λ q e. any-out (λ r j. omega (arith, j .early)) (e .by)) (o .cand .over));
+      };
+      before = inl (omega arith);
+      more = omega arith;
+    }
 
 pub filled-as : {k : Case} {rs qs : List Row} {t v : ℕ} → rs ≡ qs → Filled k qs t v → Filled k rs t v
 filled-as {k} {rs} {qs} {t} {v} e f = subst (λ (x : List Row). Filled k x t v) (sym e) f
@@ -393,12 +412,12 @@ search-ok k t size xs ys n same l f e =
       full = λ z. absurd (false-not-true z refl);
     }
 
-pub search-full : (k : Case) (t size : ℕ) (ys : List ℕ) (m : ℕ) → length ys ≡ size → ys ≡ replicate m 0 → Crowded k size → Search k t size ys false 0
+pub search-full : (k : Case) (t size : ℕ) (ys : List ℕ) (m : ℕ) → length ys ≡ size → ys ≡ replicate m 0 → Crowded k size t 0 → Search k t size ys false 0
 search-full k t size ys m same e c =
     record { same = same; done = λ z. absurd (false-not-true refl z); rest = λ j l. ap (λ (z : List ℕ). getD z j 0) e ∙ zeros-at m j; full = λ z. (refl, c) }
 
-pub crowded-as : {k : Case} {m n : ℕ} → m ≡ n → Crowded k m → Crowded k n
-crowded-as {k} {m} {n} e c = subst (Crowded k) e c
+pub crowded-as : {k : Case} {m n t v : ℕ} → m ≡ n → Crowded k m t v → Crowded k n t v
+crowded-as {k} {m} {n} {t} {v} e c = subst (λ (x : ℕ). Crowded k x t v) e c
 
 pub filled-start : (k : Case) (xs ys : List ℕ) → Vacant k (k .start) 0 → rowsOf ys 1 ≡ record { place = k .start; step = 0; cost = zeroCost } ∷ rowsOf xs 0 → Filled k (rowsOf ys 1) 1 0
 filled-start k xs ys f e = filled-as (e ∙ ap (λ (rs : List Row). record { place = k .start; step = 0; cost = zeroCost } ∷ rs) (rows-zero xs)) (filled-first k f)
