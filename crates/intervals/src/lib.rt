@@ -17,7 +17,10 @@ pub fn is_free(occupancies: &[u32], v: Place, t: Step) -> bool
     let step = t.0;
     let mut k = 0;
     while k < n {
-        if (occupancies[k * 3] == place) & (occupancies[k * 3 + 1] <= step) & (step <= occupancies[k * 3 + 2]) {
+        if (occupancies[k * 3] == place)
+            & (occupancies[k * 3 + 1] <= step)
+            & (step <= occupancies[k * 3 + 2])
+        {
             return false;
         }
         k += 1;
@@ -30,5 +33,4 @@ pub fn is_free(occupancies: &[u32], v: Place, t: Step) -> bool
 pub fn fill_since(occupancies: &[u32], since: &mut [u16; 16384])
     requires { ⌜ ValidGroup (now occupancies) ⌝ }
     ensures { λ _. ⌜ SinceTable (now (occupancies .entry)) (now (since .exit)) ⌝ }
-{
-}
+{}
