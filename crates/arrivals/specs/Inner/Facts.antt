@@ -3,15 +3,16 @@ use mathlib.Core.Path.{_≡_, refl, sym, ap, _∙_, subst}
 use mathlib.Core.Bool.{Bool, true, false, true≢false}
 use mathlib.Core.List.{List, [], _∷_}
 use mathlib.Core.Logic.{_⊎_, inl, inr, ⊎-elim}
-use Prim.Native.Nat.{ℕ, zero, suc, _+_, _*_, _≤_, _<_}
+use Prim.Native.Nat.{ℕ, zero, suc, _+_, _≤_, _<_}
 use native.Mathlib.Omega.{arith}
 use native.Mathlib.Decide.{decLt}
-use native.Mathlib.Nat.{not-suc-le-zero, mul-le-mul-left}
-use lib.ListN.{length}
+use native.Mathlib.Nat.{not-suc-le-zero}
+use lib.ListN.{length, getD, set, List·getD-eq-default}
+use lib.Seq.{getD-set-same, getD-set-other}
 use Rattle.sheet.specs.Lists.{number, numbersFrom, Lex, lexb}
-use Rattle.sheet.specs.Laws.Order.{Lex-irrefl, Lex-trans, lexb-true, lexb-false, Lex-lexb}
-use Rattle.costs.specs.Costs.{Cost, figures, fig, add, times, Within, AtMost, atMostb}
-use Rattle.costs.specs.Laws.Figures.{fig-add, fig-times, atMostb-true, at-most-atMostb}
+use Rattle.sheet.specs.Laws.Order.{Lex-trans, lexb-true, Lex-lexb}
+use Rattle.costs.specs.Costs.{Cost, fig, Within, AtMost, atMostb}
+use Rattle.costs.specs.Laws.Figures.{atMostb-true, at-most-atMostb, Lex-compared}
 
 -- a flag that decides a claim: true where the claim holds, false where it does not
 pub data Decided (P : Type 0) : Bool → Type 0 where
@@ -74,38 +75,25 @@ from-of (suc n) i l (x ∷ g) e h =
     cc
 
 -- the ascending order of costs
-pub Lex-asym : (a b : List ℕ) → Lex a b → Lex b a → ⊥
-Lex-asym a b p q = Lex-irrefl a (Lex-trans a b a p q)
-
-pub compared : (a b : List ℕ) → (a ≡ b) ⊎ (Lex a b ⊎ Lex b a)
-compared a b = go (lexb a b) refl
-  where
-    rest : (a ≡ b) ⊎ Lex b a → (a ≡ b) ⊎ (Lex a b ⊎ Lex b a)
-    rest (inl e) = inl e
-    rest (inr l) = inr (inr l)
-
-    go : (t : Bool) → lexb a b ≡ t → (a ≡ b) ⊎ (Lex a b ⊎ Lex b a)
-    go true e = inr (inl (lexb-true a b e))
-    go false e = rest (lexb-false a b e)
-
 pub not-Lex-trans : (a b d : List ℕ) → (Lex a b → ⊥) → (Lex b d → ⊥) → Lex a d → ⊥
 not-Lex-trans a b d f g p =
-    ⊎-elim (λ e. g (subst (λ (x : List ℕ). Lex x d) e p)) (λ o. ⊎-elim f (λ l. g (Lex-trans b a d l p)) o) (compared a b)
-
--- what is nowhere above comes no later
-pub at-most-not-Lex : (a b : Cost) → length a ≡ length b → AtMost a b → Lex b a → ⊥
-at-most-not-Lex [] [] l p q = q
-at-most-not-Lex [] (y ∷ b) l p q = q
-at-most-not-Lex (x ∷ a) [] l p q = absurd (omega arith)
-at-most-not-Lex (x ∷ a) (y ∷ b) l p (inl q) = omega (arith, p .every 0)
-at-most-not-Lex (x ∷ a) (y ∷ b) l p (inr q) = at-most-not-Lex a b (omega arith) (record { every = λ i. p .every (suc i) }) (q .1)
+    ⊎-elim (λ e. g (subst (λ (x : List ℕ). Lex x d) e p)) (λ o. ⊎-elim f (λ l. g (Lex-trans b a d l p)) o) (Lex-compared a b)
 
 -- bounds on every figure
 pub within-of : {g h : Cost} (m n : ℕ) → g ≡ h → m ≤ n → Within m h → Within n g
 within-of m n e le w = record { every = λ i. omega (arith, w .every i, ap (λ (x : Cost). fig x i) e) }
 
-pub within-times : (n m : ℕ) (w : Cost) → Within m w → Within (n * m) (times n w)
-within-times n m w h = record { every = λ i. omega (arith, fig-times n w i, mul-le-mul-left n (h .every i)) }
+-- a list that is filled from the front with f: one store more
+pub fill-by : (f : ℕ → ℕ) (l : List ℕ) (i : ℕ) → i < length l → ((k : ℕ) → k < i → getD l k 0 ≡ f k) → (k : ℕ) → k < i + 1 → getD (set l i (f i)) k 0 ≡ f k
+fill-by f l i n all k m =
+    ⊎-elim
+    (λ lt. getD-set-other l i k (f i) 0 (λ e. omega arith) ∙ all k lt)
+    (λ ge. let e : k ≡ i = omega arith in subst (λ (j : ℕ). getD (set l i (f i)) j 0 ≡ f j) (sym e) (getD-set-same l i (f i) 0 n))
+    (lt-or-le k i)
 
-pub within-add : (m n : ℕ) (a b : Cost) → Within m a → Within n b → Within (m + n) (add a b)
-within-add m n a b p q = record { every = λ i. omega (arith, fig-add a b i, p .every i, q .every i) }
+-- what holds of the figures within n holds of all, where no list has more
+pub sum-everywhere : (n : ℕ) (a b r : List ℕ) → length a ≡ n → length b ≡ n → length r ≡ n → ((i : ℕ) → i < n → fig r i + fig b i ≡ fig a i) → (i : ℕ) → fig r i + fig b i ≡ fig a i
+sum-everywhere n a b r p q u h i =
+    ⊎-elim (λ l. h i l)
+    (λ l. omega (arith, List·getD-eq-default a 0 {n = i} (omega arith), List·getD-eq-default b 0 {n = i} (omega arith), List·getD-eq-default r 0 {n = i} (omega arith)))
+    (lt-or-le i n)

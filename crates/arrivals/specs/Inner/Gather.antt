@@ -10,8 +10,8 @@ use lib.ListN.{length, getD}
 use Rattle.sheet.specs.Lists.{Lex}
 use Rattle.sheet.specs.Laws.Order.{Lex-trans}
 use Rattle.costs.specs.Costs.{figures, fig, add, times, Within, AtMost}
-use Rattle.costs.specs.Laws.Figures.{fig-add, fig-times, at-most-refl, at-most-trans}
-use Rattle.arrivals.specs.Inner.Facts.{lt-or-le, compared}
+use Rattle.costs.specs.Laws.Figures.{fig-add, fig-times, at-most-refl, at-most-trans, Lex-compared}
+use Rattle.arrivals.specs.Inner.Facts.{lt-or-le}
 use Rattle.arrivals.specs.Inner.Rows.{Row, rowAt, rowsOf, row-path, Any, All, here, there, none, more, any-cons, any-nil, all-head, all-tail, all-at, rows-kept, Bounded, RowLeads}
 use Rattle.arrivals.specs.Inner.Search.{Joins, Enters, Led}
 use Rattle.arrivals.specs.Inner.Table.{Case, Legal, since, Vacant, Cand, Lead, Open, Less, Sound, entered, Falling, none-falling, more-falling, Filled, startRow, self-leads, all-map, all-both, any-map, any-out, any-all, cand-down, cand-bounded, row-after, filling-of, filled-as, Result, result-done}
@@ -69,7 +69,7 @@ all-behind : {r : Row} {ps : List Row} → Stops r ps → Sorted ps → (Beaten 
 all-behind stops-none s n = none
 all-behind {r} (stops-at {q} {qs} b) s n =
     let first : Lex (q .cost) (r .cost) =
-    ⊎-elim (λ e. absurd (n (here (subst (λ (x : List ℕ). AtMost (q .cost) x) e (at-most-refl (q .cost)))))) (λ d. ⊎-elim (λ y. y) (λ y. absurd (b y)) d) (compared (q .cost) (r .cost)) in
+    ⊎-elim (λ e. absurd (n (here (subst (λ (x : List ℕ). AtMost (q .cost) x) e (at-most-refl (q .cost)))))) (λ d. ⊎-elim (λ y. y) (λ y. absurd (b y)) d) (Lex-compared (q .cost) (r .cost)) in
     more (first, λ m. n (here m)) (all-both (λ p x y. (Lex-trans (p .cost) (q .cost) (r .cost) (x .0) first, y)) (sorted-head s) (none-of qs (λ x. n (there x))))
 
 insert-sorted : {r : Row} {ps qs : List Row} → (Beaten ps (r .cost) → ⊥) → All (λ q. AtMost (r .cost) (q .cost) → ⊥) ps → Sorted ps → Insert r ps qs → Sorted qs

@@ -9,8 +9,8 @@ use lib.ListN.{length, getD}
 use Rattle.sheet.specs.Lists.{Lex}
 use Rattle.sheet.specs.Laws.Order.{Lex-irrefl}
 use Rattle.costs.specs.Costs.{figures, fig, add, times, Within, AtMost}
-use Rattle.costs.specs.Laws.Figures.{length-add, length-times}
-use Rattle.arrivals.specs.Inner.Facts.{within-of, within-times, within-add, Lex-asym, not-Lex-trans}
+use Rattle.costs.specs.Laws.Figures.{length-add, length-times, within-times, within-add, Lex-asym}
+use Rattle.arrivals.specs.Inner.Facts.{within-of, not-Lex-trans}
 use Rattle.arrivals.specs.Inner.Rows.{Row, rowAt, rowsOf, rows-more, Any, All, here, there, any-cons, any-nil, none-zero, Bounded, RowLeads}
 
 -- the first step of the safe interval of place v at step t; above t where v is occupied then

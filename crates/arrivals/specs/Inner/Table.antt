@@ -11,8 +11,8 @@ use lib.ListN.{length, getD, take, replicate, length-replicate, getD-replicate, 
 use lib.Seq.{getD-take, getD-append-add, length-take-le}
 use Rattle.sheet.specs.Lists.{Lex}
 use Rattle.costs.specs.Costs.{figures, zeroCost, fig, add, times, Within, AtMost, atMostb}
-use Rattle.costs.specs.Laws.Figures.{fig-add, fig-times, fig-zero, atMostb-true, at-most-atMostb}
-use Rattle.arrivals.specs.Inner.Facts.{lt-or-le, compared, within-of, Decided, holds, fails, at-most-decided}
+use Rattle.costs.specs.Laws.Figures.{fig-add, fig-times, fig-zero, Lex-compared}
+use Rattle.arrivals.specs.Inner.Facts.{lt-or-le, Decided, holds, fails, at-most-decided}
 use Rattle.arrivals.specs.Inner.Rows.{Row, rowAt, rowsOf, Any, All, here, there, none, more, any-cons, any-nil, rows-kept, rows-zero, all-head, all-tail, Bounded, RowLeads}
 use Rattle.arrivals.specs.Inner.Search.{sinceIn, reach, Joins, Enters, Led, Link, Least, false-not-true, reach-bounded}
 
@@ -220,7 +220,7 @@ filling-more k rs t v g legal one inside free f o least =
         ⊎-elim
         (λ e. absurd (oh .unled (record { row = here (subst (λ (x : List ℕ). RowLeads v t (since k v t) (k .wait) x (record { place = v; step = t; cost = g })) e (self-leads v t (since k v t) (k .wait) g free)) })))
         (λ d. ⊎-elim (λ b. b) (λ b. absurd (least h down b)) d)
-        (compared g h)
+        (Lex-compared g h)
 
 pub filled-place : (k : Case) (rs : List Row) (t v : ℕ) → Filling k rs t v → ((g : List ℕ) → Open k rs v t g → ⊥) → Filled k rs t (v + 1)
 filled-place k rs t v f stop =
