@@ -18,8 +18,8 @@ pub fn sum(a: [u32; 3], b: [u32; 3]) -> [u32; 3]
     ensures { λ r. ⌜ r ≡ add a b ⌝ }
 {
     let mut r = [0; 3];
-    for i in 0..3 {
-        r[i] = a[i] + b[i];
+    for j in 0..3 {
+        r[j] = a[j] + b[j];
     }
     r
 }
@@ -30,8 +30,8 @@ pub fn multiple(n: u32, w: [u32; 3]) -> [u32; 3]
     ensures { λ r. ⌜ r ≡ times n w ⌝ }
 {
     let mut r = [0; 3];
-    for i in 0..3 {
-        r[i] = n * w[i];
+    for k in 0..3 {
+        r[k] = n * w[k];
     }
     r
 }
@@ -41,7 +41,7 @@ pub fn at_most(a: [u32; 3], b: [u32; 3]) -> bool
     ensures { λ r. ⌜ r ≡ atMostb a b ⌝ }
 {
     for i in 0..3 {
-        if b[i] < a[i] {
+        if a[i] > b[i] {
             return false;
         }
     }

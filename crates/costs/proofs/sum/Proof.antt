@@ -1,4 +1,4 @@
--- `costs::sum` meets its contract. The loop's invariant: the first i figures of r are the sums of those of a and b.
+-- `costs::sum` meets its contract. The loop's invariant: the first j figures of r are the sums of those of a and b.
 -- The measure is what is left of the three figures.
 -- Assumes nothing.
 use mathlib.Core.Path.{refl}
@@ -11,10 +11,10 @@ use Rattle.costs.proofs.sum.Statement.{statement}
 use Rattle.costs.proofs.sum.Tie as tie
 
 abbrev Inv-loop : tie.InvT-loop
-Inv-loop a b r₀ i₀ r i = (i ≤ 3) × Stored 3 (λ k. fig a k + fig b k) i r
+Inv-loop a b r₀ j₀ r j = (j ≤ 3) × Stored 3 (λ i. fig a i + fig b i) j r
 
 abbrev μ-loop : tie.MeasureT-loop
-μ-loop a b r₀ i₀ r i = 3 - i
+μ-loop a b r₀ j₀ r j = 3 - j
 
 loop-holds : tie.Need-loop-holds Inv-loop μ-loop
 loop-holds c = (search needs, stored-none 3 _ _ refl)
@@ -32,7 +32,7 @@ array-read-r-2 : tie.Need-array-read-r-2 Inv-loop μ-loop
 array-read-r-2 c = search needs
 
 add-r : tie.Need-add-r Inv-loop μ-loop
-add-r c = omega (arith, c .before .before .pre .0 .every (c .before .loop .i), c .before .before .pre .1 .every (c .before .loop .i))
+add-r c = omega (arith, c .before .before .pre .0 .every (c .before .loop .j), c .before .before .pre .1 .every (c .before .loop .j))
 
 mul-r-3 : tie.Need-mul-r-3 Inv-loop μ-loop
 mul-r-3 c = search needs
@@ -40,17 +40,17 @@ mul-r-3 c = search needs
 array-write-r : tie.Need-array-write-r Inv-loop μ-loop
 array-write-r c = search needs
 
-add-i : tie.Need-add-i Inv-loop μ-loop
-add-i c = search needs
+add-j : tie.Need-add-j Inv-loop μ-loop
+add-j c = search needs
 
 loop-less : tie.Need-loop-less Inv-loop μ-loop
 loop-less c = search needs
 
 loop-again : tie.Need-loop-again Inv-loop μ-loop
-loop-again c = (search needs, stored-more 3 _ (c .before .loop .i) (c .before .loop .r) (search needs) (c .before .loop .inv .1))
+loop-again c = (search needs, stored-more 3 _ (c .before .loop .j) (c .before .loop .r) (search needs) (c .before .loop .inv .1))
 
 returns : tie.Need-returns Inv-loop μ-loop
-returns c = is-add 3 (c .before .loop .r) (c .before .before .args .t1) (c .before .before .args .t2) (search needs) (search needs) (stored-all 3 _ (c .before .loop .i) _ (omega arith) (c .before .loop .inv .1))
+returns c = is-add 3 (c .before .loop .r) (c .before .before .args .t1) (c .before .before .args .t2) (search needs) (search needs) (stored-all 3 _ (c .before .loop .j) _ (omega arith) (c .before .loop .inv .1))
 
 pub sum-spec : {M : Type 1} → statement M
 sum-spec =
@@ -66,7 +66,7 @@ sum-spec =
     add-r
     mul-r-3
     array-write-r
-    add-i
+    add-j
     loop-less
     loop-again
     returns)
