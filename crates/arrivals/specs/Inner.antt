@@ -12,6 +12,8 @@ pub mod Group
 pub mod Index
 pub mod Gather
 pub mod Meaning
+pub mod Ending
+pub mod OfSheet
 
 -- the answer of the search with the table that it left
 abbrev pub searchEnd : Searched → List ℕ → SearchEnd

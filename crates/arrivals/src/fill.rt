@@ -1,4 +1,6 @@
 // The rows place by place and step by step.
+use crate::cells::clear;
+use crate::cells::clear_from;
 use crate::cells::push_row;
 use crate::choose::fill_place;
 use crate::entries::from_links;
@@ -11,7 +13,7 @@ ghost use Prim.Native.Nat.{_+_, _*_, _<_, _≤_};
 ghost use lib.ListN.{length};
 ghost use Rattle.arrivals.specs.Inner.Rows.{rowsOf};
 ghost use Rattle.arrivals.specs.Inner.Index.{Indexed, Chained, Grown};
-ghost use Rattle.arrivals.specs.Inner.Table.{caseOf, Vacant, Filled, Result, Given};
+ghost use Rattle.arrivals.specs.Inner.Table.{caseOf, Vacant, Filled, Result, Given, Search};
 
 // Fills in place v at step t: every offer is judged once; where the room runs out on the way, as fill_place does.
 pub fn fill_fast(
@@ -207,4 +209,29 @@ pub fn search_all(
         );
     }
     Outcome { ok: false, rows }
+}
+
+// All the rows of the search, and zeros after them; or zeros alone where there is no room.
+pub fn fill(
+    table: &mut [u32],
+    links: &[u32],
+    m: usize,
+    firsts: &[u16],
+    last: u32,
+    wait: [u32; 3],
+    places: u32,
+    start: u32,
+) -> Outcome
+    requires { ⌜ (Given (caseOf (now firsts) (now links) m wait places start) (now links) m (now firsts)) × (last ≤ 255) × (start < places) ⌝ }
+    ensures { λ r. ⌜ Search (caseOf (now (firsts .entry)) (now (links .entry)) m wait places start) (last + 1) (length (now (table .entry))) (now (table .exit)) (r .ok) (r .rows) ⌝ }
+{
+    let r = search_all(table, links, m, firsts, last, wait, places, start);
+    let ok = r.ok;
+    let rows = r.rows;
+    if ok {
+        clear_from(table, rows * 5);
+        return Outcome { ok: true, rows };
+    }
+    clear(table);
+    Outcome { ok: false, rows: 0 }
 }

@@ -318,6 +318,7 @@ filling-as {k} {rs} {qs} {t} {v} e f = subst (λ (x : List Row). Filling k x t v
 -- what the whole search leaves in a table of the given length: all rows before step t, and zeros; or zeros alone, where there is no room
 pub record Search (k : Case) (t size : ℕ) (xs : List ℕ) (ok : Bool) (n : ℕ) : Type 0 where
   pub same : length xs ≡ size
+  pub room : n * 5 ≤ size
   pub done : ok ≡ true → Filled k (rowsOf xs n) t 0
   pub rest : (j : ℕ) → n * 5 ≤ j → getD xs j 0 ≡ 0
   pub full : ok ≡ false → (n ≡ 0) × Crowded k size t 0
@@ -328,7 +329,7 @@ filled-end k rs t v l m f = filled-step k rs t (subst (λ (j : ℕ). Filled k rs
 pub filled-last : (k : Case) (rs : List Row) (t last : ℕ) → t ≤ last + 1 → last < t → Filled k rs t 0 → Filled k rs (last + 1) 0
 filled-last k rs t last l m f = subst (λ (j : ℕ). Filled k rs j 0) (omega arith) f
 
-count-rows : (xs : List ℕ) (n : ℕ) → length (rowsOf xs n) ≡ n
+pub count-rows : (xs : List ℕ) (n : ℕ) → length (rowsOf xs n) ≡ n
 unfolding rowsOf
 count-rows xs zero = refl
 count-rows xs (suc n) = ap suc (count-rows xs n)
@@ -396,17 +397,18 @@ pub zeros-at : (n j : ℕ) → _≡_ {A = ℕ} (getD (replicate n 0) j 0) 0
 zeros-at n j = ⊎-elim (λ l. getD-replicate n j 0 0 l) (λ l. List·getD-eq-default (replicate n 0) 0 (omega (arith, length-replicate {A = ℕ} n 0))) (lt-or-le j n)
 
 module _ (xs : List ℕ) (a b : ℕ) (fits : a ≤ length xs) where
-  cut-below : (j : ℕ) → j < a → getD (take a xs ++ replicate b 0) j 0 ≡ getD xs j 0
+  pub cut-below : (j : ℕ) → j < a → getD (take a xs ++ replicate b 0) j 0 ≡ getD xs j 0
   cut-below j l = List·getD-append (take a xs) (replicate b 0) 0 j (omega (arith, length-take-le a xs fits)) ∙ getD-take a xs j 0 l
 
-  cut-past : (j : ℕ) → a ≤ j → getD (take a xs ++ replicate b 0) j 0 ≡ 0
+  pub cut-past : (j : ℕ) → a ≤ j → getD (take a xs ++ replicate b 0) j 0 ≡ 0
   cut-past j l =
       ap (λ (i : ℕ). getD (take a xs ++ replicate b 0) i 0) (omega (arith, length-take-le a xs fits)) ∙ getD-append-add (take a xs) (replicate b 0) (j - a) 0 ∙ zeros-at b (j - a)
 
-pub search-ok : (k : Case) (t size : ℕ) (xs ys : List ℕ) (n : ℕ) → length ys ≡ size → n * 5 ≤ length xs → Filled k (rowsOf xs n) t 0 → ys ≡ take (n * 5) xs ++ replicate (length xs - n * 5) 0 → Search k t size ys true n
-search-ok k t size xs ys n same l f e =
+pub search-ok : (k : Case) (t size : ℕ) (xs ys : List ℕ) (n : ℕ) → length ys ≡ size → n * 5 ≤ size → n * 5 ≤ length xs → Filled k (rowsOf xs n) t 0 → ys ≡ take (n * 5) xs ++ replicate (length xs - n * 5) 0 → Search k t size ys true n
+search-ok k t size xs ys n same wide l f e =
     record {
       same = same;
+      room = wide;
       done = λ _. filled-as (rows-kept xs ys n (λ j m. ap (λ (z : List ℕ). getD z j 0) e ∙ cut-below xs (n * 5) (length xs - n * 5) l j m)) f;
       rest = λ j m. ap (λ (z : List ℕ). getD z j 0) e ∙ cut-past xs (n * 5) (length xs - n * 5) l j m;
       full = λ z. absurd (false-not-true z refl);
@@ -414,7 +416,7 @@ search-ok k t size xs ys n same l f e =
 
 pub search-full : (k : Case) (t size : ℕ) (ys : List ℕ) (m : ℕ) → length ys ≡ size → ys ≡ replicate m 0 → Crowded k size t 0 → Search k t size ys false 0
 search-full k t size ys m same e c =
-    record { same = same; done = λ z. absurd (false-not-true refl z); rest = λ j l. ap (λ (z : List ℕ). getD z j 0) e ∙ zeros-at m j; full = λ z. (refl, c) }
+    record { same = same; room = omega arith; done = λ z. absurd (false-not-true refl z); rest = λ j l. ap (λ (z : List ℕ). getD z j 0) e ∙ zeros-at m j; full = λ z. (refl, c) }
 
 pub crowded-as : {k : Case} {m n t v : ℕ} → m ≡ n → Crowded k m t v → Crowded k n t v
 crowded-as {k} {m} {n} {t} {v} e c = subst (λ (x : ℕ). Crowded k x t v) e c

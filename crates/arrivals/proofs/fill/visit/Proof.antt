@@ -24,7 +24,7 @@ cast-if1 : tie.Need-cast-if1
 cast-if1 c = omega (arith, c .shared-slice-known4 .given (c .before .before .before .before .before .before .args .v * 256 + c .before .before .before .before .before .before .args .t))
 
 fill-fast-requires : tie.Need-fill-fast-requires
-fill-fast-requires c κs = search needs
+fill-fast-requires c κs = (c .before .before .before .before .before .before .before .before .before .pre .0, c .before .before .before .before .before .before .before .before .before .pre .1, c .before .before .before .before .before .before .before .before .before .pre .2, c .before .before .before .before .before .before .before .before .before .pre .3, c .before .before .before .before .before .before .before .before .before .pre .4, c .before .before .before .before .before .before .before .before .before .pre .5, c .before .before .if1 .taken, c .before .before .before .before .before .before .before .before .before .pre .6, c .before .before .before .before .before .before .before .before .before .pre .7)
 
 note-requires : tie.Need-note-requires
 note-requires c κs = search needs
