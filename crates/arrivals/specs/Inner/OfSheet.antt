@@ -17,7 +17,7 @@ use Rattle.costs.specs.Inner.{WaitIs}
 use Rattle.costs.specs.Laws.Moves.{wait-three, crossing-three, wait-bounded, crossing-bounded}
 use Rattle.costs.specs.Laws.Rows.{row, row-number, mem-rows, rows-mem}
 use Rattle.intervals.specs.Intervals.{Free, Run, sinceOf}
-use Rattle.intervals.specs.Inner.{SinceTable}
+use Rattle.intervals.specs.Inner.{SinceTable, ValidGroup}
 use Rattle.intervals.specs.Laws.Runs.{since-free, since-run, since-same}
 use Rattle.arrivals.specs.Inner.Facts.{from-same}
 use Rattle.arrivals.specs.Inner.Rows.{Row, rowAt, rowsOf, All, none, more, row-path, any-at}
@@ -46,7 +46,17 @@ same-wait : (s : Sheet) (u v : ℕ) → waitOf s u ≡ waitOf s v
 unfolding waitOf
 same-wait s u v = refl
 
-module _ (head cs os firsts : List ℕ) (wait : Cost) (at : Place) (valid : Valid (sheetOfGroups head cs os)) (size : length firsts ≡ 16384) (table : SinceTable os firsts) (waiting : WaitIs head at wait) where
+-- the occupancies of a valid sheet
+pub valid-group : (head cs os : List ℕ) → Valid (sheetOfGroups head cs os) → length os % 3 ≡ 0 → ValidGroup os
+valid-group head cs os valid whole =
+    record {
+      most = omega (arith, rows-count 3 (length os / 3) os, valid .most-occupancies);
+      whole = whole;
+      place = λ o m. omega (arith, valid .occupancies o m .place, valid .most-places);
+      step = λ o m. valid .occupancies o m .in-day;
+    }
+
+module _ (head cs os firsts : List ℕ) (wait : Cost) (at : Place) (valid : Valid (sheetOfGroups head cs os)) (table : SinceTable os firsts) (waiting : WaitIs head at wait) where
   abbrev the : Sheet
   the = sheetOfGroups head cs os
 
@@ -130,7 +140,7 @@ module _ (head cs os firsts : List ℕ) (wait : Cost) (at : Place) (valid : Vali
           three = ap length (sym (waits-at 0)) ∙ wait-three the 0;
         };
         corridors = omega arith;
-        intervals = omega arith;
+        intervals = omega (arith, table .size);
         places = valid .most-places;
         few = omega (arith, rows-count 5 (length cs / 5) cs, valid .most-corridors);
       }
