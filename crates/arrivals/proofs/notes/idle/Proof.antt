@@ -1,0 +1,28 @@
+-- `arrivals::notes::idle` meets its contract.
+-- Assumes nothing.
+use mathlib.Core.Path.{refl}
+use borrow.Author.Needs.{needs}
+use Rattle.arrivals.specs.Inner.Search.{false-not-true}
+use Rattle.arrivals.proofs.notes.idle.Statement.{statement}
+use Rattle.arrivals.proofs.notes.idle.Tie as tie
+
+returns : tie.Need-returns
+returns c = λ e. absurd (false-not-true refl e)
+
+add-if2 : tie.Need-add-if2
+add-if2 c = search needs
+
+mul-if2 : tie.Need-mul-if2
+mul-if2 c = search needs
+
+shared-slice-read-if2 : tie.Need-shared-slice-read-if2
+shared-slice-read-if2 c = search needs
+
+returns-2 : tie.Need-returns-2
+returns-2 c = λ e. (c .before .before .if1 .left, c .if2 .taken)
+
+returns-3 : tie.Need-returns-3
+returns-3 c = λ e. absurd (false-not-true refl e)
+
+pub idle-spec : {M : Type 1} → statement M
+idle-spec = tie.close (tie.spec returns add-if2 mul-if2 shared-slice-read-if2 returns-2 returns-3)

@@ -1,0 +1,211 @@
+-- Once every cost of entering a place at a step has been offered, the group is what the search has to add.
+use mathlib.Core.Path.{_≡_, refl, sym, ap, ap₂, _∙_, subst}
+use mathlib.Core.List.{List, [], _∷_, _++_}
+use mathlib.Core.Bool.{Bool, true, false}
+use mathlib.Core.Logic.{_⊎_, inl, inr, ⊎-elim}
+use Prim.Native.Nat.{ℕ, zero, suc, _+_, _*_, _-_, _≤_, _<_}
+use native.Mathlib.Omega.{arith}
+use native.Mathlib.Numerals.{add-one}
+use lib.ListN.{length, getD}
+use Rattle.sheet.specs.Lists.{Lex}
+use Rattle.sheet.specs.Laws.Order.{Lex-trans}
+use Rattle.costs.specs.Costs.{figures, fig, add, times, Within, AtMost}
+use Rattle.costs.specs.Laws.Figures.{fig-add, fig-times, at-most-refl, at-most-trans, Lex-compared}
+use Rattle.arrivals.specs.Inner.Facts.{lt-or-le}
+use Rattle.arrivals.specs.Inner.Rows.{Row, rowAt, rowsOf, row-path, Any, All, here, there, none, more, any-cons, any-nil, all-head, all-tail, all-at, rows-kept, Bounded, RowLeads}
+use Rattle.arrivals.specs.Inner.Search.{Joins, Enters, Led}
+use Rattle.arrivals.specs.Inner.Table.{Case, Legal, since, Vacant, Cand, Lead, Open, Less, Sound, entered, Falling, none-falling, more-falling, Filled, startRow, self-leads, all-map, all-both, any-map, any-out, any-all, cand-down, cand-bounded, row-after, filling-of, filled-as, Result, result-done}
+use Rattle.arrivals.specs.Inner.Index.{Indexed, indexed-more, indexed-kept, Grown, grown-none, grown-more, NotedAs}
+use Rattle.arrivals.specs.Inner.Group.{Put, tailOf, tail-zero, rows-tail, Swept, Beaten, Thin, thin-none, thin-drop, thin-keep, Stops, stops-none, stops-at, Insert, insert-here, insert-past, Offered, offered-not, offered-in, Offers, offers-none, offers-more}
+
+abbrev pub Apart : List ℕ → Row → Type 0
+Apart g q = Lex (q .cost) g × (AtMost (q .cost) g → ⊥)
+
+pub data Sorted : List Row → Type 0 where
+  sorted-none : Sorted []
+  sorted-more : {r : Row} {gs : List Row} → All (Apart (r .cost)) gs → Sorted gs → Sorted (r ∷ gs)
+
+sorted-head : {r : Row} {gs : List Row} → Sorted (r ∷ gs) → All (Apart (r .cost)) gs
+sorted-head (sorted-more a s) = a
+
+sorted-tail : {r : Row} {gs : List Row} → Sorted (r ∷ gs) → Sorted gs
+sorted-tail (sorted-more a s) = s
+
+-- a row of the group that is gathered at v and t after the rows rs
+pub record Own (k : Case) (rs : List Row) (v t : ℕ) (r : Row) : Type 0 where
+  pub place : r .place ≡ v
+  pub step : r .step ≡ t
+  pub fresh : Open k rs v t (r .cost)
+
+thin-all : {P : Row → Type 0} {g : List ℕ} {gs ps : List Row} → Thin g gs ps → All P gs → All P ps
+thin-all thin-none a = a
+thin-all (thin-drop l x) a = thin-all x (all-tail a)
+thin-all (thin-keep l x) a = more (all-head a) (thin-all x (all-tail a))
+
+thin-any : {P : Row → Type 0} {g : List ℕ} {gs ps : List Row} → Thin g gs ps → Any P ps → Any P gs
+thin-any thin-none a = a
+thin-any (thin-drop l x) a = there (thin-any x a)
+thin-any (thin-keep l x) a = ⊎-elim (λ p. here p) (λ b. there (thin-any x b)) (any-cons a)
+
+thin-left : {g : List ℕ} {gs ps : List Row} → Thin g gs ps → All (λ q. AtMost g (q .cost) → ⊥) ps
+thin-left thin-none = none
+thin-left (thin-drop l x) = thin-left x
+thin-left (thin-keep l x) = more l (thin-left x)
+
+thin-sorted : {g : List ℕ} {gs ps : List Row} → Thin g gs ps → Sorted gs → Sorted ps
+thin-sorted thin-none s = s
+thin-sorted (thin-drop l x) s = thin-sorted x (sorted-tail s)
+thin-sorted (thin-keep l x) s = sorted-more (thin-all x (sorted-head s)) (thin-sorted x (sorted-tail s))
+
+insert-all : {P : Row → Type 0} {r : Row} {ps qs : List Row} → Insert r ps qs → P r → All P ps → All P qs
+insert-all (insert-here s) p a = more p a
+insert-all (insert-past l i) p a = more (all-head a) (insert-all i p (all-tail a))
+
+none-of : {P : Row → Type 0} (ps : List Row) → (Any P ps → ⊥) → All (λ q. P q → ⊥) ps
+none-of [] n = none
+none-of (q ∷ ps) n = more (λ p. n (here p)) (none-of ps (λ a. n (there a)))
+
+all-behind : {r : Row} {ps : List Row} → Stops r ps → Sorted ps → (Beaten ps (r .cost) → ⊥) → All (Apart (r .cost)) ps
+all-behind stops-none s n = none
+all-behind {r} (stops-at {q} {qs} b) s n =
+    let first : Lex (q .cost) (r .cost) =
+    ⊎-elim (λ e. absurd (n (here (subst (λ (x : List ℕ). AtMost (q .cost) x) e (at-most-refl (q .cost)))))) (λ d. ⊎-elim (λ y. y) (λ y. absurd (b y)) d) (Lex-compared (q .cost) (r .cost)) in
+    more (first, λ m. n (here m)) (all-both (λ p x y. (Lex-trans (p .cost) (q .cost) (r .cost) (x .0) first, y)) (sorted-head s) (none-of qs (λ x. n (there x))))
+
+insert-sorted : {r : Row} {ps qs : List Row} → (Beaten ps (r .cost) → ⊥) → All (λ q. AtMost (r .cost) (q .cost) → ⊥) ps → Sorted ps → Insert r ps qs → Sorted qs
+insert-sorted n m s (insert-here b) = sorted-more (all-behind b s n) s
+insert-sorted n m s (insert-past b i) = sorted-more (insert-all i (b, all-head m) (sorted-head s)) (insert-sorted (λ x. n (there x)) (all-tail m) (sorted-tail s) i)
+
+module _ (k : Case) (rs : List Row) (v t : ℕ) where
+  abbrev Older : List ℕ → Type 0
+  Older h = Led rs v t (since k v t) (k .wait) h
+
+  pub gathered : {S : List ℕ → Type 0} {gs : List Row} → ((h : List ℕ) → S h → Cand k rs v t h) → Offers S Older v t [] gs → All (Own k rs v t) gs × Sorted gs
+  gathered f offers-none = (none, sorted-none)
+  gathered {S} f (offers-more {ps} {qs} {g} o s x) = let w = gathered f o in go (w .0) (w .1) x
+    where
+      go : {ps qs : List Row} → All (Own k rs v t) ps → Sorted ps → Offered Older v t g ps qs → All (Own k rs v t) qs × Sorted qs
+      go a b (offered-not y) = (a, b)
+      go a b (offered-in n h y i) =
+          let own : Own k rs v t (record { place = v; step = t; cost = g }) = record { place = refl; step = refl; fresh = record { cand = f g s; unled = λ l. h (l .row) } } in
+          (insert-all i own (thin-all y a), insert-sorted (λ z. n (thin-any y z)) (thin-left y) (thin-sorted y b) i)
+
+any-right : {P : Row → Type 0} (gs : List Row) {rs : List Row} → Any P rs → Any P (gs ++ rs)
+any-right [] a = a
+any-right (g ∷ gs) a = there (any-right gs a)
+
+any-left : {P : Row → Type 0} {gs : List Row} (rs : List Row) → Any P gs → Any P (gs ++ rs)
+any-left rs (here p) = here p
+any-left rs (there a) = there (any-left rs a)
+
+any-split : {P : Row → Type 0} (gs : List Row) {rs : List Row} → Any P (gs ++ rs) → Any P gs ⊎ Any P rs
+any-split [] a = inr a
+any-split (g ∷ gs) a = ⊎-elim (λ p. inl (here p)) (λ b. ⊎-elim (λ c. inl (there c)) (λ c. inr c) (any-split gs b)) (any-cons a)
+
+all-join : {P : Row → Type 0} {gs rs : List Row} → All P gs → All P rs → All P (gs ++ rs)
+all-join none b = b
+all-join (more p a) b = more p (all-join a b)
+
+less-sum : (a b g : List ℕ) → AtMost (add a b) g → AtMost a g
+less-sum a b g l = record { every = λ i. omega (arith, fig-add a b i, l .every i) }
+
+record Part (k : Case) (qs : List Row) (t v : ℕ) : Type 0 where
+  bounded : All Bounded qs
+  keys : All (λ r. Less (r .step) (r .place) t (v + 1)) qs
+  ascending : Falling qs
+  sound : Sound k qs
+  started : Vacant k (k .start) 0 → Any (λ r. r ≡ startRow k) qs
+
+module _ (k : Case) (rs : List Row) (t v : ℕ) (legal : Legal k) (one : 1 ≤ t) (inside : v < k .places) (free : Vacant k v t) (f : Filled k rs t v) where
+  cand-up : (gs : List Row) (g : List ℕ) → Cand k rs v t g → Cand k (gs ++ rs) v t g
+  cand-up gs g c = record { over = any-map (λ l e. record { into = e .into; by = any-right gs (e .by) }) (c .over) }
+
+  cand-back : {gs : List Row} (u s : ℕ) (g : List ℕ) → s ≤ t → All (Own k rs v t) gs → Cand k (gs ++ rs) u s g → Cand k rs u s g
+  cand-back u s g l none c = c
+  cand-back u s g l (more {r} {rs = gs} p a) c = cand-back u s g l a (cand-down k r (gs ++ rs) u s g (omega (arith, p .step)) c)
+
+  add-row : (gs : List Row) (g : List ℕ) → Part k (gs ++ rs) t v → All (Own k rs v t) gs → All (Apart g) gs → Open k rs v t g → Part k (record { place = v; step = t; cost = g } ∷ gs ++ rs) t v
+  add-row gs g p a s o =
+      record {
+        bounded = more (cand-bounded k rs v t g legal (f .bounded) (o .cand)) (p .bounded);
+        keys = more {r = record { place = v; step = t; cost = g }} (inr (refl, omega arith)) (p .keys);
+        ascending = more-falling (all-both (row-after v t g) (p .keys) (all-join (all-map (λ q x y z. x .0) s) (all-map (λ r l e w. absurd (⊎-elim (λ b. omega arith) (λ b. omega (arith, b .1)) l)) (f .keys)))) (p .ascending);
+        sound = entered inside one free (record { cand = cand-up gs g (o .cand); unled = λ l. ⊎-elim (λ x. any-all (λ q d y. y .1 (less-sum (q .cost) _ g (d .least))) x s) (λ x. o .unled (record { row = x })) (any-split gs (l .row)) }) (p .sound);
+        started = λ w. there (p .started w);
+      }
+
+  part : {gs : List Row} → All (Own k rs v t) gs → Sorted gs → Part k (gs ++ rs) t v
+  part none s = let w = filling-of k rs t v f in record { bounded = w .bounded; keys = w .keys; ascending = w .ascending; sound = w .sound; started = w .started }
+  part (more {r} {rs = gs} p a) s =
+      subst (λ (q : Row). Part k (q ∷ gs ++ rs) t v) (row-path (sym (p .place)) (sym (p .step)) refl) (add-row gs (r .cost) (part a (sorted-tail s)) a (sorted-head s) (p .fresh))
+
+  held-lead : {gs : List Row} (h : List ℕ) → All (Own k rs v t) gs → Beaten gs h ⊎ Led rs v t (since k v t) (k .wait) h → Lead k (gs ++ rs) v t h
+  held-lead {gs} h a (inl b) = record { row = any-left rs (own-leads a b) }
+    where
+      own-leads : {gs : List Row} → All (Own k rs v t) gs → Beaten gs h → Any (RowLeads v t (since k v t) (k .wait) h) gs
+      own-leads none b = absurd (any-nil b)
+      own-leads (more {r} {rs = gs} p a) b =
+          ⊎-elim
+          (λ l. let z = self-leads v t (since k v t) (k .wait) (r .cost) free in
+          here (record { place = p .place; late = omega (arith, p .step); early = omega (arith, p .step); least = at-most-trans _ (r .cost) h (subst (λ (n : ℕ). AtMost (add (r .cost) (times (t - n) (k .wait))) (r .cost)) (sym (p .step)) (z .least)) l }))
+          (λ c. there (own-leads a c))
+          (any-cons b)
+  held-lead {gs} h a (inr b) = record { row = any-right gs b }
+
+  pub filled-group : {gs : List Row} → All (Own k rs v t) gs → Sorted gs → ((h : List ℕ) → Cand k rs v t h → Beaten gs h ⊎ Led rs v t (since k v t) (k .wait) h) → Filled k (gs ++ rs) t (v + 1)
+  filled-group {gs} a s held =
+      let p = part a s in
+      record {
+        bounded = p .bounded;
+        keys = p .keys;
+        ascending = p .ascending;
+        sound = p .sound;
+        started = p .started;
+        complete = λ y u g l o i w c. ⊎-elim (λ b. old y u g (inl b) o i w c) (λ b. ⊎-elim (λ lt. old y u g (inr (b .0, lt)) o i w c) (λ ge. new y u g (b .0) (omega (arith, b .1)) c) (lt-or-le u v)) l;
+      }
+    where
+      early : (y u : ℕ) → Less y u t v → y ≤ t
+      early y u l = ⊎-elim (λ b. omega arith) (λ b. omega (arith, b .0)) l
+
+      old : (y u : ℕ) (g : List ℕ) → Less y u t v → 1 ≤ y → u < k .places → Vacant k u y → Cand k (gs ++ rs) u y g → Lead k (gs ++ rs) u y g
+      old y u g l o i w c = record { row = any-right gs (f .complete y u g l o i w (cand-back u y g (early y u l) a c) .row) }
+
+      new : (y u : ℕ) (g : List ℕ) → y ≡ t → u ≡ v → Cand k (gs ++ rs) u y g → Lead k (gs ++ rs) u y g
+      new y u g d e c =
+          subst (λ (j : ℕ). Lead k (gs ++ rs) u j g) (sym d) (subst (λ (j : ℕ). Lead k (gs ++ rs) j t g) (sym e)
+          (held-lead g a (held g (cand-back v t g (omega arith) a (subst (λ (j : ℕ). Cand k (gs ++ rs) v j g) d (subst (λ (j : ℕ). Cand k (gs ++ rs) j y g) e c))))))
+
+tail-all : {P : Row → Type 0} (xs : List ℕ) (a d i : ℕ) → i < d → All P (tailOf xs a d) → P (rowAt xs (a + i))
+unfolding tailOf
+tail-all xs a zero i l x = absurd (omega arith)
+tail-all {P} xs a (suc d) i l x = ⊎-elim (λ lt. tail-all xs a d i lt (all-tail x)) (λ ge. let e : d ≡ i = omega arith in subst (λ (k : ℕ). P (rowAt xs (a + k))) e (all-head x)) (lt-or-le i d)
+
+abbrev pub AllEntries : Case → List Row → ℕ → ℕ → List ℕ → Type 0
+AllEntries k rs v t h = Any (Enters (k .free) rs v t (since k v t) (k .wait) h) (k .links)
+
+pub swept-filled : (k : Case) (xs ys : List ℕ) (rows d t v : ℕ) → Legal k → 1 ≤ t → v < k .places → Vacant k v t → Filled k (rowsOf xs rows) t v
+    → Swept (AllEntries k (rowsOf xs rows) v t) (Led (rowsOf xs rows) v t (since k v t) (k .wait)) v t rows xs ys 0 true d → Result k ys t (v + 1) true (rows + d) × Grown xs ys rows (rows + d) v t
+swept-filled k xs ys rows d t v legal one inside free f s =
+    let rs = rowsOf xs rows in
+    let o = subst (λ (gs : List Row). Offers (AllEntries k rs v t) (Led rs v t (since k v t) (k .wait)) v t gs (tailOf ys rows d)) (tail-zero xs rows) (s .done refl) in
+    let g = gathered k rs v t (λ h e. record { over = e }) o in
+    let e : rowsOf ys (rows + d) ≡ tailOf ys rows d ++ rs = rows-tail ys rows d ∙ ap (λ (qs : List Row). tailOf ys rows d ++ qs) (rows-kept xs ys rows (s .below)) in (
+      result-done k ys t (v + 1) (rows + d) (s .room) (filled-as e (filled-group k rs t v legal one inside free f (g .0) (g .1) (λ h c. s .all refl h (c .over)))),
+      record { more = omega arith; below = s .below; own = λ i l m. let q : rows + (i - rows) ≡ i = omega arith in let w = tail-all ys rows d (i - rows) (omega arith) (g .0) in subst (λ (j : ℕ). (rowAt ys j .place ≡ v) × (rowAt ys j .step ≡ t)) q (w .place, w .step) },
+    )
+
+pub grown-base : (xs ys zs : List ℕ) (n m v t : ℕ) → ((j : ℕ) → j < n * 5 → getD ys j 0 ≡ getD xs j 0) → Grown ys zs n m v t → Grown xs zs n m v t
+grown-base xs ys zs n m v t same g = record { more = g .more; below = λ j l. g .below j l ∙ same j l; own = g .own }
+
+pub fresh-of : (k : Case) (xs : List ℕ) (n t v : ℕ) → Filled k (rowsOf xs n) t v → (i : ℕ) → i < n → rowAt xs i .place ≡ v → rowAt xs i .step < t
+fresh-of k xs n t v f i l p = ⊎-elim (λ a. a) (λ a. absurd (omega (arith, a .1))) (all-at (λ r. Less (r .step) (r .place) t v) xs n i l (f .keys))
+
+-- the index after a place is visited
+pub noted-more : (k : Case) (xs ys : List ℕ) (n m : ℕ) (ix iy : List ℕ) (t v : ℕ) → v < 64 → Filled k (rowsOf xs n) t v → Indexed xs n ix t → Grown xs ys n m v t → NotedAs ix iy n m t v → Indexed ys m iy t
+noted-more k xs ys n m ix iy t v inside f w g d = indexed-more xs ys n m ix iy t v (d .last) w g inside (fresh-of k xs n t v f) (d .noted) (d .most) (d .past)
+
+pub noted-none : (xs ys : List ℕ) (n m : ℕ) (ix : List ℕ) (t v : ℕ) → m ≤ n → Indexed xs n ix t → Grown xs ys n m v t → Indexed ys m ix t
+noted-none xs ys n m ix t v l w g = let e : n ≡ m = omega (arith, g .more) in subst (λ (j : ℕ). Indexed ys j ix t) e (indexed-kept (g .below) w)
+
+pub noted-first : (xs ys : List ℕ) (ix iy : List ℕ) (v : ℕ) (g : List ℕ) → v < 64 → Indexed xs 0 ix 0 → Put xs ys 0 (record { place = v; step = 0; cost = g }) → NotedAs ix iy 0 1 0 v → Indexed ys 1 iy 0
+noted-first xs ys ix iy v g inside w p d = indexed-more xs ys 0 1 ix iy 0 v (d .last) w (grown-more xs xs ys 0 0 v 0 g (grown-none xs 0 v 0) p) inside (λ i l q. absurd (omega arith)) (d .noted) (d .most) (d .past)

@@ -1,0 +1,237 @@
+// The rows place by place and step by step.
+use crate::cells::clear;
+use crate::cells::clear_from;
+use crate::cells::push_row;
+use crate::choose::fill_place;
+use crate::entries::from_links;
+use crate::notes::chain;
+use crate::notes::note;
+use crate::offers::Outcome;
+ghost use mathlib.Core.Path.{_≡_};
+ghost use mathlib.Core.Bool.{true};
+ghost use Prim.Native.Nat.{_+_, _*_, _<_, _≤_};
+ghost use lib.ListN.{length};
+ghost use Rattle.arrivals.specs.Inner.Rows.{rowsOf};
+ghost use Rattle.arrivals.specs.Inner.Index.{Indexed, Chained, Grown};
+ghost use Rattle.arrivals.specs.Inner.Table.{caseOf, Vacant, Filled, Result, Given, Search};
+
+// Fills in place v at step t: every offer is judged once; where the room runs out on the way, as fill_place does.
+pub fn fill_fast(
+    table: &mut [u32],
+    rows: usize,
+    ix: &[usize],
+    links: &[u32],
+    m: usize,
+    ch: &[usize],
+    firsts: &[u16],
+    t: u32,
+    wait: [u32; 3],
+    v: u32,
+    places: u32,
+    start: u32,
+) -> Outcome
+    requires { ⌜ (rows * 5 ≤ length (now table)) × (Given (caseOf (now firsts) (now links) m wait places start) (now links) m (now firsts)) × (1 ≤ t) × (t ≤ 255) × (v < places) × (Filled (caseOf (now firsts) (now links) m wait places start) (rowsOf (now table) rows) t v) × (Vacant (caseOf (now firsts) (now links) m wait places start) v t) × (Indexed (now table) rows (now ix) t) × (Chained (now links) 1 m (now ch)) ⌝ }
+    ensures { λ r. ⌜ Result (caseOf (now (firsts .entry)) (now (links .entry)) m wait places start) (now (table .exit)) t (v + 1) (r .ok) (r .rows) × Grown (now (table .entry)) (now (table .exit)) rows (r .rows) v t ⌝ }
+{
+    let since = firsts[v as usize * 256 + t as usize] as u32;
+    let r = from_links(table, rows, ix, links, m, ch, firsts, v, t, since, wait);
+    let ok = r.ok;
+    let d = r.rows;
+    if ok {
+        return Outcome {
+            ok: true,
+            rows: rows + d,
+        };
+    }
+    fill_place(table, rows, links, m, firsts, t, wait, v, places, start)
+}
+
+// Fills in place v at step t where it is free.
+pub fn visit(
+    table: &mut [u32],
+    rows: usize,
+    ix: &mut [usize],
+    links: &[u32],
+    m: usize,
+    ch: &[usize],
+    firsts: &[u16],
+    t: u32,
+    wait: [u32; 3],
+    v: u32,
+    places: u32,
+    start: u32,
+) -> Outcome
+    requires { ⌜ (rows * 5 ≤ length (now table)) × (Given (caseOf (now firsts) (now links) m wait places start) (now links) m (now firsts)) × (1 ≤ t) × (t ≤ 255) × (v < places) × (Filled (caseOf (now firsts) (now links) m wait places start) (rowsOf (now table) rows) t v) × (Indexed (now table) rows (now ix) t) × (Chained (now links) 1 m (now ch)) ⌝ }
+    ensures { λ r. ⌜ Result (caseOf (now (firsts .entry)) (now (links .entry)) m wait places start) (now (table .exit)) t (v + 1) (r .ok) (r .rows) × (r .ok ≡ true → Indexed (now (table .exit)) (r .rows) (now (ix .exit)) t) ⌝ }
+{
+    if firsts[v as usize * 256 + t as usize] as u32 <= t {
+        let r = fill_fast(
+            table,
+            rows,
+            ix,
+            links,
+            m,
+            ch,
+            firsts,
+            t,
+            wait,
+            v,
+            places,
+            start,
+        );
+        let ok = r.ok;
+        let n = r.rows;
+        if rows < n {
+            note(ix, rows, n, t as usize, v as usize);
+        }
+        return Outcome { ok, rows: n };
+    }
+    Outcome { ok: true, rows }
+}
+
+// Fills in step t.
+pub fn fill_step(
+    table: &mut [u32],
+    rows: usize,
+    ix: &mut [usize],
+    links: &[u32],
+    m: usize,
+    ch: &[usize],
+    firsts: &[u16],
+    t: u32,
+    wait: [u32; 3],
+    places: u32,
+    start: u32,
+) -> Outcome
+    requires { ⌜ (rows * 5 ≤ length (now table)) × (Given (caseOf (now firsts) (now links) m wait places start) (now links) m (now firsts)) × (1 ≤ t) × (t ≤ 255) × (Filled (caseOf (now firsts) (now links) m wait places start) (rowsOf (now table) rows) t 0) × (Indexed (now table) rows (now ix) t) × (Chained (now links) 1 m (now ch)) ⌝ }
+    ensures { λ r. ⌜ Result (caseOf (now (firsts .entry)) (now (links .entry)) m wait places start) (now (table .exit)) (t + 1) 0 (r .ok) (r .rows) × (r .ok ≡ true → Indexed (now (table .exit)) (r .rows) (now (ix .exit)) t) ⌝ }
+{
+    let mut n = rows;
+    for v in 0..places {
+        let r = visit(table, n, ix, links, m, ch, firsts, t, wait, v, places, start);
+        let ok = r.ok;
+        n = r.rows;
+        if !ok {
+            return Outcome { ok: false, rows: n };
+        }
+    }
+    Outcome { ok: true, rows: n }
+}
+
+// Fills in every step to the last.
+pub fn fill_steps(
+    table: &mut [u32],
+    rows: usize,
+    ix: &mut [usize],
+    links: &[u32],
+    m: usize,
+    ch: &[usize],
+    firsts: &[u16],
+    last: u32,
+    wait: [u32; 3],
+    places: u32,
+    start: u32,
+) -> Outcome
+    requires { ⌜ (rows * 5 ≤ length (now table)) × (Given (caseOf (now firsts) (now links) m wait places start) (now links) m (now firsts)) × (last ≤ 255) × (Filled (caseOf (now firsts) (now links) m wait places start) (rowsOf (now table) rows) 1 0) × (Indexed (now table) rows (now ix) 0) × (Chained (now links) 1 m (now ch)) ⌝ }
+    ensures { λ r. ⌜ Result (caseOf (now (firsts .entry)) (now (links .entry)) m wait places start) (now (table .exit)) (last + 1) 0 (r .ok) (r .rows) ⌝ }
+{
+    let mut n = rows;
+    let mut t = 1;
+    while t <= last {
+        let r = fill_step(table, n, ix, links, m, ch, firsts, t, wait, places, start);
+        let ok = r.ok;
+        n = r.rows;
+        if !ok {
+            return Outcome { ok: false, rows: n };
+        }
+        t += 1;
+    }
+    Outcome { ok: true, rows: n }
+}
+
+// The row of the start, where that is free at step 0.
+pub fn first_row(
+    table: &mut [u32],
+    ix: &mut [usize],
+    links: &[u32],
+    m: usize,
+    firsts: &[u16],
+    wait: [u32; 3],
+    places: u32,
+    start: u32,
+) -> Outcome
+    requires { ⌜ (Given (caseOf (now firsts) (now links) m wait places start) (now links) m (now firsts)) × (start < places) × (Indexed (now table) 0 (now ix) 0) ⌝ }
+    ensures { λ r. ⌜ Result (caseOf (now (firsts .entry)) (now (links .entry)) m wait places start) (now (table .exit)) 1 0 (r .ok) (r .rows) × (r .ok ≡ true → Indexed (now (table .exit)) (r .rows) (now (ix .exit)) 0) ⌝ }
+{
+    if 0 < firsts[start as usize * 256 + 0] as u32 {
+        return Outcome { ok: true, rows: 0 };
+    }
+    if table.len() < 5 {
+        return Outcome { ok: false, rows: 0 };
+    }
+    push_row(table, 0, start, 0, [0; 3]);
+    note(ix, 0, 1, 0, start as usize);
+    Outcome { ok: true, rows: 1 }
+}
+
+pub fn search_all(
+    table: &mut [u32],
+    links: &[u32],
+    m: usize,
+    firsts: &[u16],
+    last: u32,
+    wait: [u32; 3],
+    places: u32,
+    start: u32,
+) -> Outcome
+    requires { ⌜ (Given (caseOf (now firsts) (now links) m wait places start) (now links) m (now firsts)) × (last ≤ 255) × (start < places) ⌝ }
+    ensures { λ r. ⌜ Result (caseOf (now (firsts .entry)) (now (links .entry)) m wait places start) (now (table .exit)) (last + 1) 0 (r .ok) (r .rows) ⌝ }
+{
+    let mut ch = [0; 320];
+    chain(links, m, 1, &mut ch);
+    let mut ix = [0; 49216];
+    let r = first_row(table, &mut ix, links, m, firsts, wait, places, start);
+    let ok = r.ok;
+    let rows = r.rows;
+    if ok {
+        return fill_steps(
+            table,
+            rows,
+            &mut ix,
+            links,
+            m,
+            &ch,
+            firsts,
+            last,
+            wait,
+            places,
+            start,
+        );
+    }
+    Outcome { ok: false, rows }
+}
+
+// All the rows of the search, and zeros after them; or zeros alone where there is no room.
+pub fn fill(
+    table: &mut [u32],
+    links: &[u32],
+    m: usize,
+    firsts: &[u16],
+    last: u32,
+    wait: [u32; 3],
+    places: u32,
+    start: u32,
+) -> Outcome
+    requires { ⌜ (Given (caseOf (now firsts) (now links) m wait places start) (now links) m (now firsts)) × (last ≤ 255) × (start < places) ⌝ }
+    ensures { λ r. ⌜ Search (caseOf (now (firsts .entry)) (now (links .entry)) m wait places start) (last + 1) (length (now (table .entry))) (now (table .exit)) (r .ok) (r .rows) ⌝ }
+{
+    let r = search_all(table, links, m, firsts, last, wait, places, start);
+    let ok = r.ok;
+    let rows = r.rows;
+    if ok {
+        clear_from(table, rows * 5);
+        return Outcome { ok: true, rows };
+    }
+    clear(table);
+    Outcome { ok: false, rows: 0 }
+}
