@@ -1,0 +1,196 @@
+//! Compares planner_read and planner_write with the reference, on the stored cases and on random inputs.
+//!
+//! `compare_sheets [--seed N] [--runs N]`: each run is one text for the reader and three groups for the
+//! writer. The exit status is 0 if all answers agree and each refusal number, size and kind of damage came up often.
+
+use planner_tests::cases::{groups_cases, sheet_cases};
+use planner_tests::compare::{compare_reading, compare_writing};
+use planner_tests::damage::of_groups::{GROUP_DAMAGES, damage_groups};
+use planner_tests::damage::of_text::{TEXT_DAMAGES, damage_text, random_bytes};
+use planner_tests::groups::{Groups, random_groups};
+use planner_tests::random::Random;
+use std::fmt::Debug;
+use std::process::ExitCode;
+
+const SHEET_CASES: &str = include_str!("../../cases/sheets.txt");
+const GROUPS_CASES: &str = include_str!("../../cases/groups.txt");
+
+/// Each refusal number, each size and each kind of damage must come up at least once in so many runs.
+const OFTEN: u64 = 200;
+
+/// The count of bytes of the longest sheet that is served.
+const LONGEST: usize = 10_017;
+
+/// What the program is asked for.
+struct Options {
+    seed: u64,
+    runs: u64,
+}
+
+/// The sizes of texts that must come up.
+const SIZES: [&str; 3] = ["empty", "served with 256 lines of a kind", "served and longest"];
+
+/// How many inputs met each refusal number, each size and each kind of damage.
+#[derive(Default)]
+struct Tally {
+    read: [u64; 13],
+    written: [u64; 13],
+    sizes: [u64; SIZES.len()],
+    text_damages: [u64; TEXT_DAMAGES.len()],
+    group_damages: [u64; GROUP_DAMAGES.len()],
+}
+
+fn main() -> ExitCode {
+    let Some(options) = options(std::env::args().skip(1)) else {
+        eprintln!("usage: compare_sheets [--seed N] [--runs N]");
+        return ExitCode::from(2);
+    };
+    println!("seed {}, {} random texts and as many random groups", options.seed, options.runs);
+    match compared(&options) {
+        Ok(()) => {
+            println!("all answers agree");
+            ExitCode::SUCCESS
+        }
+        Err(failure) => {
+            println!("FAILED: {failure}");
+            ExitCode::FAILURE
+        }
+    }
+}
+
+/// The options that the arguments say.
+fn options(mut arguments: impl Iterator<Item = String>) -> Option<Options> {
+    let mut options = Options { seed: 1, runs: 100_000 };
+    while let Some(name) = arguments.next() {
+        let value = arguments.next()?.parse().ok()?;
+        match name.as_str() {
+            "--seed" => options.seed = value,
+            "--runs" => options.runs = value,
+            _ => return None,
+        }
+    }
+    Some(options)
+}
+
+/// Runs all comparisons and prints the counts; hands back the first failure.
+fn compared(options: &Options) -> Result<(), String> {
+    let mut random = Random::new(options.seed);
+    let mut tally = Tally::default();
+    for run in 1..=options.runs {
+        compare_random_text(&mut random, &mut tally).map_err(|difference| format!("run {run}: {difference}"))?;
+        compare_random_groups(&mut random, &mut tally).map_err(|difference| format!("run {run}: {difference}"))?;
+    }
+    let cases = compare_cases(&mut random)?;
+    println!("{cases} stored cases");
+    print_counts(&tally, options.runs / OFTEN)
+}
+
+/// Compares the readers on a random text, mostly a damaged one.
+fn compare_random_text(random: &mut Random, tally: &mut Tally) -> Result<(), String> {
+    let text = if random.percent(5) { random_bytes(random) } else { random_text(random, tally) };
+    let answer = compare_reading(&text, random)?;
+    tally.read[answer.refusal as usize] += 1;
+    tally.sizes[0] += u64::from(text.is_empty());
+    tally.sizes[1] += u64::from(answer.lines[1..].contains(&256));
+    tally.sizes[2] += u64::from(answer.refusal == 0 && text.len() == LONGEST);
+    Ok(())
+}
+
+/// The text of random groups, in four of five cases damaged.
+fn random_text(random: &mut Random, tally: &mut Tally) -> Vec<u8> {
+    let mut text = random_groups(random).text();
+    if random.percent(80) {
+        count(&mut tally.text_damages, &TEXT_DAMAGES, &damage_text(&mut text, random));
+    }
+    text
+}
+
+/// Compares the writers on random groups, in three of five cases damaged.
+fn compare_random_groups(random: &mut Random, tally: &mut Tally) -> Result<(), String> {
+    let mut groups = random_groups(random);
+    if random.percent(60) {
+        count(&mut tally.group_damages, &GROUP_DAMAGES, &damage_groups(&mut groups, random));
+    }
+    let len = random_buffer_len(&groups, random);
+    let answer = compare_writing(&groups, len, random)?;
+    tally.written[answer.refusal as usize] += 1;
+    Ok(())
+}
+
+/// The length of a buffer for groups: exactly their text's, one less, one more, or another.
+fn random_buffer_len(groups: &Groups, random: &mut Random) -> usize {
+    let exact = groups.text().len();
+    match random.below(8) {
+        0..3 => exact,
+        3 => exact.saturating_sub(1),
+        4 => exact + 1,
+        5 => random.below(exact + 1),
+        6 => exact + random.below(100),
+        _ => random.pick(&[0, 10_240]),
+    }
+}
+
+/// Counts each kind of damage that was done.
+fn count<D: PartialEq>(counts: &mut [u64], kinds: &[D], done: &[D]) {
+    for (count, kind) in counts.iter_mut().zip(kinds) {
+        *count += u64::from(done.contains(kind));
+    }
+}
+
+/// Compares on the stored cases, each also with the answer stored beside it; hands back how many there are.
+fn compare_cases(random: &mut Random) -> Result<usize, String> {
+    let sheets = sheet_cases(SHEET_CASES);
+    for case in &sheets {
+        let answer = compare_reading(&case.text, random)
+            .map_err(|difference| format!("stored case {:?}: {difference}", case.remark))?;
+        expect_answer(&case.remark, (answer.refusal, answer.line), (case.refusal, case.line))?;
+    }
+    let groups = groups_cases(GROUPS_CASES);
+    for case in &groups {
+        let answer = compare_writing(&case.groups, case.buffer, random)
+            .map_err(|difference| format!("stored case {:?}: {difference}", case.remark))?;
+        expect_answer(&case.remark, (answer.refusal, answer.line), (case.refusal, case.line))?;
+    }
+    Ok(sheets.len() + groups.len())
+}
+
+/// A failure where a stored case's refusal number and line are not those expected.
+fn expect_answer(remark: &str, answer: (u32, u32), expected: (u32, u32)) -> Result<(), String> {
+    if answer == expected {
+        Ok(())
+    } else {
+        Err(format!("stored case {remark:?}: refusal and line are {answer:?}, expected {expected:?}"))
+    }
+}
+
+/// How many inputs met each thing that must come up, by what it is about.
+fn counts(tally: &Tally) -> [(&'static str, Vec<(String, u64)>); 5] {
+    let refusals = |numbers: &[usize], counts: &[u64; 13]| {
+        numbers.iter().map(|&number| (number.to_string(), counts[number])).collect()
+    };
+    [
+        ("read, by refusal number", refusals(&[0, 1, 2, 3, 4, 5, 6, 7], &tally.read)),
+        ("written, by refusal number", refusals(&[0, 2, 4, 5, 6, 7, 12], &tally.written)),
+        ("texts", with_names(&SIZES, &tally.sizes)),
+        ("damage to texts", with_names(&TEXT_DAMAGES, &tally.text_damages)),
+        ("damage to groups", with_names(&GROUP_DAMAGES, &tally.group_damages)),
+    ]
+}
+
+/// Kinds as text, each with its count.
+fn with_names<K: Debug>(kinds: &[K], counts: &[u64]) -> Vec<(String, u64)> {
+    kinds.iter().zip(counts).map(|(kind, &count)| (format!("{kind:?}"), count)).collect()
+}
+
+/// Prints the counts; a failure where one is too low for the comparison to say anything.
+fn print_counts(tally: &Tally, least: u64) -> Result<(), String> {
+    let mut seldom = Ok(());
+    for (about, counts) in counts(tally) {
+        let shown: Vec<String> = counts.iter().map(|(name, count)| format!("{name}: {count}")).collect();
+        println!("{about}: {}", shown.join(", "));
+        if let Some((name, count)) = counts.iter().find(|(_, count)| *count < least) {
+            seldom = Err(format!("{about}, {name}: {count} times is too seldom, at least {least} are wanted"));
+        }
+    }
+    seldom
+}

@@ -1,0 +1,134 @@
+//! The stored cases: inputs with the refusal number and the line that document 01 gives them.
+//!
+//! A case is a line of text, a line that begins with # is a comment. A sheet's case is
+//! `REFUSAL LINE "TEXT" REMARK`; in the text `\n` is a line feed, `\xHH` a byte, and `{N*C}`, `{N*O}` are N
+//! ascending lines of that letter, `{N*TEXT}` is a text N times. A case of groups is
+//! `REFUSAL LINE BUFFER [HEAD] [CORRIDORS] [OCCUPANCIES] REMARK`, with numbers parted by blanks.
+
+use crate::groups::{Groups, ascending_corridors, ascending_occupancies};
+
+/// A text for the reader, with the answer expected.
+pub struct SheetCase {
+    pub refusal: u32,
+    pub line: u32,
+    pub text: Vec<u8>,
+    pub remark: String,
+}
+
+/// Groups and a buffer's length for the writer, with the answer expected.
+pub struct GroupsCase {
+    pub refusal: u32,
+    pub line: u32,
+    pub buffer: usize,
+    pub groups: Groups,
+    pub remark: String,
+}
+
+/// The cases of sheets in a stored file's content.
+pub fn sheet_cases(content: &str) -> Vec<SheetCase> {
+    case_lines(content).map(sheet_case).collect()
+}
+
+/// The cases of groups in a stored file's content.
+pub fn groups_cases(content: &str) -> Vec<GroupsCase> {
+    case_lines(content).map(groups_case).collect()
+}
+
+/// The lines that are cases.
+fn case_lines(content: &str) -> impl Iterator<Item = &str> {
+    content.lines().filter(|line| !line.is_empty() && !line.starts_with('#'))
+}
+
+/// The case that a line is.
+fn sheet_case(case: &str) -> SheetCase {
+    let (refusal, rest) = number_before(case, " ");
+    let (line, rest) = number_before(rest, " \"");
+    let (text, remark) = parts(rest, "\" ");
+    SheetCase { refusal, line, text: unescaped(text), remark: remark.to_string() }
+}
+
+/// The case that a line is.
+fn groups_case(case: &str) -> GroupsCase {
+    let (refusal, rest) = number_before(case, " ");
+    let (line, rest) = number_before(rest, " ");
+    let (buffer, rest) = number_before(rest, " [");
+    let (head, rest) = parts(rest, "] [");
+    let (corridors, rest) = parts(rest, "] [");
+    let (occupancies, remark) = parts(rest, "] ");
+    let groups = Groups { head: numbers(head), corridors: numbers(corridors), occupancies: numbers(occupancies) };
+    GroupsCase { refusal, line, buffer: buffer as usize, groups, remark: remark.to_string() }
+}
+
+/// What stands before and after a mark.
+fn parts<'a>(text: &'a str, mark: &str) -> (&'a str, &'a str) {
+    text.split_once(mark).unwrap_or_else(|| panic!("a stored case lacks {mark:?} in {text:?}"))
+}
+
+/// The number before a mark, and what stands after the mark.
+fn number_before<'a>(text: &'a str, mark: &str) -> (u32, &'a str) {
+    let (number, rest) = parts(text, mark);
+    (decimal(number), rest)
+}
+
+/// The number that some digits say.
+fn decimal(digits: &str) -> u32 {
+    digits.parse().unwrap_or_else(|_| panic!("a stored case has {digits:?} for a number"))
+}
+
+/// The bytes that an escaped text stands for.
+fn unescaped(text: &str) -> Vec<u8> {
+    let mut bytes = Vec::new();
+    let mut rest = text;
+    while let Some(first) = rest.chars().next() {
+        let len = match first {
+            '\\' if rest.starts_with("\\n") => 2,
+            '\\' => 4,
+            '{' => rest.find('}').expect("a stored case lacks }") + 1,
+            _ => 1,
+        };
+        bytes.extend(unescaped_piece(&rest[..len]));
+        rest = &rest[len..];
+    }
+    bytes
+}
+
+/// The bytes of one escape, one repetition or one byte of an escaped text.
+fn unescaped_piece(piece: &str) -> Vec<u8> {
+    if piece == "\\n" {
+        return vec![b'\n'];
+    }
+    if let Some(digits) = piece.strip_prefix("\\x") {
+        return vec![u8::from_str_radix(digits, 16).expect("a stored case has a bad \\x")];
+    }
+    match piece.strip_prefix('{').and_then(|inner| inner.strip_suffix('}')) {
+        Some(inner) => repeated(inner),
+        None => piece.as_bytes().to_vec(),
+    }
+}
+
+/// The text of `N*C`, `N*O` or `N*TEXT`.
+fn repeated(inner: &str) -> Vec<u8> {
+    let (count, what) = number_before(inner, "*");
+    match what {
+        "C" => Groups { head: vec![], corridors: ascending_corridors(count), occupancies: vec![] }.text(),
+        "O" => Groups { head: vec![], corridors: vec![], occupancies: ascending_occupancies(count) }.text(),
+        text => unescaped(text).repeat(count as usize),
+    }
+}
+
+/// The numbers of a group, with `{N*C}` and `{N*O}` for ascending lines.
+fn numbers(group: &str) -> Vec<u32> {
+    group.split_whitespace().flat_map(number_or_lines).collect()
+}
+
+/// The number, or the numbers of some ascending lines, that a word of a group stands for.
+fn number_or_lines(word: &str) -> Vec<u32> {
+    match word.strip_prefix('{').and_then(|inner| inner.strip_suffix('}')) {
+        None => vec![decimal(word)],
+        Some(inner) => match number_before(inner, "*") {
+            (count, "C") => ascending_corridors(count),
+            (count, "O") => ascending_occupancies(count),
+            (_, other) => panic!("a stored case repeats {other:?}"),
+        },
+    }
+}

@@ -1,0 +1,96 @@
+//! One input given to the planner and to the reference: the planner's answer, or a report of the difference.
+
+use crate::answers::{SheetRead, SheetWritten};
+use crate::groups::Groups;
+use crate::lent::Lent;
+use crate::random::Random;
+use crate::{planner, sheet};
+
+/// Both readers on a text; where it is read, the planner writes it back and must give its own bytes.
+pub fn compare_reading(text: &[u8], random: &mut Random) -> Result<SheetRead, String> {
+    let lent = Lent::holding(text, random, b"0123456789,\nSCO");
+    let answer = planner::read_sheet(lent.cells());
+    let expected = sheet::read_sheet(text);
+    let input = || format!("text of {} bytes \"{}\"", text.len(), text.escape_ascii());
+    if answer != expected {
+        return Err(report("the readers differ", &input(), &answer.shown(), &expected.shown()));
+    }
+    if answer.refusal == 0 {
+        compare_written_back(text, &answer, random)?;
+    }
+    Ok(answer)
+}
+
+/// The planner's writer on what its reader handed back, with a buffer as long as the text.
+fn compare_written_back(text: &[u8], read: &SheetRead, random: &mut Random) -> Result<(), String> {
+    let mut out = Lent::buffer(text.len(), random);
+    let mut expected_out = out.clone();
+    expected_out.cells_mut().copy_from_slice(text);
+    let answer = planner::write_sheet(&read.head, read.corridor_numbers(), read.occupancy_numbers(), out.cells_mut());
+    let expected = SheetWritten { refusal: 0, line: 0, bytes: text.len() as u32 };
+    if answer != expected || out != expected_out {
+        let input = format!("text \"{}\"", text.escape_ascii());
+        return Err(report(
+            "read and written back, the sheet is another",
+            &input,
+            &shown(&answer, &out),
+            &shown(&expected, &expected_out),
+        ));
+    }
+    Ok(())
+}
+
+/// Both writers on groups, each with a buffer of this length and the same pattern in it; where they are
+/// written, the planner reads them back and must give their own numbers.
+pub fn compare_writing(groups: &Groups, len: usize, random: &mut Random) -> Result<SheetWritten, String> {
+    let around: Vec<u32> = (0..8).collect();
+    let [head, corridors, occupancies] =
+        [&groups.head, &groups.corridors, &groups.occupancies].map(|group| Lent::holding(group, random, &around));
+    let mut out = Lent::buffer(len, random);
+    let mut expected_out = out.clone();
+    let answer = planner::write_sheet(head.cells(), corridors.cells(), occupancies.cells(), out.cells_mut());
+    let expected = sheet::write_sheet(&groups.head, &groups.corridors, &groups.occupancies, expected_out.cells_mut());
+    let input = || format!("a buffer of {len} bytes and {groups:?}");
+    if answer != expected || out != expected_out {
+        return Err(report("the writers differ", &input(), &shown(&answer, &out), &shown(&expected, &expected_out)));
+    }
+    if answer.refusal == 0 {
+        compare_read_back(groups, &out.cells()[..answer.bytes as usize])?;
+    }
+    Ok(answer)
+}
+
+/// The planner's reader on what its writer wrote of valid groups.
+fn compare_read_back(groups: &Groups, text: &[u8]) -> Result<(), String> {
+    let answer = planner::read_sheet(text);
+    let expected = read_of(groups);
+    if answer != expected {
+        return Err(report(
+            "written and read back, the groups are others",
+            &format!("{groups:?}"),
+            &answer.shown(),
+            &expected.shown(),
+        ));
+    }
+    Ok(())
+}
+
+/// What reading the text of valid groups hands back.
+fn read_of(groups: &Groups) -> SheetRead {
+    let mut read = SheetRead::refused(0, 0);
+    read.lines = [1, groups.corridors.len() as u32 / 5, groups.occupancies.len() as u32 / 3];
+    read.head.copy_from_slice(&groups.head);
+    read.corridors[..groups.corridors.len()].copy_from_slice(&groups.corridors);
+    read.occupancies[..groups.occupancies.len()].copy_from_slice(&groups.occupancies);
+    read
+}
+
+/// A writer's answer and its buffer, with the bytes around it.
+fn shown(written: &SheetWritten, out: &Lent<u8>) -> String {
+    format!("{written:?} and, with the bytes around it, the buffer \"{}\"", out.with_margins().escape_ascii())
+}
+
+/// A difference, with the input and both answers.
+fn report(what: &str, input: &str, planner: &str, expected: &str) -> String {
+    format!("{what}\n  input: {input}\n  planner: {planner}\n  expected: {expected}")
+}

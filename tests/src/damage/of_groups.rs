@@ -1,0 +1,96 @@
+//! Damage to the groups lent to the writer.
+
+use super::{NumberDamage, OrderDamage, damage_order, damaged_number, random_line};
+use crate::groups::Groups;
+use crate::random::Random;
+
+/// Numbers that a sheet's five digits cannot say: only a host program lends them.
+const BEYOND: [u32; 7] = [100_000, 65_536, 65_537, 1 << 24, 1 << 31, u32::MAX - 1, u32::MAX];
+
+/// What is done to groups.
+#[derive(Clone, Copy, Debug, PartialEq, Eq)]
+pub enum GroupDamage {
+    Order(OrderDamage),
+    Number(NumberDamage),
+    NumberBeyond,
+    NumberAdded,
+    NumberRemoved,
+    GroupEmptied,
+}
+
+/// Every kind of damage to groups: first to numbers, then to the order of lines, then to the lengths.
+pub const GROUP_DAMAGES: [GroupDamage; 12] = [
+    GroupDamage::Number(NumberDamage::AtBoundary),
+    GroupDamage::Number(NumberDamage::Nudged),
+    GroupDamage::Number(NumberDamage::Copied),
+    GroupDamage::NumberBeyond,
+    GroupDamage::Order(OrderDamage::LineRemoved),
+    GroupDamage::Order(OrderDamage::LineDuplicated),
+    GroupDamage::Order(OrderDamage::LinesSwapped),
+    GroupDamage::Order(OrderDamage::LineMoved),
+    GroupDamage::Order(OrderDamage::LineAppended),
+    GroupDamage::NumberAdded,
+    GroupDamage::NumberRemoved,
+    GroupDamage::GroupEmptied,
+];
+
+/// So many kinds are drawn from: to numbers alone, to whole lines alone, or all.
+const KINDS: [usize; 3] = [4, 9, 12];
+
+/// Damages groups one to three times, in half of the cases at one and the same line; hands back what was done.
+pub fn damage_groups(groups: &mut Groups, random: &mut Random) -> Vec<GroupDamage> {
+    let count = 1 + random.below(3);
+    let kinds = &GROUP_DAMAGES[..random.pick(&KINDS)];
+    let at_one_line = random.percent(50);
+    let mut kind = random.below(3);
+    let mut at = None;
+    let mut done = Vec::new();
+    for _ in 0..count {
+        let damage = random.pick(kinds);
+        let (group, width) = group_of(groups, kind);
+        if !group.is_empty() {
+            let lines = group.len().div_ceil(width);
+            let line = at.unwrap_or_else(|| random_line(random, lines)).min(lines - 1);
+            damage_group(group, width, line, damage, random);
+            done.push(damage);
+            at = at_one_line.then_some(line);
+        }
+        if !at_one_line {
+            kind = random.below(3);
+        }
+    }
+    done
+}
+
+/// The group of a kind, and the count of numbers on its lines.
+fn group_of(groups: &mut Groups, kind: usize) -> (&mut Vec<u32>, usize) {
+    match kind {
+        0 => (&mut groups.head, 7),
+        1 => (&mut groups.corridors, 5),
+        _ => (&mut groups.occupancies, 3),
+    }
+}
+
+/// Damages a group that is not empty at one of its lines.
+fn damage_group(group: &mut Vec<u32>, width: usize, line: usize, damage: GroupDamage, random: &mut Random) {
+    let first = line * width;
+    let last = group.len().min(first + width) - 1;
+    let at = random.from_to(first as u32, last as u32) as usize;
+    match damage {
+        GroupDamage::Order(damage) => {
+            let mut lines: Vec<&[u32]> = group.chunks(width).collect();
+            damage_order(&mut lines, line, damage, random);
+            *group = lines.concat();
+        }
+        GroupDamage::Number(damage) => {
+            let beside = if at > first { at - 1 } else { last.min(at + 1) };
+            group[at] = damaged_number(group[at], group[beside], damage, random);
+        }
+        GroupDamage::NumberBeyond => group[at] = random.pick(&BEYOND),
+        GroupDamage::NumberAdded => group.insert(at, random.pick(&[0, 1, 60_001])),
+        GroupDamage::NumberRemoved => {
+            group.remove(at);
+        }
+        GroupDamage::GroupEmptied => group.clear(),
+    }
+}

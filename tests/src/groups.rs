@@ -1,0 +1,122 @@
+//! The three groups of a sheet's numbers: random ones, and the longest ones.
+
+use crate::random::Random;
+use std::collections::BTreeSet;
+
+/// The numbers of a sheet's lines, kind by kind.
+#[derive(Clone, Debug, PartialEq, Eq)]
+pub struct Groups {
+    pub head: Vec<u32>,
+    pub corridors: Vec<u32>,
+    pub occupancies: Vec<u32>,
+}
+
+impl Groups {
+    /// The sheet's text, whatever the numbers are.
+    pub fn text(&self) -> Vec<u8> {
+        let mut text = String::new();
+        for (letter, width, group) in [('S', 7, &self.head), ('C', 5, &self.corridors), ('O', 3, &self.occupancies)] {
+            for numbers in group.chunks(width) {
+                text.push(letter);
+                numbers.iter().for_each(|number| text.push_str(&format!(",{number}")));
+                text.push('\n');
+            }
+        }
+        text.into_bytes()
+    }
+}
+
+/// The first corridors of 64 places in ascending order, all free.
+pub fn ascending_corridors(count: u32) -> Vec<u32> {
+    (0..count).flat_map(|i| [i / 63, i % 63 + u32::from(i % 63 >= i / 63), 0, 0, 0]).collect()
+}
+
+/// Occupancies of up to 64 places in ascending order.
+pub fn ascending_occupancies(count: u32) -> Vec<u32> {
+    (0..count).flat_map(|i| [i / 16, i % 16, i % 16 + 1]).collect()
+}
+
+/// The longest sheet: all lines, and in each place a number with the most digits.
+pub fn longest_groups() -> Groups {
+    Groups {
+        head: vec![64, 255, 63, 62, 60_000, 59_999, 12_345],
+        corridors: (0..256).flat_map(|i| [10 + i / 32, 20 + i % 32, 60_000, 10_000 + 7 * i, 54_321]).collect(),
+        occupancies: (0..256).flat_map(|i| [10 + i / 8, 100 + i % 8, 255 - i % 8]).collect(),
+    }
+}
+
+/// Random groups that are in order and in range, now and then with a 257th line of a kind.
+pub fn random_groups(random: &mut Random) -> Groups {
+    if random.percent(3) {
+        return longest_groups();
+    }
+    let places = match random.below(3) {
+        0 => random.pick(&[1, 2, 63, 64]),
+        1 => random.from_to(1, 64),
+        _ => random.from_to(2, 12),
+    };
+    Groups {
+        head: random_head(random, places),
+        corridors: random_corridors(random, places),
+        occupancies: random_occupancies(random, places),
+    }
+}
+
+/// A random S line's numbers.
+fn random_head(random: &mut Random, places: u32) -> Vec<u32> {
+    let start = random.from_to(0, places - 1);
+    let goal = random.from_to(0, places - 1);
+    vec![places, random_step(random), start, goal, random_cost(random), random_cost(random), random_cost(random)]
+}
+
+/// Random corridor lines in ascending order.
+fn random_corridors(random: &mut Random, places: u32) -> Vec<u32> {
+    let count = random_count(random).min((places * (places - 1)) as usize);
+    let mut ends = BTreeSet::new();
+    while ends.len() < count {
+        let (from, to) = (random.from_to(0, places - 1), random.from_to(0, places - 1));
+        if from != to {
+            ends.insert([from, to]);
+        }
+    }
+    ends.into_iter()
+        .flat_map(|[from, to]| [from, to, random_cost(random), random_cost(random), random_cost(random)])
+        .collect()
+}
+
+/// Random occupancy lines in ascending order.
+fn random_occupancies(random: &mut Random, places: u32) -> Vec<u32> {
+    let count = random_count(random);
+    let mut occupancies = BTreeSet::new();
+    while occupancies.len() < count {
+        let (one, other) = (random_step(random), random_step(random));
+        occupancies.insert([random.from_to(0, places - 1), one.min(other), one.max(other)]);
+    }
+    occupancies.into_iter().flatten().collect()
+}
+
+/// A count of lines: mostly few, at times as many as there may be or one more.
+fn random_count(random: &mut Random) -> usize {
+    match random.below(100) {
+        0..20 => 0,
+        20..68 => random.below(6),
+        68..86 => random.below(20),
+        86..90 => random.below(258),
+        90..96 => 256,
+        _ => 257,
+    }
+}
+
+/// A step, often at an end of its range.
+fn random_step(random: &mut Random) -> u32 {
+    if random.percent(20) { random.pick(&[0, 1, 9, 10, 99, 100, 254, 255]) } else { random.from_to(0, 255) }
+}
+
+/// A cost, often at an end of its range or where it gets a digit more.
+fn random_cost(random: &mut Random) -> u32 {
+    match random.below(3) {
+        0 => random.pick(&[0, 1, 9, 10, 99, 100, 999, 1_000, 9_999, 10_000, 59_999, 60_000]),
+        1 => random.from_to(0, 9),
+        _ => random.from_to(0, 60_000),
+    }
+}

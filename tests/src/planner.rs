@@ -1,0 +1,41 @@
+//! The planner's calls, behind safe functions.
+
+use crate::answers::{SheetRead, SheetWritten};
+
+unsafe extern "C" {
+    fn planner_read(src: *const u8, src_len: usize) -> SheetRead;
+
+    fn planner_write(
+        head: *const u32,
+        head_len: usize,
+        corridors: *const u32,
+        corridors_len: usize,
+        occupancies: *const u32,
+        occupancies_len: usize,
+        out: *mut u8,
+        out_len: usize,
+    ) -> SheetWritten;
+}
+
+/// What the planner hands back for the text of a sheet.
+pub fn read_sheet(text: &[u8]) -> SheetRead {
+    // Safety: pointer and length are those of one slice, and the call has no other precondition.
+    unsafe { planner_read(text.as_ptr(), text.len()) }
+}
+
+/// What the planner hands back for three groups; the text stands in the buffer unless it is refused.
+pub fn write_sheet(head: &[u32], corridors: &[u32], occupancies: &[u32], out: &mut [u8]) -> SheetWritten {
+    // Safety: as for the reader; the buffer is borrowed for this call alone.
+    unsafe {
+        planner_write(
+            head.as_ptr(),
+            head.len(),
+            corridors.as_ptr(),
+            corridors.len(),
+            occupancies.as_ptr(),
+            occupancies.len(),
+            out.as_mut_ptr(),
+            out.len(),
+        )
+    }
+}

@@ -1,0 +1,245 @@
+// The reference: a reader and a writer of corridor sheets, written from document 01 alone.
+
+use crate::answers::{SheetRead, SheetWritten};
+
+/// A sheet has at most so many bytes, and so many lines of C and of O.
+const MOST_BYTES: usize = 10_240;
+const MOST_LINES: usize = 256;
+
+/// The greatest numbers in range.
+const MOST_PLACES: u32 = 64;
+const LAST_STEP: u32 = 255;
+const MOST_COST: u32 = 60_000;
+
+/// A number has at most so many digits.
+const MOST_DIGITS: usize = 5;
+
+/// A refusal: its number and the line at fault.
+struct Refusal {
+    number: u32,
+    line: u32,
+}
+
+/// What the reader hands back for a text.
+pub fn read_sheet(text: &[u8]) -> SheetRead {
+    let mut sheet = SheetRead::refused(0, 0);
+    match add_text(&mut sheet, text) {
+        Ok(()) => sheet,
+        Err(refusal) => SheetRead::refused(refusal.number, refusal.line),
+    }
+}
+
+/// What the writer hands back for three groups; their text stands in the buffer unless they are refused.
+pub fn write_sheet(head: &[u32], corridors: &[u32], occupancies: &[u32], out: &mut [u8]) -> SheetWritten {
+    match text_of(head, corridors, occupancies) {
+        Err(refusal) => SheetWritten { refusal: refusal.number, line: refusal.line, bytes: 0 },
+        Ok(text) if text.len() > out.len() => SheetWritten { refusal: 12, line: 0, bytes: 0 },
+        Ok(text) => {
+            out[..text.len()].copy_from_slice(&text);
+            SheetWritten { refusal: 0, line: 0, bytes: text.len() as u32 }
+        }
+    }
+}
+
+/// Adds a text's lines to the sheet, up to the first faulty one.
+fn add_text(sheet: &mut SheetRead, text: &[u8]) -> Result<(), Refusal> {
+    if text.len() > MOST_BYTES {
+        return Err(Refusal { number: 1, line: 0 });
+    }
+    if text.is_empty() {
+        return Err(Refusal { number: 3, line: 1 });
+    }
+    let mut cursor = Cursor { text, at: 0 };
+    while let Some(letter) = cursor.byte() {
+        add_line(sheet, letter, &mut cursor).map_err(|number| at_next_line(sheet, number))?;
+    }
+    Ok(())
+}
+
+/// Adds the line with this letter to the sheet, or hands back the number of the first test that it fails.
+fn add_line(sheet: &mut SheetRead, letter: u8, cursor: &mut Cursor) -> Result<(), u32> {
+    match letter {
+        b'S' => add_head(sheet, cursor.numbers()?),
+        b'C' => add_corridor(sheet, cursor.numbers()?),
+        b'O' => add_occupancy(sheet, cursor.numbers()?),
+        _ => Err(2),
+    }
+}
+
+/// A place in a text.
+struct Cursor<'a> {
+    text: &'a [u8],
+    at: usize,
+}
+
+impl Cursor<'_> {
+    /// The next byte, and goes on past it.
+    fn byte(&mut self) -> Option<u8> {
+        let byte = *self.text.get(self.at)?;
+        self.at += 1;
+        Some(byte)
+    }
+
+    /// Test 2 of a line after its letter: so many numbers, each after a comma, and a line feed.
+    fn numbers<const N: usize>(&mut self) -> Result<[u32; N], u32> {
+        let mut numbers = [0; N];
+        for number in &mut numbers {
+            if self.byte() != Some(b',') {
+                return Err(2);
+            }
+            *number = self.number()?;
+        }
+        if self.byte() != Some(b'\n') {
+            return Err(2);
+        }
+        Ok(numbers)
+    }
+
+    /// Test 2 of a number: one to five digits, no leading zero except 0 itself.
+    #[inline(always)]
+    fn number(&mut self) -> Result<u32, u32> {
+        let start = self.at;
+        let mut number = 0;
+        while let Some(byte) = self.text.get(self.at).filter(|byte| byte.is_ascii_digit()) {
+            if self.at - start == MOST_DIGITS {
+                return Err(2);
+            }
+            number = 10 * number + u32::from(byte - b'0');
+            self.at += 1;
+        }
+        let len = self.at - start;
+        if len == 0 || (self.text[start] == b'0' && len > 1) {
+            return Err(2);
+        }
+        Ok(number)
+    }
+}
+
+/// Adds an S line to the sheet, or hands back the number of the first test that it fails.
+fn add_head(sheet: &mut SheetRead, numbers: [u32; 7]) -> Result<(), u32> {
+    let [places, steps, start, goal, waiting @ ..] = numbers;
+    if sheet.lines[0] > 0 {
+        return Err(3);
+    }
+    if !(1..=MOST_PLACES).contains(&places)
+        || steps > LAST_STEP
+        || start >= places
+        || goal >= places
+        || has_cost_out_of_range(waiting)
+    {
+        return Err(4);
+    }
+    sheet.head = numbers;
+    sheet.lines[0] = 1;
+    Ok(())
+}
+
+/// Adds a C line to the sheet, or hands back the number of the first test that it fails.
+fn add_corridor(sheet: &mut SheetRead, numbers: [u32; 5]) -> Result<(), u32> {
+    let [from, to, costs @ ..] = numbers;
+    let places = sheet.head[0];
+    let (corridors, _) = sheet.corridors.as_chunks_mut::<5>();
+    let count = sheet.lines[1] as usize;
+    if sheet.lines[0] == 0 || sheet.lines[2] > 0 {
+        return Err(3);
+    }
+    if count == MOST_LINES {
+        return Err(7);
+    }
+    if from >= places || to >= places || has_cost_out_of_range(costs) {
+        return Err(4);
+    }
+    if from == to {
+        return Err(6);
+    }
+    if count > 0 && (from, to) <= (corridors[count - 1][0], corridors[count - 1][1]) {
+        return Err(5);
+    }
+    corridors[count] = numbers;
+    sheet.lines[1] += 1;
+    Ok(())
+}
+
+/// Adds an O line to the sheet, or hands back the number of the first test that it fails.
+fn add_occupancy(sheet: &mut SheetRead, numbers: [u32; 3]) -> Result<(), u32> {
+    let [place, first, last] = numbers;
+    let places = sheet.head[0];
+    let (occupancies, _) = sheet.occupancies.as_chunks_mut::<3>();
+    let count = sheet.lines[2] as usize;
+    if sheet.lines[0] == 0 {
+        return Err(3);
+    }
+    if count == MOST_LINES {
+        return Err(7);
+    }
+    if place >= places || first > LAST_STEP || last > LAST_STEP {
+        return Err(4);
+    }
+    if last < first {
+        return Err(6);
+    }
+    if count > 0 && numbers <= occupancies[count - 1] {
+        return Err(5);
+    }
+    occupancies[count] = numbers;
+    sheet.lines[2] += 1;
+    Ok(())
+}
+
+/// Whether a figure of a cost is above the greatest.
+fn has_cost_out_of_range(cost: [u32; 3]) -> bool {
+    cost.iter().any(|&figure| figure > MOST_COST)
+}
+
+/// The refusal with this number at the line after those that the sheet has.
+fn at_next_line(sheet: &SheetRead, number: u32) -> Refusal {
+    Refusal { number, line: sheet.lines.iter().sum::<u32>() + 1 }
+}
+
+/// The text of three groups, or the first fault in them.
+fn text_of(head: &[u32], corridors: &[u32], occupancies: &[u32]) -> Result<Vec<u8>, Refusal> {
+    let (heads, after_heads) = head.as_chunks();
+    let (corridors, after_corridors) = corridors.as_chunks();
+    let (occupancies, after_occupancies) = occupancies.as_chunks();
+    if heads.len() != 1 || !after_heads.is_empty() || !after_corridors.is_empty() || !after_occupancies.is_empty() {
+        return Err(Refusal { number: 2, line: 0 });
+    }
+    let mut sheet = SheetRead::refused(0, 0);
+    let mut text = Vec::with_capacity(MOST_BYTES);
+    for &numbers in heads {
+        add_head(&mut sheet, numbers).map_err(|number| at_next_line(&sheet, number))?;
+        append_line(&mut text, b'S', &numbers);
+    }
+    for &numbers in corridors {
+        add_corridor(&mut sheet, numbers).map_err(|number| at_next_line(&sheet, number))?;
+        append_line(&mut text, b'C', &numbers);
+    }
+    for &numbers in occupancies {
+        add_occupancy(&mut sheet, numbers).map_err(|number| at_next_line(&sheet, number))?;
+        append_line(&mut text, b'O', &numbers);
+    }
+    Ok(text)
+}
+
+/// Appends a line to the text.
+fn append_line(text: &mut Vec<u8>, letter: u8, numbers: &[u32]) {
+    text.push(letter);
+    for &number in numbers {
+        text.push(b',');
+        append_number(text, number);
+    }
+    text.push(b'\n');
+}
+
+/// Appends a number's digits to the text.
+fn append_number(text: &mut Vec<u8>, number: u32) {
+    let mut digits = [0; 10];
+    let mut at = digits.len();
+    let mut rest = number;
+    while at == digits.len() || rest > 0 {
+        at -= 1;
+        digits[at] = b'0' + (rest % 10) as u8;
+        rest /= 10;
+    }
+    text.extend_from_slice(&digits[at..]);
+}
