@@ -9,9 +9,9 @@ use lib.ListN.{getD, drop, drop-of-length-le}
 use borrow.Author.Tests.{eq-eqb, ne-eqb, lt-ltb}
 use Rattle.sheet.specs.Kinds.{kinds}
 use Rattle.sheet.specs.Lines.{withLetter}
-use Rattle.sheet.specs.Inner.{kindAt, asKind}
+use Rattle.sheet.specs.Inner.{kindAt, asKind, listed}
 use Rattle.sheet.proofs.Three.{three}
-use Rattle.sheet.proofs.Table.{listed, at}
+use Rattle.sheet.proofs.Table.{at}
 use Rattle.sheet.proofs.kinds.with_letter.Statement.{statement}
 use Rattle.sheet.proofs.kinds.with_letter.Tie as tie
 
