@@ -32,7 +32,7 @@ kindAt (suc (suc k)) = kindO
 abbrev pub asKind : ℕ → Option Kind
 asKind k = pick (ltb k 3) (some (kindAt k)) none
 
--- the limit that two numbers of the tables stand for: the low and the high end, or 0 as the high end of a place
+-- the limit that two ends stand for: the low and the high end, or 0 as the high end of a place
 abbrev pub limitOf : ℕ → ℕ → Limit
 limitOf low high = pick (eqb high 0) place (between low high)
 
