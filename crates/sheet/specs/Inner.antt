@@ -32,9 +32,19 @@ kindAt (suc (suc k)) = kindO
 abbrev pub asKind : ℕ → Option Kind
 asKind k = pick (ltb k 3) (some (kindAt k)) none
 
--- the limit that two numbers of the tables stand for: the low and the high end, or 0 as the high end of a place
+-- the limit that two ends stand for: the low and the high end, or 0 as the high end of a place
 abbrev pub limitOf : ℕ → ℕ → Limit
 limitOf low high = pick (eqb high 0) place (between low high)
+
+-- the values of f at i and the numbers after it, n of them
+abbrev pub listed : (ℕ → ℕ) → ℕ → ℕ → List ℕ
+listed f i zero = []
+listed f i (suc n) = f i ∷ listed f (suc i) n
+
+-- the kinds of the bytes from 0 to 255
+unfoldable pub kindTable : List ℕ
+unfolding kindOf
+kindTable = listed kindOf 0 256
 
 -- how many bytes stand before the first of kind k
 unfoldable pub spanOf : ℕ → List ℕ → ℕ

@@ -3,7 +3,7 @@ ghost use mathlib.Core.Path.{_≡_};
 ghost use Prim.Native.Nat.{ℕ, _+_, _≤_};
 ghost use lib.ListN.{length, drop};
 ghost use Rattle.sheet.specs.Bytes.{kindOf};
-ghost use Rattle.sheet.specs.Inner.{spanOf};
+ghost use Rattle.sheet.specs.Inner.{kindTable, spanOf};
 
 pub const DIGIT: u8 = 0;
 
@@ -270,21 +270,29 @@ const KINDS: [u8; 256] = [
     4,
 ];
 
+// The table, to be made once and lent: a constant is made anew wherever it is named.
+pub fn table() -> [u8; 256]
+    ensures { λ r. ⌜ r ≡ kindTable ⌝ }
+{
+    KINDS
+}
+
 // The kind of a byte: digit 0, comma 1, line feed 2, letter 3, other 4.
-pub fn kind_of(b: u8) -> u8
+pub fn kind_of(kinds: &[u8; 256], b: u8) -> u8
+    requires { ⌜ now kinds ≡ kindTable ⌝ }
     ensures { λ r. ⌜ r ≡ kindOf b ⌝ }
 {
-    KINDS[b as usize]
+    kinds[b as usize]
 }
 
 // The first position from `at` on of a byte of kind k, or the length.
-pub fn until(s: &[u8], at: usize, k: u8) -> usize
-    requires { ⌜ at ≤ length (now s) ⌝ }
+pub fn until(kinds: &[u8; 256], s: &[u8], at: usize, k: u8) -> usize
+    requires { ⌜ (now kinds ≡ kindTable) × (at ≤ length (now s)) ⌝ }
     ensures { λ r. ⌜ r ≡ at + spanOf k (drop at (now (s .entry))) ⌝ }
 {
     let mut i = at;
     while i < s.len() {
-        if kind_of(s[i]) == k {
+        if kind_of(kinds, s[i]) == k {
             return i;
         }
         i += 1;

@@ -1,85 +1,25 @@
-// The kinds of lines as tables, a number for each kind in the order of kinds: S 0, C 1, O 2.
+// The kinds of lines, a number for each in the order of kinds: S 0, C 1, O 2. What is known of a kind is told by tests of its number, since a
+// constant table is made anew wherever it is named.
 ghost use mathlib.Core.Path.{_≡_};
 ghost use Prim.Native.Nat.{ℕ, _<_, _≤_};
 ghost use lib.ListN.{getD};
-ghost use Rattle.sheet.specs.Kinds.{kinds, place};
+ghost use Rattle.sheet.specs.Kinds.{kinds, kindS, kindC, place};
 ghost use Rattle.sheet.specs.Lines.{withLetter};
 ghost use Rattle.sheet.specs.Calls.{width};
 ghost use Rattle.sheet.specs.Inner.{kindAt, asKind, limitOf};
-
-const LETTERS: [u8; 3] = [b'S', b'C', b'O'];
-
-const WIDTHS: [usize; 3] = [7, 5, 3];
-
-const MOST: [usize; 3] = [1, 256, 256];
-
-const KEYS: [usize; 3] = [0, 2, 3];
-
-// Eight limits for each kind: the low and the high end, or 0 as the high end of a place.
-const LOW: [u32; 24] = [
-    1,
-    0,
-    0,
-    0,
-    0,
-    0,
-    0,
-    0,
-    0,
-    0,
-    0,
-    0,
-    0,
-    0,
-    0,
-    0,
-    0,
-    0,
-    0,
-    0,
-    0,
-    0,
-    0,
-    0,
-];
-
-const HIGH: [u32; 24] = [
-    64,
-    255,
-    0,
-    0,
-    60000,
-    60000,
-    60000,
-    0,
-    0,
-    0,
-    60000,
-    60000,
-    60000,
-    0,
-    0,
-    0,
-    0,
-    255,
-    255,
-    0,
-    0,
-    0,
-    0,
-    0,
-];
 
 // The kind with the letter c; 3 for none.
 pub fn with_letter(c: u8) -> usize
     ensures { λ r. ⌜ (asKind r ≡ withLetter c kinds) × (r ≤ 3) ⌝ }
 {
-    let mut k = 0;
-    while k < 3 {
-        if LETTERS[k] == c {
-            return k;
-        }
-        k += 1;
+    if c == b'S' {
+        return 0;
+    }
+    if c == b'C' {
+        return 1;
+    }
+    if c == b'O' {
+        return 2;
     }
     3
 }
@@ -89,7 +29,13 @@ pub fn letter_of(k: usize) -> u8
     requires { ⌜ k < 3 ⌝ }
     ensures { λ r. ⌜ r ≡ kindAt k .letter ⌝ }
 {
-    LETTERS[k]
+    if k == 0 {
+        return b'S';
+    }
+    if k == 1 {
+        return b'C';
+    }
+    b'O'
 }
 
 // The count of numbers in a line of the kind k.
@@ -97,7 +43,13 @@ pub fn width_of(k: usize) -> usize
     requires { ⌜ k < 3 ⌝ }
     ensures { λ r. ⌜ r ≡ width (kindAt k) ⌝ }
 {
-    WIDTHS[k]
+    if k == 0 {
+        return 7;
+    }
+    if k == 1 {
+        return 5;
+    }
+    3
 }
 
 // The most lines of the kind k.
@@ -105,7 +57,10 @@ pub fn most_of(k: usize) -> usize
     requires { ⌜ k < 3 ⌝ }
     ensures { λ r. ⌜ r ≡ kindAt k .most ⌝ }
 {
-    MOST[k]
+    if k == 0 {
+        return 1;
+    }
+    256
 }
 
 // By how many first numbers the lines of the kind k ascend.
@@ -113,13 +68,53 @@ pub fn key_of(k: usize) -> usize
     requires { ⌜ k < 3 ⌝ }
     ensures { λ r. ⌜ r ≡ kindAt k .key ⌝ }
 {
-    KEYS[k]
+    if k == 2 {
+        return 3;
+    }
+    if k == 1 {
+        return 2;
+    }
+    0
 }
 
-// The ends of a number's limit.
+// The ends of a number's limit; the high end of a place is 0.
 pub struct Ends {
     pub low: u32,
     pub high: u32,
+}
+
+// The limit of number i of an S line.
+fn limit_of_s(i: usize) -> Ends
+    requires { ⌜ i < 7 ⌝ }
+    ensures { λ r. ⌜ limitOf (r .low) (r .high) ≡ getD (kindS .limits) i place ⌝ }
+{
+    if i == 0 {
+        return Ends { low: 1, high: 64 };
+    }
+    if i == 1 {
+        return Ends { low: 0, high: 255 };
+    }
+    if i < 4 {
+        return Ends { low: 0, high: 0 };
+    }
+    Ends {
+        low: 0,
+        high: 60000,
+    }
+}
+
+// The limit of number i of a C line.
+fn limit_of_c(i: usize) -> Ends
+    requires { ⌜ i < 5 ⌝ }
+    ensures { λ r. ⌜ limitOf (r .low) (r .high) ≡ getD (kindC .limits) i place ⌝ }
+{
+    if i < 2 {
+        return Ends { low: 0, high: 0 };
+    }
+    Ends {
+        low: 0,
+        high: 60000,
+    }
 }
 
 // The limit of number i of a line of the kind k.
@@ -127,8 +122,14 @@ pub fn limit_of(k: usize, i: usize) -> Ends
     requires { ⌜ (k < 3) × (i < width (kindAt k)) ⌝ }
     ensures { λ r. ⌜ limitOf (r .low) (r .high) ≡ getD (kindAt k .limits) i place ⌝ }
 {
-    Ends {
-        low: LOW[k * 8 + i],
-        high: HIGH[k * 8 + i],
+    if k == 0 {
+        return limit_of_s(i);
     }
+    if k == 1 {
+        return limit_of_c(i);
+    }
+    if i == 0 {
+        return Ends { low: 0, high: 0 };
+    }
+    Ends { low: 0, high: 255 }
 }

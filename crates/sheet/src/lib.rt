@@ -1,7 +1,7 @@
 // The corridor sheet: places and steps, the reader and the writer (document 01, "The sheet", "What is handed back").
 
 pub mod bytes; // bytes.rt: the kinds of bytes
-pub mod kinds; // kinds.rt: the kinds of lines, as tables
+pub mod kinds; // kinds.rt: the kinds of lines, by their numbers
 pub mod lines; // lines.rt: what the bytes of a line stand for
 pub mod judge; // judge.rt: the tests of a line
 pub mod text; // text.rt: what is written of numbers and lines

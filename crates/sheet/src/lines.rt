@@ -6,7 +6,7 @@ ghost use lib.ListN.{length};
 ghost use Rattle.sheet.specs.Bytes.{comma};
 ghost use Rattle.sheet.specs.Decimal.{digitsFrom, numberOf};
 ghost use Rattle.sheet.specs.Lines.{numbersOf, lineOf};
-ghost use Rattle.sheet.specs.Inner.{partsFrom, asNumber, asNumbers, asParsed};
+ghost use Rattle.sheet.specs.Inner.{kindTable, partsFrom, asNumber, asNumbers, asParsed};
 use crate::bytes::COMMA;
 use crate::bytes::DIGIT;
 use crate::bytes::kind_of;
@@ -21,15 +21,15 @@ pub enum Number {
 }
 
 // The value of the bytes of f, where all are digits.
-fn decimal(f: &[u8]) -> Number
-    requires { ⌜ length (now f) ≤ 9 ⌝ }
+fn decimal(kinds: &[u8; 256], f: &[u8]) -> Number
+    requires { ⌜ (now kinds ≡ kindTable) × (length (now f) ≤ 9) ⌝ }
     ensures { λ r. ⌜ asNumber r ≡ digitsFrom 0 (now (f .entry)) ⌝ }
 {
     let mut value: u32 = 0;
     let mut i = 0;
     while i < f.len() {
         let b = f[i];
-        if kind_of(b) != DIGIT {
+        if kind_of(kinds, b) != DIGIT {
             return Number::Bad;
         }
         value = value * 10 + (b as u32 - 48);
@@ -39,8 +39,8 @@ fn decimal(f: &[u8]) -> Number
 }
 
 // The number that the bytes of f are, of one to `most` digits.
-pub fn number_in(f: &[u8], most: usize) -> Number
-    requires { ⌜ most ≤ 9 ⌝ }
+pub fn number_in(kinds: &[u8; 256], f: &[u8], most: usize) -> Number
+    requires { ⌜ (now kinds ≡ kindTable) × (most ≤ 9) ⌝ }
     ensures { λ r. ⌜ asNumber r ≡ numberOf most (now (f .entry)) ⌝ }
 {
     let n = f.len();
@@ -55,7 +55,7 @@ pub fn number_in(f: &[u8], most: usize) -> Number
             return Number::Bad;
         }
     }
-    decimal(f)
+    decimal(kinds, f)
 }
 
 // The numbers of a line; ok where each of the fields is there and is a number.
@@ -65,8 +65,8 @@ pub struct Numbers {
 }
 
 // The numbers of exactly `width` fields from `start` on.
-fn numbers_in(line: &[u8], start: usize, width: usize) -> Numbers
-    requires { ⌜ width ≤ 8 ⌝ }
+fn numbers_in(kinds: &[u8; 256], line: &[u8], start: usize, width: usize) -> Numbers
+    requires { ⌜ (now kinds ≡ kindTable) × (width ≤ 8) ⌝ }
     ensures { λ r. ⌜ asNumbers width r ≡ numbersOf width (partsFrom comma start (now (line .entry))) ⌝ }
 {
     let mut values = [0u32; 8];
@@ -76,8 +76,8 @@ fn numbers_in(line: &[u8], start: usize, width: usize) -> Numbers
         if line.len() < at {
             return Numbers { ok: false, values };
         }
-        let e = until(line, at, COMMA);
-        let n = number_in(&line[at..e], 5);
+        let e = until(kinds, line, at, COMMA);
+        let n = number_in(kinds, &line[at..e], 5);
         match n {
             Number::Value(v) => {
                 values[k] = v;
@@ -113,10 +113,11 @@ fn bad_line() -> Parsed
 }
 
 // The line that the bytes of l are, without a line feed.
-pub fn line_in(l: &[u8]) -> Parsed
+pub fn line_in(kinds: &[u8; 256], l: &[u8]) -> Parsed
+    requires { ⌜ now kinds ≡ kindTable ⌝ }
     ensures { λ r. ⌜ (asParsed r ≡ lineOf (now (l .entry))) × (r .kind < 3) ⌝ }
 {
-    if until(l, 0, COMMA) != 1 {
+    if until(kinds, l, 0, COMMA) != 1 {
         return bad_line();
     }
     let k = with_letter(l[0]);
@@ -124,7 +125,7 @@ pub fn line_in(l: &[u8]) -> Parsed
         return bad_line();
     }
     let w = width_of(k);
-    let n = numbers_in(l, 2, w);
+    let n = numbers_in(kinds, l, 2, w);
     if n.ok {
         let values = n.values;
         return Parsed {

@@ -5,9 +5,10 @@ ghost use lib.ListN.{length, take};
 ghost use lib.Seq.{sets};
 ghost use Rattle.sheet.specs.Sheet.{refused};
 ghost use Rattle.sheet.specs.Calls.{readAnswer, readCall};
-ghost use Rattle.sheet.specs.Inner.{lineAt, Storable, Stores, NextIs};
+ghost use Rattle.sheet.specs.Inner.{kindTable, lineAt, Storable, Stores, NextIs};
 use crate::SheetRead;
 use crate::bytes::LINE_FEED;
+use crate::bytes::table;
 use crate::bytes::until;
 use crate::judge::Tally;
 use crate::judge::fault_of;
@@ -78,11 +79,11 @@ pub struct Next {
 }
 
 // The line of src from `at` on, judged after the lines that t tallies.
-fn next_line(src: &[u8], at: usize, t: Tally) -> Next
-    requires { ⌜ (at < length (now src)) × (t .kind < 3) ⌝ }
+fn next_line(kinds: &[u8; 256], src: &[u8], at: usize, t: Tally) -> Next
+    requires { ⌜ (now kinds ≡ kindTable) × (at < length (now src)) × (t .kind < 3) ⌝ }
     ensures { λ r. ⌜ NextIs (now (src .entry)) at t r ⌝ }
 {
-    let e = until(src, at, LINE_FEED);
+    let e = until(kinds, src, at, LINE_FEED);
     if e == src.len() {
         return Next {
             refusal: 2,
@@ -91,7 +92,7 @@ fn next_line(src: &[u8], at: usize, t: Tally) -> Next
             values: [0u32; 8],
         };
     }
-    let l = line_in(&src[at..e]);
+    let l = line_in(kinds, &src[at..e]);
     let kind = l.kind;
     let values = l.values;
     if !l.ok {
@@ -118,6 +119,7 @@ pub fn read(src: &[u8]) -> SheetRead
     if 10240 < src.len() {
         return refuse(1, 0);
     }
+    let kinds = table();
     let mut head = [0u32; 7];
     let mut corridors = [0u32; 1280];
     let mut occupancies = [0u32; 768];
@@ -126,7 +128,7 @@ pub fn read(src: &[u8]) -> SheetRead
     let mut n: u32 = 1;
     let mut at = 0;
     while at < src.len() {
-        let l = next_line(src, at, t);
+        let l = next_line(&kinds, src, at, t);
         if l.refusal != 0 {
             return refuse(l.refusal, n);
         }

@@ -1,19 +1,22 @@
--- `sheet::kinds::most_of` meets its contract: the table, kind by kind.
+-- `sheet::kinds::most_of` meets its contract, kind by kind.
 -- Assumes nothing.
+use mathlib.Core.Path.{_≡_, refl}
+use mathlib.Core.Logic.{_≢_}
+use Prim.Native.Nat.{ℕ, _<_}
 use Rattle.sheet.specs.Inner.{kindAt}
-use Rattle.sheet.proofs.Table.{at}
-use borrow.Author.Needs.{needs}
+use Rattle.sheet.proofs.Three.{three}
+use Rattle.sheet.proofs.KindFacts.{told}
 use Rattle.sheet.proofs.kinds.most_of.Statement.{statement}
 use Rattle.sheet.proofs.kinds.most_of.Tie as tie
 
-mul-result : tie.Need-mul-result
-mul-result c = search needs
-
-array-read-result : tie.Need-array-read-result
-array-read-result c = search needs
+after-first : (k : ℕ) → k < 3 → k ≢ 0 → 256 ≡ kindAt k .most
+after-first = three (λ k. k ≢ 0 → 256 ≡ kindAt k .most) (λ n. absurd (n refl)) (λ n. refl) (λ n. refl)
 
 returns : tie.Need-returns
-returns c = at (λ k. kindAt k .most) 3 (c .args .k) (c .pre)
+returns c = told (λ x. x .most) (c .if1 .taken)
+
+returns-2 : tie.Need-returns-2
+returns-2 c = after-first (c .before .args .k) (c .before .pre) (c .if1 .left)
 
 pub most-of-spec : {M : Type 1} → statement M
-most-of-spec = tie.close (tie.spec mul-result array-read-result returns)
+most-of-spec = tie.close (tie.spec returns returns-2)

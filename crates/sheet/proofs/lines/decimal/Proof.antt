@@ -16,10 +16,10 @@ use Rattle.sheet.proofs.lines.decimal.Statement.{statement}
 use Rattle.sheet.proofs.lines.decimal.Tie as tie
 
 abbrev Inv-loop : tie.InvT-loop
-Inv-loop f value₀ i₀ value i = (i ≤ length f) × (value < 10 ^ i) × (digitsFrom value (drop i f) ≡ digitsFrom 0 f)
+Inv-loop kinds f value₀ i₀ value i = (i ≤ length f) × (value < 10 ^ i) × (digitsFrom value (drop i f) ≡ digitsFrom 0 f)
 
 abbrev μ-loop : tie.MeasureT-loop
-μ-loop f value₀ i₀ value i = length f - i
+μ-loop kinds f value₀ i₀ value i = length f - i
 
 loop-holds : tie.Need-loop-holds Inv-loop μ-loop
 loop-holds c = (omega arith, omega arith, refl)
@@ -28,7 +28,7 @@ shared-slice-read-b : tie.Need-shared-slice-read-b Inv-loop μ-loop
 shared-slice-read-b c = omega arith
 
 kind-of-requires : tie.Need-kind-of-requires Inv-loop μ-loop
-kind-of-requires c κs = search needs
+kind-of-requires c κs = c .before .before .before .before .pre .0
 
 returns : tie.Need-returns Inv-loop μ-loop
 returns c =

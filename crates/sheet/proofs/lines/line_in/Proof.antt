@@ -49,7 +49,7 @@ width-of-requires : tie.Need-width-of-requires
 width-of-requires c κs = omega arith
 
 numbers-in-requires : tie.Need-numbers-in-requires
-numbers-in-requires c κs = omega (arith, narrow (c .before .before .with-letter .result))
+numbers-in-requires c κs = (c .before .before .before .before .before .before .before .pre, omega (arith, narrow (c .before .before .with-letter .result)))
 
 returns-3 : tie.Need-returns-3
 returns-3 c =

@@ -18,11 +18,11 @@ use Rattle.sheet.proofs.lines.numbers_in.Statement.{statement}
 use Rattle.sheet.proofs.lines.numbers_in.Tie as tie
 
 abbrev Inv-loop : tie.InvT-loop
-Inv-loop line start width values₀ at₀ k₀ values at k =
+Inv-loop kinds line start width values₀ at₀ k₀ values at k =
     (k ≤ width) × (length values ≡ 8) × (numbersOf width (partsFrom comma start line) ≡ soFar line values width k at comma)
 
 abbrev μ-loop : tie.MeasureT-loop
-μ-loop line start width values₀ at₀ k₀ values at k = width - k
+μ-loop kinds line start width values₀ at₀ k₀ values at k = width - k
 
 loop-holds : tie.Need-loop-holds Inv-loop μ-loop
 loop-holds c = (omega arith, refl, rw sub-zero (onto-none _))
@@ -31,7 +31,7 @@ returns : tie.Need-returns Inv-loop μ-loop
 returns c = sym (so-missing _ _ _ _ _ _ (c .before .loop-test .taken) (c .if1 .taken)) ∙ sym (c .before .before .loop .inv .2)
 
 until-requires : tie.Need-until-requires Inv-loop μ-loop
-until-requires c κs = omega arith
+until-requires c κs = (c .before .before .before .before .pre .0, omega arith)
 
 -- the end of a field is within the line
 end : (c : tie.After-until Inv-loop μ-loop) → c .until .result ≤ length (c .before .before .before .before .before .args .line .now)

@@ -13,7 +13,7 @@ returns : tie.Need-returns
 returns c =
     let u = c .before in
     let a = u .before .before .args in
-    next-cut (a .src .now) (a .at) (u .until .result) (a .t) (u .before .before .pre .0) (u .until .ensures) (c .if1 .taken) _
+    next-cut (a .src .now) (a .at) (u .until .result) (a .t) (u .before .before .pre .1) (u .until .ensures) (c .if1 .taken) _
 
 sub-line-in : tie.Need-sub-line-in
 sub-line-in c = search needs
@@ -25,7 +25,7 @@ part-line-in-end : tie.Need-part-line-in-end
 part-line-in-end c =
     let u = c .before in
     let s = u .before .before in
-    end-within (s .args .src .now) (s .args .at) (u .until .result) (s .pre .0) (u .until .ensures) .1
+    end-within (s .args .src .now) (s .args .at) (u .until .result) (s .pre .1) (u .until .ensures) .1
 
 line-in-requires : tie.Need-line-in-requires
 line-in-requires c κs = search needs
@@ -35,7 +35,7 @@ returns-2 c =
     let u = c .before .before .before .before .before .before in
     let s = u .before .before in
     let r = c .before .before .before .line-in in
-    next-bad (s .args .src .now) (s .args .at) (u .until .result) (s .args .t) (s .pre .0) (u .until .ensures) (c .before .before .before .before .before .if1 .left) (r .result) (r .ensures .0) (r .ensures .1)
+    next-bad (s .args .src .now) (s .args .at) (u .until .result) (s .args .t) (s .pre .1) (u .until .ensures) (c .before .before .before .before .before .if1 .left) (r .result) (r .ensures .0) (r .ensures .1)
     (not-true (r .result .ok) (c .if2 .taken))
 
 fault-of-requires : tie.Need-fault-of-requires
@@ -46,7 +46,7 @@ returns-3 c =
     let u = c .before .before .before .before .before .before .before in
     let s = u .before .before in
     let r = c .before .before .before .before .line-in in
-    next-judged (s .args .src .now) (s .args .at) (u .until .result) (s .args .t) (s .pre .0) (u .until .ensures) (c .before .before .before .before .before .before .if1 .left) (r .result) (r .ensures .0) (r .ensures .1)
+    next-judged (s .args .src .now) (s .args .at) (u .until .result) (s .args .t) (s .pre .1) (u .until .ensures) (c .before .before .before .before .before .before .if1 .left) (r .result) (r .ensures .0) (r .ensures .1)
     (not-false (r .result .ok) (c .before .if2 .left))
     (c .fault-of .result)
     (c .fault-of .ensures)

@@ -12,7 +12,7 @@ use Rattle.sheet.proofs.reader.read.Statement.{statement}
 use Rattle.sheet.proofs.reader.read.Tie as tie
 
 abbrev Inv-loop : tie.InvT-loop
-Inv-loop src head₀ corridors₀ occupancies₀ used₀ t₀ n₀ at₀ head corridors occupancies used t n at =
+Inv-loop src kinds head₀ corridors₀ occupancies₀ used₀ t₀ n₀ at₀ head corridors occupancies used t n at =
     Reading src head corridors occupancies used t n at
     × (at ≤ length src)
     × (length src ≤ 10240)
@@ -25,11 +25,11 @@ Inv-loop src head₀ corridors₀ occupancies₀ used₀ t₀ n₀ at₀ head co
     × (length used ≡ 3)
 
 abbrev μ-loop : tie.MeasureT-loop
-μ-loop src head₀ corridors₀ occupancies₀ used₀ t₀ n₀ at₀ head corridors occupancies used t n at = length src - at
+μ-loop src kinds head₀ corridors₀ occupancies₀ used₀ t₀ n₀ at₀ head corridors occupancies used t n at = length src - at
 
 -- the line that was read ends within the text, at or after the position before
 ahead : (c : tie.Else2 Inv-loop μ-loop)
-    → let x = c .before .before in (x .before .before .loop .at ≤ x .next-line .result .end) × (x .next-line .result .end < length (x .before .before .before .before .before .before .args .src .now))
+    → let x = c .before .before in (x .before .before .before .loop .at ≤ x .next-line .result .end) × (x .next-line .result .end < length (x .before .before .before .before .before .before .before .before .args .src .now))
 ahead c = let N = c .before .before .next-line .ensures in (N .ahead, N .within (c .if2 .left))
 
 refuse-requires : tie.Need-refuse-requires Inv-loop μ-loop
@@ -40,15 +40,18 @@ returns c =
     let src = c .before .before .before .args .src .now in
     c .refuse .ensures ∙ answers src (refused 1 0) (read-long src (c .before .if1 .taken))
 
+table-requires : tie.Need-table-requires Inv-loop μ-loop
+table-requires c κs = search needs
+
 no-lines-requires : tie.Need-no-lines-requires Inv-loop μ-loop
 no-lines-requires c κs = search needs
 
 loop-holds : tie.Need-loop-holds Inv-loop μ-loop
 loop-holds c =
     let T = c .no-lines .ensures in (
-      nothing-read (c .before .before .before .args .src .now) (c .no-lines .result) (c .before .if1 .left) T,
+      nothing-read (c .before .before .before .before .args .src .now) (c .no-lines .result) (c .before .before .if1 .left) T,
       omega arith,
-      c .before .if1 .left,
+      c .before .before .if1 .left,
       omega arith,
       omega (arith, T .counted),
       omega (arith, T .counted, T .of-kind),
@@ -59,7 +62,7 @@ loop-holds c =
     )
 
 next-line-requires : tie.Need-next-line-requires Inv-loop μ-loop
-next-line-requires c κs = (c .loop-test .taken, c .before .loop .inv .0 .tallied .known)
+next-line-requires c κs = (c .before .before .before .before .table .ensures, c .before .loop-test .taken, c .before .before .loop .inv .0 .tallied .known)
 
 refuse-requires-2 : tie.Need-refuse-requires-2 Inv-loop μ-loop
 refuse-requires-2 c κs = search needs
@@ -67,44 +70,44 @@ refuse-requires-2 c κs = search needs
 returns-2 : tie.Need-returns-2 Inv-loop μ-loop
 returns-2 c =
     let x = c .before .before .before in
-    let h = x .before .before in
+    let h = x .before .before .before in
     let r = x .next-line in
     c .refuse2 .ensures
-    ∙ answers (h .before .before .before .before .args .src .now) (refused (r .result .refusal) (h .loop .n)) (refused-next (h .loop .inv .0) (r .result) (r .ensures) (c .before .if2 .taken))
+    ∙ answers (h .before .before .before .before .before .args .src .now) (refused (r .result .refusal) (h .loop .n)) (refused-next (h .loop .inv .0) (r .result) (r .ensures) (c .before .if2 .taken))
 
 slice-aggregate-store-line : tie.Need-slice-aggregate-store-line Inv-loop μ-loop
-slice-aggregate-store-line c = sym (c .before .before .before .before .before .before .loop .inv .6)
+slice-aggregate-store-line c = sym (c .before .before .before .before .before .before .before .loop .inv .6)
 
 slice-aggregate-store-line-2 : tie.Need-slice-aggregate-store-line-2 Inv-loop μ-loop
-slice-aggregate-store-line-2 c = sym (c .before .before .before .before .before .before .before .loop .inv .7)
+slice-aggregate-store-line-2 c = sym (c .before .before .before .before .before .before .before .before .loop .inv .7)
 
 slice-aggregate-store-line-3 : tie.Need-slice-aggregate-store-line-3 Inv-loop μ-loop
-slice-aggregate-store-line-3 c = sym (c .before .before .before .before .before .before .before .before .loop .inv .8)
+slice-aggregate-store-line-3 c = sym (c .before .before .before .before .before .before .before .before .before .loop .inv .8)
 
 slice-aggregate-store-line-4 : tie.Need-slice-aggregate-store-line-4 Inv-loop μ-loop
-slice-aggregate-store-line-4 c = sym (c .before .before .before .before .before .before .before .before .before .loop .inv .9)
+slice-aggregate-store-line-4 c = sym (c .before .before .before .before .before .before .before .before .before .before .loop .inv .9)
 
 store-line-requires : tie.Need-store-line-requires Inv-loop μ-loop
 store-line-requires c κs =
     let x = c .before .before .before .before .before .before .before in
     let r = x .next-line in
-    (r .ensures .known, storable-next (x .before .before .loop .inv .0) (r .result) (r .ensures) (c .before .before .before .before .before .if2 .left))
+    (r .ensures .known, storable-next (x .before .before .before .loop .inv .0) (r .result) (r .ensures) (c .before .before .before .before .before .if2 .left))
 
 with-line-requires : tie.Need-with-line-requires Inv-loop μ-loop
 with-line-requires c κs =
     let x = c .before .before .before .before .before .before .before .before .before .before .before .before in
-    let i = x .before .before .loop .inv in
+    let i = x .before .before .before .loop .inv in
     (x .next-line .ensures .known, omega (arith, i), omega (arith, i))
 
 add-at : tie.Need-add-at Inv-loop μ-loop
 add-at c =
     let e = ahead (c .before .before .before .before .before .before .before .before .before .before .before .before) in
-    let i = c .before .before .before .before .before .before .before .before .before .before .before .before .before .before .before .before .loop .inv in
+    let i = c .before .before .before .before .before .before .before .before .before .before .before .before .before .before .before .before .before .loop .inv in
     omega (arith, e, i)
 
 add-n : tie.Need-add-n Inv-loop μ-loop
 add-n c =
-    let i = c .before .before .before .before .before .before .before .before .before .before .before .before .before .before .before .before .loop .inv in
+    let i = c .before .before .before .before .before .before .before .before .before .before .before .before .before .before .before .before .before .loop .inv in
     omega (arith, i)
 
 loop-less : tie.Need-loop-less Inv-loop μ-loop
@@ -116,7 +119,7 @@ loop-again : tie.Need-loop-again Inv-loop μ-loop
 loop-again c =
     let x = c .before .before .before .before .before .before .before .before .before .before .before .before .before .before in
     let r = x .next-line in
-    let i = x .before .before .loop .inv in
+    let i = x .before .before .before .loop .inv in
     let e = ahead (c .before .before .before .before .before .before .before .before .before .before .before .before) in
     let s = c .before .before .before .before .before .before .store-line in
     let w = c .before .with-line .ensures in (
@@ -139,7 +142,7 @@ returns-3 : tie.Need-returns-3 Inv-loop μ-loop
 returns-3 c =
     let h = c .before .before .before in
     c .refuse3 .ensures
-    ∙ answers (h .before .before .before .before .args .src .now) (refused 3 1) (refused-empty (h .loop .inv .0) (c .before .before .loop-test .left) (c .before .if3 .taken))
+    ∙ answers (h .before .before .before .before .before .args .src .now) (refused 3 1) (refused-empty (h .loop .inv .0) (c .before .before .loop-test .left) (c .before .if3 .taken))
 
 returns-4 : tie.Need-returns-4 Inv-loop μ-loop
 returns-4 c = loaded-answer (c .before .before .loop .inv .0) (c .before .loop-test .left) (c .if3 .left)
@@ -152,6 +155,7 @@ read-spec =
     μ-loop
     refuse-requires
     returns
+    table-requires
     no-lines-requires
     loop-holds
     next-line-requires
