@@ -1,3 +1,4 @@
 pub mod Ways
 pub mod Arrivals
+pub mod Inner
 pub mod Laws

@@ -3,7 +3,7 @@
 -- Costs ascend by `Lex`: by first figure, then second, then third.
 use mathlib.Core.Bool.{Bool, true, false, not, _&&_}
 use mathlib.Core.List.{List, [], _∷_}
-use Prim.Native.Nat.{ℕ, zero, suc, _+_, _*_, _≤_, _<_}
+use Prim.Native.Nat.{ℕ, _+_, _*_, _≤_, _<_}
 use lib.Dec.{leb, eqb}
 use lib.ListN.{getD, replicate}
 
@@ -31,6 +31,10 @@ add (x ∷ a) (y ∷ b) = (x + y) ∷ add a b
 abbrev pub times : ℕ → Cost → Cost
 times n [] = []
 times n (x ∷ a) = (n * x) ∷ times n a
+
+-- no figure is above m
+pub record Within (m : ℕ) (a : Cost) : Type 0 where
+  pub every : (i : ℕ) → fig a i ≤ m
 
 -- a is nowhere greater than b
 pub record AtMost (a b : Cost) : Type 0 where

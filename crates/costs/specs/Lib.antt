@@ -1,3 +1,4 @@
 pub mod Costs
 pub mod Moves
+pub mod Inner
 pub mod Laws

@@ -2,7 +2,7 @@
 -- included", and "Safe intervals and leading arrivals": "a longest run of steps within 0 to T at which a place is unoccupied (001)").
 use mathlib.Core.Path.{_≡_}
 use mathlib.Core.Logic.{_⊎_}
-use mathlib.Core.Bool.{Bool, true, false, not, _&&_, _||_}
+use mathlib.Core.Bool.{Bool, true, false, not, _&&_}
 use mathlib.Core.List.{List, [], _∷_, _++_, map}
 use mathlib.Core.Option.{Option, some, none}
 use Prim.Native.Nat.{ℕ, zero, suc, _+_, _-_, _≤_}
@@ -89,6 +89,11 @@ stepsTo (suc n) = stepsTo n ++ (suc n ∷ [])
 unfoldable pub intervalsOf : Sheet → ℕ → List Span
 unfolding beginsb lastOf
 intervalsOf s v = map (λ t. record { first-step = t; last-step = lastOf s v t (steps s - t) }) (filter (beginsb s v) (stepsTo (steps s)))
+
+-- the first step of the free run that holds t, at any step; 256, above every step, where v is occupied then
+unfoldable pub sinceOf : Sheet → ℕ → ℕ → ℕ
+unfolding freeb firstOf
+sinceOf s v t = pick (freeb s v t) (firstOf s v t) 256
 
 -- what the promises of the code cite: free; the first step of the safe interval of v that holds t, or none; the safe intervals of v
 unfoldable pub freeAt : Sheet → Place → Step → Bool
