@@ -1,41 +1,46 @@
 -- What the functions that read the front and a journey off the arrivals table promise each other. No exported contract cites this file.
 use mathlib.Core.Path.{_≡_}
-use mathlib.Core.Bool.{Bool, true, false}
-use mathlib.Core.List.{List, [], _∷_}
+use mathlib.Core.Bool.{Bool, true, false, _&&_}
+use mathlib.Core.List.{List, [], _∷_, _++_, map}
 use mathlib.Core.Option.{Option, some, none}
-use Prim.Native.Nat.{ℕ, zero, suc, _+_, _*_, _≤_, _<_}
+use Prim.Native.Nat.{ℕ, zero, suc, _*_, _+_, _≤_, _<_, _%_}
+use lib.Dec.{eqb, leb}
 use lib.ListN.{length, getD}
-use Rattle.sheet.specs.Lists.{pick, number, numbersFrom, lexb}
-use Rattle.sheet.specs.Sheet.{Sheet, steps, goal}
-use Rattle.costs.specs.Costs.{Cost, figures, Dominates}
+use lib.Seq.{sets}
+use Rattle.sheet.specs.Lists.{pick, number, numbersFrom, rows, filter, bind, lexb}
+use Rattle.sheet.specs.Sheet.{Sheet}
+use Rattle.sheet.specs.Valid.{Valid}
+use Rattle.sheet.specs.Kinds.{kindC}
+use Rattle.sheet.specs.Calls.{groupRows}
+use Rattle.costs.specs.Costs.{Cost, figures, sameb}
+use Rattle.intervals.specs.Intervals.{sinceOf}
 use Rattle.arrivals.specs.Arrivals.{Arrival, arrival, leading}
-use Rattle.journeys.specs.Journeys.{Counts, arrivalOf}
-use Rattle.journeys.specs.Front.{front}
+use Rattle.journeys.specs.Journeys.{journeyOf, arrivalOf}
+use Rattle.journeys.specs.Front.{OnFront, frontOf}
 use Rattle.journeys.specs.declared.offered.Offered.{Offered}
 
--- row k of a table: place, step and figures
-abbrev pub rowAt : List ℕ → ℕ → Arrival
-rowAt xs k = arrival (number xs (k * 5)) (number xs (k * 5 + 1)) (numbersFrom figures (k * 5 + 2) xs)
+-- the arrival that a row of five numbers stands for
+abbrev pub rowOf : List ℕ → Arrival
+rowOf r = arrival (number r 0) (number r 1) (numbersFrom figures 2 r)
 
--- the table begins with the rows of the leading arrivals of s, of which there are n
-pub record Holds (s : Sheet) (xs : List ℕ) (n : ℕ) : Type 0 where
-  pub count : n ≡ length (leading s)
-  pub room : n * 5 ≤ length xs
-  pub rows : (k : ℕ) → k < n → rowAt xs k ≡ getD (leading s) k (rowAt xs k)
+-- the arrivals in the first n rows of a table
+abbrev pub tableRows : ℕ → List ℕ → List Arrival
+tableRows n xs = map rowOf (rows 5 n xs)
 
--- a leading arrival at the goal that counts
-pub record GoalRow (s : Sheet) (a : Arrival) : Type 0 where
-  pub at-goal : a .place ≡ goal s
-  pub counts : Counts s (a .step)
+-- an arrival at the place v, at a step up to `last`
+abbrev pub isGoalRow : ℕ → ℕ → Arrival → Bool
+isGoalRow v last a = eqb (a .place) v && leb (a .step) last
 
--- b tells whether P holds
-pub record Tells (P : Type 0) (b : Bool) : Type 0 where
-  pub yes-holds : b ≡ true → P
-  pub no-holds : b ≡ false → P → ⊥
+abbrev pub goalRows : ℕ → ℕ → ℕ → List ℕ → List Arrival
+goalRows v last n xs = filter (isGoalRow v last) (tableRows n xs)
 
--- no row at the goal that counts, among the first n, dominates g
-pub record Undominated (s : Sheet) (xs : List ℕ) (n : ℕ) (g : Cost) : Type 0 where
-  pub none-dominates : (k : ℕ) → k < n → GoalRow s (rowAt xs k) → Dominates (rowAt xs k .cost) g → ⊥
+abbrev pub costsOf : List Arrival → List Cost
+costsOf l = map (λ a. a .cost) l
+
+-- the step of the first arrival with the cost g
+abbrev pub firstStep : Cost → List Arrival → ℕ
+firstStep g [] = 0
+firstStep g (a ∷ l) = let r = firstStep g l in pick (sameb (a .cost) g) (a .step) r
 
 -- the first cost of an ascending list above `last`, or the first of all
 abbrev pub nextIn : List Cost → Option Cost → Option Cost
@@ -46,12 +51,43 @@ nextIn (x ∷ l) (some a) = let r = nextIn l (some a) in pick (lexb a x) (some x
 abbrev pub asOffered : Offered → Option Cost
 asOffered r = pick (r .found) (some (r .cost)) none
 
--- r is the first front cost above `last`, with its arrival step
-pub record NextIs (s : Sheet) (last : Option Cost) (r : Offered) : Type 0 where
-  pub next : asOffered r ≡ nextIn (front s) last
-  pub step : r .found ≡ true → r .step ≡ arrivalOf s (r .cost)
+-- r is the first cost above `last` on the front of the arrivals l, with the step of its first arrival
+pub record NextIs (l : List Arrival) (last : Option Cost) (r : Offered) : Type 0 where
+  pub next : asOffered r ≡ nextIn (frontOf (costsOf l)) last
+  pub step : r .found ≡ true → r .step ≡ firstStep (r .cost) l
 
--- r is the front cost with number i, with its arrival step
-pub record NumberIs (s : Sheet) (i : ℕ) (r : Offered) : Type 0 where
-  pub on : r .found ≡ true → (i < length (front s)) × (r .cost ≡ getD (front s) i []) × (r .step ≡ arrivalOf s (r .cost))
-  pub off : r .found ≡ false → length (front s) ≤ i
+-- r is the cost with number i on the front of the arrivals l, with the step of its first arrival; or there is none
+pub record NumberIs (l : List Arrival) (i : ℕ) (r : Offered) : Type 0 where
+  pub on : r .found ≡ true → (i < length (frontOf (costsOf l))) × (r .cost ≡ getD (frontOf (costsOf l)) i []) × (r .step ≡ firstStep (r .cost) l)
+  pub off : r .found ≡ false → length (frontOf (costsOf l)) ≤ i
+
+-- the rows of the front list
+abbrev pub offeredRows : List Arrival → List ℕ
+offeredRows l = bind (frontOf (costsOf l)) (λ g. g ++ (firstStep g l ∷ []))
+
+-- the table begins with the rows of the leading arrivals of s, of which there are n
+pub record Holds (s : Sheet) (n : ℕ) (xs : List ℕ) : Type 0 where
+  pub room : n * 5 ≤ length xs
+  pub rows-are : tableRows n xs ≡ leading s
+
+-- s is a sheet with this S line and these corridors, the table holds its leading arrivals and `since` the first steps of its free runs; f is on its
+-- front, with the arrival step A
+pub record Walks (head corridors : List ℕ) (n : ℕ) (table since : List ℕ) (A : ℕ) (f : Cost) (s : Sheet) : Type 0 where
+  pub valid : Valid s
+  pub head-is : s .head ≡ head
+  pub corridors-are : s .corridors ≡ groupRows kindC corridors
+  pub whole : length corridors % 5 ≡ 0
+  pub holds : Holds s n table
+  pub since-room : length since ≡ 16384
+  pub since-of : (v t : ℕ) → v < 64 → t < 256 → number since (v * 256 + t) ≡ sinceOf s v t
+  pub on-front : OnFront s f
+  pub arrives-at : A ≡ arrivalOf s f
+
+-- what the walk back needs, and what it writes
+pub record Walkable (head corridors : List ℕ) (n : ℕ) (table since : List ℕ) (A : ℕ) (f : Cost) (path : List ℕ) : Type 0 where
+  pub sheet : Sheet
+  pub walks : Walks head corridors n table since A f sheet
+  pub room : suc A ≤ length path
+
+pub record WalkIs (head corridors : List ℕ) (n : ℕ) (table since : List ℕ) (A : ℕ) (f : Cost) (path path′ : List ℕ) : Type 0 where
+  pub of : (s : Sheet) → Walks head corridors n table since A f s → path′ ≡ sets path 0 (journeyOf s f)

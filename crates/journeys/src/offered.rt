@@ -1,14 +1,13 @@
 // The front read off the arrivals table: each front cost is the cost of a leading arrival at the goal that none of these dominates.
 ghost use mathlib.Core.Path.{_≡_};
-ghost use mathlib.Core.Option.{none};
+ghost use mathlib.Core.List.{_∷_, [], _++_};
 ghost use Prim.Native.Nat.{ℕ, _+_, _*_, _≤_, _<_};
 ghost use lib.ListN.{length};
-ghost use Rattle.sheet.specs.Lists.{numbersFrom, bind, filled};
-ghost use Rattle.sheet.specs.Sheet.{Sheet, goal, steps};
+ghost use lib.Seq.{sets};
+ghost use Rattle.sheet.specs.Lists.{numbersFrom, rows, filled};
 ghost use Rattle.costs.specs.Costs.{figures};
-ghost use Rattle.journeys.specs.Front.{front};
-ghost use Rattle.journeys.specs.Calls.{frontRow};
-ghost use Rattle.journeys.specs.Inner.{rowAt, Reading, GoalRowIs, UndominatedIs, NextAfter, NumberOf, CountOf, ListOf};
+ghost use Rattle.journeys.specs.Front.{undominatedb, frontOf};
+ghost use Rattle.journeys.specs.Inner.{isGoalRow, rowOf, goalRows, costsOf, asOffered, NextIs, NumberIs, offeredRows};
 use costs::before;
 use costs::dominates;
 
@@ -31,22 +30,14 @@ pub fn row_cost(table: &[u32], k: usize) -> [u32; 3]
     r
 }
 
-// Whether row k stands at the goal, at a step that counts.
-fn is_goal_row(table: &[u32], k: usize, at: u32, last: u32) -> bool
-    requires { ⌜ (k ≤ 1000000000000000000) × (k * 5 + 5 ≤ length (now table)) ⌝ }
-    ensures { λ r. ⌜ GoalRowIs at last (rowAt (now (table .entry)) k) r ⌝ }
-{
-    (table[k * 5] == at) & (table[k * 5 + 1] <= last)
-}
-
-// Whether no row at the goal dominates g.
-fn is_undominated(table: &[u32], n: usize, at: u32, last: u32, g: [u32; 3]) -> bool
+// Whether no arrival at place v, at a step up to `last`, in the first n rows dominates g.
+fn is_undominated(table: &[u32], n: usize, v: u32, last: u32, g: [u32; 3]) -> bool
     requires { ⌜ (n ≤ 1000000000000000000) × (n * 5 ≤ length (now table)) ⌝ }
-    ensures { λ r. ⌜ UndominatedIs at last (now (table .entry)) n g r ⌝ }
+    ensures { λ r. ⌜ r ≡ undominatedb (costsOf (goalRows v last n (now (table .entry)))) g ⌝ }
 {
     let mut k = 0;
     while k < n {
-        if is_goal_row(table, k, at, last) {
+        if (table[k * 5] == v) & (table[k * 5 + 1] <= last) {
             if dominates(row_cost(table, k), g) {
                 return false;
             }
@@ -56,86 +47,108 @@ fn is_undominated(table: &[u32], n: usize, at: u32, last: u32, g: [u32; 3]) -> b
     true
 }
 
-// Whether g stands between the cost after which is sought and the best found so far.
-fn is_better(after: Offered, best: Offered, g: [u32; 3]) -> bool
-{
-    if after.found {
-        if !before(after.cost, g) {
-            return false;
-        }
-    }
-    if best.found {
-        return before(g, best.cost);
-    }
-    true
-}
-
 // The first front cost above `after`, or the first of all, with its arrival step.
-pub fn next_cost(table: &[u32], n: usize, at: u32, last: u32, after: Offered) -> Offered
+pub fn next_cost(table: &[u32], n: usize, v: u32, last: u32, after: Offered) -> Offered
     requires { ⌜ (n ≤ 1000000000000000000) × (n * 5 ≤ length (now table)) ⌝ }
-    ensures { λ r. ⌜ NextAfter at last (now (table .entry)) n after r ⌝ }
+    ensures { λ r. ⌜ NextIs (goalRows v last n (now (table .entry))) (asOffered after) r ⌝ }
 {
     let mut best = Offered { found: false, cost: [0; 3], step: 0 };
     let mut k = 0;
     while k < n {
-        if is_goal_row(table, k, at, last) {
-            let g = row_cost(table, k);
-            if is_better(after, best, g) {
-                if is_undominated(table, n, at, last, g) {
-                    best = Offered { found: true, cost: g, step: table[k * 5 + 1] };
-                }
-            }
-        }
+        best = better_row(table, n, v, last, after, best, k);
         k += 1;
     }
     best
 }
 
-// The count of front costs.
-pub fn count_costs(table: &[u32], n: usize, at: u32, last: u32) -> usize
-    requires { ⌜ (n ≤ 1000000000000000000) × (n * 5 ≤ length (now table)) ⌝ }
-    ensures { λ r. ⌜ CountOf at last (now (table .entry)) n r ⌝ }
+// The better of `best` and row k: a cost above `after` and before `best` that is on the front.
+fn better_row(table: &[u32], n: usize, v: u32, last: u32, after: Offered, best: Offered, k: usize) -> Offered
+    requires { ⌜ (n ≤ 1000000000000000000) × (n * 5 ≤ length (now table)) × (k < n) ⌝ }
 {
-    let mut found = next_cost(table, n, at, last, Offered { found: false, cost: [0; 3], step: 0 });
+    if (table[k * 5] != v) | (last < table[k * 5 + 1]) {
+        return best;
+    }
+    let g = row_cost(table, k);
+    if after.found {
+        if !before(after.cost, g) {
+            return best;
+        }
+    }
+    if best.found {
+        if !before(g, best.cost) {
+            return best;
+        }
+    }
+    if is_undominated(table, n, v, last, g) {
+        return Offered { found: true, cost: g, step: table[k * 5 + 1] };
+    }
+    best
+}
+
+// The count of front costs.
+pub fn count_costs(table: &[u32], n: usize, v: u32, last: u32) -> usize
+    requires { ⌜ (n ≤ 1000000000000000000) × (n * 5 ≤ length (now table)) ⌝ }
+    ensures { λ r. ⌜ r ≡ length (frontOf (costsOf (goalRows v last n (now (table .entry))))) ⌝ }
+{
+    let mut at = next_cost(table, n, v, last, Offered { found: false, cost: [0; 3], step: 0 });
     let mut count = 0;
-    while found.found {
+    while at.found {
         count += 1;
-        found = next_cost(table, n, at, last, found);
+        at = next_cost(table, n, v, last, at);
     }
     count
 }
 
-// The front cost with a number, from 0.
-pub fn nth_cost(table: &[u32], n: usize, at: u32, last: u32, number: usize) -> Offered
+// The front cost with a number, from 0, with its arrival step.
+pub fn nth_cost(table: &[u32], n: usize, v: u32, last: u32, number: usize) -> Offered
     requires { ⌜ (n ≤ 1000000000000000000) × (n * 5 ≤ length (now table)) ⌝ }
-    ensures { λ r. ⌜ NumberOf at last (now (table .entry)) n number r ⌝ }
+    ensures { λ r. ⌜ NumberIs (goalRows v last n (now (table .entry))) number r ⌝ }
 {
-    let mut found = next_cost(table, n, at, last, Offered { found: false, cost: [0; 3], step: 0 });
+    let mut at = next_cost(table, n, v, last, Offered { found: false, cost: [0; 3], step: 0 });
     let mut i = 0;
     while i < number {
-        if !found.found {
-            return found;
+        if !at.found {
+            return at;
         }
-        found = next_cost(table, n, at, last, found);
+        at = next_cost(table, n, v, last, at);
         i += 1;
     }
-    found
+    at
 }
 
-// Writes one row of the front list.
-fn put_cost(list: &mut [u32], i: usize, o: Offered)
+// Writes row i of the front list: three figures and the arrival step.
+fn put_cost(list: &mut [u32], i: usize, cost: [u32; 3], step: u32)
     requires { ⌜ (i ≤ 1000000000000000000) × (i * 4 + 4 ≤ length (now list)) ⌝ }
+    ensures { λ _. ⌜ now (list .exit) ≡ sets (now (list .entry)) (i * 4) (cost ++ (step ∷ [])) ⌝ }
 {
-    let cost = o.cost;
     for j in 0..3 {
         list[i * 4 + j] = cost[j];
     }
-    list[i * 4 + 3] = o.step;
+    list[i * 4 + 3] = step;
 }
 
-// Writes the front list: a row of three figures and the arrival step for each front cost, then zeros.
-pub fn list_costs(table: &[u32], n: usize, at: u32, last: u32, list: &mut [u32])
-    requires { ⌜ (n ≤ 1000000000000000000) × (n * 5 ≤ length (now table)) ⌝ }
-    ensures { λ _. ⌜ ListOf at last (now (table .entry)) n (now (list .entry)) (now (list .exit)) ⌝ }
+// Writes the front list: a row of three figures and the arrival step for each front cost, in order, then zeros to its end.
+pub fn list_costs(table: &[u32], n: usize, v: u32, last: u32, list: &mut [u32])
+    requires { ⌜ (n ≤ 1000000000000000000) × (n * 5 ≤ length (now table)) × (length (frontOf (costsOf (goalRows v last n (now table)))) * 4 ≤ length (now list)) ⌝ }
+    ensures { λ _. ⌜ now (list .exit) ≡ filled (length (now (list .entry))) (offeredRows (goalRows v last n (now (table .entry)))) ⌝ }
 {
+    let mut at = next_cost(table, n, v, last, Offered { found: false, cost: [0; 3], step: 0 });
+    let mut i = 0;
+    while at.found {
+        put_cost(list, i, at.cost, at.step);
+        at = next_cost(table, n, v, last, at);
+        i += 1;
+    }
+    clear_from(list, i * 4);
+}
+
+// Zeros from position `from` on.
+pub fn clear_from(list: &mut [u32], from: usize)
+    requires { ⌜ from ≤ length (now list) ⌝ }
+{
+    let mut i = from;
+    while i < list.len() {
+        list[i] = 0;
+        i += 1;
+    }
 }
