@@ -1,4 +1,3 @@
 pub mod Ways
 pub mod Arrivals
-pub mod Inner
 pub mod Laws

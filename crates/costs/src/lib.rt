@@ -111,9 +111,15 @@ pub fn crossing_at(corridors: &[u32], u: Place, v: Place, t: Step) -> Crossing
     let mut k = 0;
     while k < n {
         if (corridors[k * 5] == from) & (corridors[k * 5 + 1] == to) {
-            return Crossing { open: true, cost: corridor_cost(corridors, k) };
+            return Crossing {
+                open: true,
+                cost: corridor_cost(corridors, k),
+            };
         }
         k += 1;
     }
-    Crossing { open: false, cost: [0; 3] }
+    Crossing {
+        open: false,
+        cost: [0; 3],
+    }
 }

@@ -1,4 +1,6 @@
 -- What the functions that read the front and a journey off the arrivals table promise each other. No exported contract cites this file.
+pub mod Walk
+
 use mathlib.Core.Path.{_≡_}
 use mathlib.Core.Bool.{Bool, true, false, _&&_}
 use mathlib.Core.List.{List, [], _∷_, _++_, map}
@@ -17,7 +19,6 @@ use Rattle.intervals.specs.Intervals.{sinceOf}
 use Rattle.arrivals.specs.Arrivals.{Arrival, arrival, leading}
 use Rattle.journeys.specs.Journeys.{journeyOf, arrivalOf}
 use Rattle.journeys.specs.Front.{OnFront, frontOf}
-use Rattle.journeys.specs.declared.offered.Offered.{Offered}
 
 -- the arrival that a row of five numbers stands for
 abbrev pub rowOf : List ℕ → Arrival
@@ -47,19 +48,6 @@ abbrev pub nextIn : List Cost → Option Cost → Option Cost
 nextIn [] last = none
 nextIn (x ∷ l) none = some x
 nextIn (x ∷ l) (some a) = let r = nextIn l (some a) in pick (lexb a x) (some x) r
-
-abbrev pub asOffered : Offered → Option Cost
-asOffered r = pick (r .found) (some (r .cost)) none
-
--- r is the first cost above `last` on the front of the arrivals l, with the step of its first arrival
-pub record NextIs (l : List Arrival) (last : Option Cost) (r : Offered) : Type 0 where
-  pub next : asOffered r ≡ nextIn (frontOf (costsOf l)) last
-  pub step : r .found ≡ true → r .step ≡ firstStep (r .cost) l
-
--- r is the cost with number i on the front of the arrivals l, with the step of its first arrival; or there is none
-pub record NumberIs (l : List Arrival) (i : ℕ) (r : Offered) : Type 0 where
-  pub on : r .found ≡ true → (i < length (frontOf (costsOf l))) × (r .cost ≡ getD (frontOf (costsOf l)) i []) × (r .step ≡ firstStep (r .cost) l)
-  pub off : r .found ≡ false → length (frontOf (costsOf l)) ≤ i
 
 -- the rows of the front list
 abbrev pub offeredRows : List Arrival → List ℕ

@@ -1,6 +1,5 @@
 // The front of journeys and the journey of each front cost: what the calls for the host hand back (document 01, "What is handed back").
 
-pub mod offered; // offered.rt: the front off the arrivals table
 pub mod walk; // walk.rt: the journey of a front cost
 
 // What a call of the front hands back: the count of front costs and the number of leading arrivals.

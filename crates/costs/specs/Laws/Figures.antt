@@ -1,15 +1,18 @@
 -- Laws of costs, each shown for the figure at any position: sums and multiples, the order figure by figure and dominance, with their tests.
 use mathlib.Core.Path.{_≡_, refl, sym, _∙_, ap, subst}
+use mathlib.Core.Logic.{_⊎_, inl, inr}
 use mathlib.Core.Bool.{Bool, true, false, not, _&&_, true≢false}
 use mathlib.Core.List.{List, [], _∷_}
 use Prim.Native.Nat.{ℕ, zero, suc, _+_, _*_, _≤_, _<_}
 use native.Mathlib.Omega.{arith}
-use lib.Dec.{leb, eqb}
-use lib.ListN.{length}
-use lib.Seq.{ext-getD}
-use borrow.Author.Tests.{leb-true, leb-false, eqb-true, le-leb, eq-eqb, not-true}
-use Rattle.sheet.specs.Laws.Order.{and-true, true-and, decided}
-use Rattle.costs.specs.Costs.{Cost, figures, fig, zeroCost, add, times, AtMost, Dominates, atMostb, dominatesb, sameb}
+use native.Mathlib.Nat.{mul-le-mul-left}
+use lib.Dec.{ltb, leb, eqb}
+use lib.ListN.{length, set, length-set, List·getD-eq-default}
+use lib.Seq.{ext-getD, getD-set-same, getD-set-other}
+use borrow.Author.Tests.{ltb-true, ltb-false, leb-true, leb-false, eqb-true, eqb-false, le-leb, eq-eqb, not-true}
+use Rattle.sheet.specs.Lists.{number, numbersFrom, Lex, lexb}
+use Rattle.sheet.specs.Laws.Order.{and-true, true-and, decided, Lex-irrefl, Lex-trans, lexb-true, lexb-false}
+use Rattle.costs.specs.Costs.{Cost, figures, fig, zeroCost, add, times, Within, AtMost, Dominates, atMostb, dominatesb, sameb}
 
 pub fig-add : (a b : Cost) (i : ℕ) → fig (add a b) i ≡ fig a i + fig b i
 fig-add [] b i = omega arith
@@ -180,3 +183,123 @@ undominated-same a b l p n = at-most-antisym a b l p (go (atMostb b a) refl)
     go : (t : Bool) → atMostb b a ≡ t → AtMost b a
     go true e = atMostb-true b a e
     go false e = let g = atMostb-false b a e in absurd (n (record { at-most = p; at = g .at; smaller = g .greater }))
+
+-- bounds on every figure
+pub within-more : (m n : ℕ) (a : Cost) → m ≤ n → Within m a → Within n a
+within-more m n a l h = record { every = λ i. omega (arith, h .every i) }
+
+pub within-add : (m n : ℕ) (a b : Cost) → Within m a → Within n b → Within (m + n) (add a b)
+within-add m n a b p q = record { every = λ i. omega (arith, fig-add a b i, p .every i, q .every i) }
+
+pub within-times : (n m : ℕ) (a : Cost) → Within m a → Within (n * m) (times n a)
+within-times n m a h = record { every = λ i. omega (arith, fig-times n a i, mul-le-mul-left n (h .every i)) }
+
+pub within-zero : (m : ℕ) → Within m zeroCost
+within-zero m = record { every = λ i. omega (arith, fig-zero i) }
+
+pub within-at-most : (m : ℕ) (a b : Cost) → AtMost a b → Within m b → Within m a
+within-at-most m a b p h = record { every = λ i. omega (arith, p .every i, h .every i) }
+
+-- the ascending order of costs, beside the order figure by figure
+pub Lex-asym : (a b : List ℕ) → Lex a b → Lex b a → ⊥
+Lex-asym a b p q = Lex-irrefl a (Lex-trans a b a p q)
+
+pub Lex-compared : (a b : List ℕ) → (a ≡ b) ⊎ (Lex a b ⊎ Lex b a)
+Lex-compared a b = go (lexb a b) refl
+  where
+    later : (a ≡ b) ⊎ Lex b a → (a ≡ b) ⊎ (Lex a b ⊎ Lex b a)
+    later (inl e) = inl e
+    later (inr h) = inr (inr h)
+
+    go : (t : Bool) → lexb a b ≡ t → (a ≡ b) ⊎ (Lex a b ⊎ Lex b a)
+    go true e = inr (inl (lexb-true a b e))
+    go false e = later (lexb-false a b e)
+
+pub at-most-not-Lex : (a b : Cost) → length a ≡ length b → AtMost a b → Lex b a → ⊥
+at-most-not-Lex [] [] l p h = h
+at-most-not-Lex [] (y ∷ b) l p h = h
+at-most-not-Lex (x ∷ a) [] l p h = omega arith
+at-most-not-Lex (x ∷ a) (y ∷ b) l p (inl h) = omega (arith, p .every 0)
+at-most-not-Lex (x ∷ a) (y ∷ b) l p (inr h) = at-most-not-Lex a b (omega arith) (at-most-tail x y a b p) (h .1)
+
+pub at-most-Lex : (a b : Cost) → length a ≡ length b → AtMost a b → (a ≡ b) ⊎ Lex a b
+at-most-Lex a b l p = go (Lex-compared a b)
+  where
+    go : (a ≡ b) ⊎ (Lex a b ⊎ Lex b a) → (a ≡ b) ⊎ Lex a b
+    go (inl e) = inl e
+    go (inr (inl h)) = inr h
+    go (inr (inr h)) = absurd (at-most-not-Lex a b l p h)
+
+pub lexb-not : (a b : List ℕ) → (Lex a b → ⊥) → lexb a b ≡ false
+lexb-not a b n = go (lexb a b) refl
+  where
+    go : (t : Bool) → lexb a b ≡ t → lexb a b ≡ false
+    go true e = absurd (n (lexb-true a b e))
+    go false e = e
+
+pub atMostb-not : (a b : Cost) → Greater a b → atMostb a b ≡ false
+atMostb-not a b g = go (atMostb a b) refl
+  where
+    go : (t : Bool) → atMostb a b ≡ t → atMostb a b ≡ false
+    go true e = absurd (omega (arith, g .greater, atMostb-true a b e .every (g .at)))
+    go false e = e
+
+-- What a loop over the n figures of arrays has shown, as the definitions say it. A loop that stores f's figures has stored the first i of them:
+pub record Stored (n : ℕ) (f : ℕ → ℕ) (i : ℕ) (r : List ℕ) : Type 0 where
+  pub sized : length r ≡ n
+  pub so-far : (k : ℕ) → k < i → fig r k ≡ f k
+
+pub stored-none : (n : ℕ) (f : ℕ → ℕ) (r : List ℕ) → length r ≡ n → Stored n f 0 r
+stored-none n f r l = record { sized = l; so-far = λ k h. absurd (omega arith) }
+
+pub stored-more : (n : ℕ) (f : ℕ → ℕ) (i : ℕ) (r : List ℕ) → i < n → Stored n f i r → Stored n f (i + 1) (set r i (f i))
+stored-more n f i r l h = record { sized = length-set r i (f i) ∙ h .sized; so-far = λ k b. go k b (eqb k i) refl }
+  where
+    go : (k : ℕ) → k < i + 1 → (t : Bool) → eqb k i ≡ t → fig (set r i (f i)) k ≡ f k
+    go k b true e =
+        let q : k ≡ i = eqb-true k i e in
+        rw q (getD-set-same r i (f i) 0 (omega (arith, h .sized)))
+    go k b false e =
+        let q : k ≡ i → ⊥ = eqb-false k i e in
+        getD-set-other r i k (f i) 0 q ∙ h .so-far k (omega arith)
+
+pub stored-all : (n : ℕ) (f : ℕ → ℕ) (i : ℕ) (r : List ℕ) → n ≤ i → Stored n f i r → Stored n f n r
+stored-all n f i r l h = record { sized = h .sized; so-far = λ k b. h .so-far k (omega arith) }
+
+pub stored-as : (n : ℕ) (f g : ℕ → ℕ) (r : List ℕ) → ((k : ℕ) → k < n → f k ≡ g k) → Stored n f n r → Stored n g n r
+stored-as n f g r e h = record { sized = h .sized; so-far = λ k b. h .so-far k b ∙ e k b }
+
+pub is-add : (n : ℕ) (r a b : Cost) → length a ≡ n → length b ≡ n → Stored n (λ k. fig a k + fig b k) n r → r ≡ add a b
+is-add n r a b p q h = ext-getD 0 r (add a b) (h .sized ∙ sym (length-add a b n p q)) (λ k l. h .so-far k (omega (arith, h .sized)) ∙ sym (fig-add a b k))
+
+pub is-times : (n m : ℕ) (r a : Cost) → length a ≡ n → Stored n (λ k. m * fig a k) n r → r ≡ times m a
+is-times n m r a p h = ext-getD 0 r (times m a) (h .sized ∙ sym (length-times m a ∙ p)) (λ k l. h .so-far k (omega (arith, h .sized)) ∙ sym (fig-times m a k))
+
+pub is-from : (n i : ℕ) (r l : List ℕ) → Stored n (λ k. number l (i + k)) n r → r ≡ numbersFrom n i l
+is-from n i r l h = ext-getD 0 r (numbersFrom n i l) (h .sized ∙ sym (length-from n i)) (λ k q. h .so-far k (omega (arith, h .sized)) ∙ sym (fig-from n i k (omega (arith, h .sized))))
+  where
+    length-from : (n i : ℕ) → length (numbersFrom n i l) ≡ n
+    length-from zero i = refl
+    length-from (suc n) i = ap suc (length-from n (suc i))
+
+    fig-from : (n i k : ℕ) → k < n → fig (numbersFrom n i l) k ≡ number l (i + k)
+    fig-from zero i k q = absurd (omega arith)
+    fig-from (suc n) i zero q = let e : i + 0 ≡ i = omega arith in rw e
+    fig-from (suc n) i (suc k) q = let e : i + suc k ≡ suc i + k = omega arith in rw e (fig-from n (suc i) k (omega arith))
+
+-- and a loop that compares, that each figure is at most b's, or that all are the same up to one
+pub is-at-most : (n : ℕ) (a b : Cost) → length a ≡ n → ((k : ℕ) → k < n → fig a k ≤ fig b k) → AtMost a b
+is-at-most n a b p h = record { every = λ i. go i (ltb i n) refl }
+  where
+    go : (i : ℕ) (t : Bool) → ltb i n ≡ t → fig a i ≤ fig b i
+    go i true e = h i (ltb-true i n e)
+    go i false e = let z : length a ≤ i = omega (arith, ltb-false i n e) in omega (arith, List·getD-eq-default a 0 z)
+
+pub is-same : (n : ℕ) (a b : Cost) → length a ≡ n → length b ≡ n → ((k : ℕ) → k < n → fig a k ≡ fig b k) → a ≡ b
+is-same n a b p q h = ext-getD 0 a b (p ∙ sym q) (λ k l. h k (omega arith))
+
+pub is-Lex : (a b : Cost) (i : ℕ) → i < length a → i < length b → ((k : ℕ) → k < i → fig a k ≡ fig b k) → fig a i < fig b i → Lex a b
+is-Lex [] b i p q h l = absurd (omega arith)
+is-Lex (x ∷ a) [] i p q h l = absurd (omega arith)
+is-Lex (x ∷ a) (y ∷ b) zero p q h l = inl l
+is-Lex (x ∷ a) (y ∷ b) (suc i) p q h l = inr (h 0 (omega arith), is-Lex a b i (omega arith) (omega arith) (λ k m. h (suc k) (omega arith)) l)
