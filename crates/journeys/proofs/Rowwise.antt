@@ -3,16 +3,17 @@
 -- Assumes nothing.
 use mathlib.Core.Path.{_≡_, refl, sym, _∙_, ap, subst}
 use mathlib.Core.Logic.{_⊎_, inl, inr}
-use mathlib.Core.Bool.{Bool, true, false, true≢false}
+use mathlib.Core.Bool.{Bool, true, false, not, _||_, true≢false}
 use mathlib.Core.List.{List, map}
 use Prim.Native.Nat.{ℕ, zero, suc, _+_, _*_, _-_, _≤_, _<_}
 use native.Mathlib.Omega.{arith}
-use lib.Dec.{leb}
+use lib.Dec.{eqb, leb, ltb}
 use lib.ListN.{length}
-use borrow.Author.Tests.{leb-true, leb-false}
+use borrow.Author.Tests.{eqb-true, eq-eqb, leb-true, leb-false, ltb-false, le-ltb, not-false}
 use Rattle.sheet.specs.Lists.{_∈_, pick, number, numbersFrom, rows}
 use Rattle.sheet.specs.Sheet.{Sheet}
 use Rattle.sheet.specs.Laws.Members.{map-mem, mem-map}
+use Rattle.sheet.specs.Laws.Passed.{or-false, false-or}
 use Rattle.costs.specs.Costs.{Cost, figures, fig, add, times, AtMost}
 use Rattle.costs.specs.Moves.{waitOf}
 use Rattle.costs.specs.Laws.Figures.{fig-add, fig-times, length-add, length-times, Stored, is-same}
@@ -46,6 +47,33 @@ waits-all xs k n w h p q f =
 
 pub waits-at : (xs : List ℕ) (k n : ℕ) (w h : Cost) → Waits xs k n w h → (i : ℕ) → i < 3 → number xs (k * 5 + 2 + i) + n * fig w i ≡ fig h i
 waits-at xs k n w h x i l = sym (fig-waits xs k n w i l) ∙ ap (λ (y : Cost). fig y i) (x .sum)
+
+-- what a test tells
+pub yes-of : {P : Type 0} {b : Bool} → Decided P b → b ≡ true → P
+yes-of (holds p) e = p
+yes-of (fails n) e = absurd (true≢false (sym e))
+
+pub no-of : {P : Type 0} {b : Bool} → Decided P b → b ≡ false → P → ⊥
+no-of (holds p) e q = true≢false e
+no-of (fails n) e q = n q
+
+-- row k is at another place, or at a step outside
+module _ (xs : List ℕ) (u low t : ℕ) (w h : Cost) (k : ℕ) where
+  abbrev pub outb : Bool
+  outb = (not (eqb (number xs (k * 5)) u) || ltb (number xs (k * 5 + 1)) low) || ltb t (number xs (k * 5 + 1))
+
+  pub inside : outb ≡ false → (number xs (k * 5) ≡ u) × (low ≤ number xs (k * 5 + 1)) × (number xs (k * 5 + 1) ≤ t)
+  inside e =
+      let p = or-false (not (eqb (number xs (k * 5)) u) || ltb (number xs (k * 5 + 1)) low) (ltb t (number xs (k * 5 + 1))) e in
+      let q = or-false (not (eqb (number xs (k * 5)) u)) (ltb (number xs (k * 5 + 1)) low) (p .0) in
+      (eqb-true _ _ (not-false _ (q .0)), ltb-false _ _ (q .1), ltb-false _ _ (p .1))
+
+  pub row-out : outb ≡ true → Decided (Becomes xs u low t w h k) false
+  row-out e = fails (λ x. true≢false (sym e ∙ false-or _ _ (false-or _ _ (ap not (eq-eqb _ _ (x .place))) (le-ltb _ _ (x .from))) (le-ltb _ _ (x .until))))
+
+  pub row-decided : outb ≡ false → {b : Bool} → Decided (Waits xs k (t - number xs (k * 5 + 1)) w h) b → Decided (Becomes xs u low t w h k) b
+  row-decided e (holds x) = let i = inside e in holds (record { place = i .0; from = i .1; until = i .2; waits = x })
+  row-decided e (fails n) = fails (λ x. n (x .waits))
 
 -- row k, as an arrival
 abbrev rowAt : List ℕ → ℕ → Arrival
