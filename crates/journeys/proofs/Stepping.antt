@@ -20,9 +20,11 @@ use Rattle.sheet.specs.Calls.{groupRows}
 use Rattle.sheet.specs.Laws.Rows.{rows-count}
 use Rattle.sheet.specs.declared.Place.{Place}
 use Rattle.sheet.specs.declared.Step.{Step}
-use Rattle.costs.specs.Costs.{Cost, figures, fig, add, Within, AtMost}
+use Rattle.costs.specs.Costs.{Cost, figures, fig, add, Within, AtMost, atMostb}
 use Rattle.costs.specs.Moves.{waitOf, waitAt, Crossing, crossingAt}
-use Rattle.costs.specs.Laws.Figures.{fig-add, cancel-right}
+use Rattle.costs.specs.Inner.{asCrossing, WaitIs}
+use Rattle.costs.specs.declared.Crossing as crossing
+use Rattle.costs.specs.Laws.Figures.{fig-add, cancel-right, at-most-atMostb}
 use Rattle.costs.specs.Laws.Moves.{wait-bounded, crossing-at, at-crossing, crossing-apart}
 use Rattle.intervals.specs.Intervals.{sinceOf}
 use Rattle.arrivals.specs.Ways.{Move, waits, crosses}
@@ -31,9 +33,17 @@ use Rattle.arrivals.specs.Laws.Leading.{arrives-free, arrives-three}
 use Rattle.arrivals.specs.Laws.Steps.{Back, arrives-back}
 use Rattle.arrivals.specs.Laws.Bounds.{move-once}
 use Rattle.journeys.specs.Inner.{Walks}
-use Rattle.journeys.specs.Inner.Walk.{Decided, holds, fails, BecomesIn, MoveFound, Readable, OnWay, Steps, StepFound, LowestStep}
+use Rattle.journeys.specs.Inner.Walk.{Decided, holds, fails, BecomesIn, MoveFound, MoveIs, Readable, OnWay, Steps, asBack, StepFound, StepIs, LowestStep, BeforeIs}
+use Rattle.journeys.specs.declared.walk.Back as back
 use Rattle.journeys.specs.Laws.Exact.{Towards, towards-back, Exact, exact-arrives, arrives-exact}
 use Rattle.journeys.proofs.Rowwise.{becomes-exact, exact-becomes}
+
+-- the structs of the code
+abbrev Crossed : Type 0
+Crossed = crossing.Crossing
+
+abbrev Stepped : Type 0
+Stepped = back.Back
 
 some-not-none : {c : Cost} → _≡_ {A = Option Cost} none (some c) → ⊥
 some-not-none e = let z : _≡_ {A = ℕ} 0 1 = cc in omega arith
@@ -124,3 +134,94 @@ module _ (head corridors : List ℕ) (n : ℕ) (table since : List ℕ) (s : She
       go : (x : ℕ) (y : Cost) → Steps s x v t y h → (b : Bool) → leb u x ≡ b → u ≤ x
       go x y z true e = leb-true _ _ e
       go x y z false e = absurd (none-lower x (leb-false _ _ e) y z)
+
+-- what the code reads
+module _ {head corridors : List ℕ} {n : ℕ} {table since : List ℕ} where
+  pub head-seven : Readable head corridors n table since → length head ≡ 7
+  head-seven k = sym (ap length (k .head-is)) ∙ k .valid .seven
+
+  pub head-places : Readable head corridors n table since → number head 0 ≤ 64
+  head-places k = omega (arith, ap (λ (l : List ℕ). number l 0) (k .head-is), k .valid .most-places)
+
+  pub few-corridors : Readable head corridors n table since → length corridors ≤ 1280
+  few-corridors k =
+      omega (arith, div-add-mod' (length corridors) 5, k .whole, rows-count 5 (length corridors / 5) corridors, ap length (k .corridors-are), k .valid .most-corridors)
+
+  pub wait-within : Readable head corridors n table since → (u : ℕ) (w : Cost) → ((s : Sheet) → s .head ≡ head → w ≡ waitOf s u) → Within 60000 w
+  wait-within k u w e = subst (Within 60000) (sym (e (k .sheet) (k .head-is))) (record { every = wait-bounded (k .sheet) (k .valid) u })
+
+pub waits-as : {head : List ℕ} {u : Place} {w : Cost} → WaitIs head u w → (s : Sheet) → s .head ≡ head → w ≡ waitOf s (u .0)
+unfolding waitAt
+waits-as k s e = k .of s e
+
+not-open : (r : Crossed) → r .open ≡ false → asCrossing r ≡ none
+not-open r e = rw e
+
+is-open : (r : Crossed) → r .open ≡ true → asCrossing r ≡ some (r .cost)
+is-open r e = rw e
+
+move-found : {head corridors : List ℕ} {n : ℕ} {table since : List ℕ} {A : ℕ} {f : Cost} {s : Sheet} {u v t : ℕ} {m : Option Cost}
+    → MoveIs head corridors u v t m → Walks head corridors n table since A f s → MoveFound s u v t m
+move-found {s = s} m k = m .of s (k .valid) (k .head-is) (k .corridors-are)
+
+pub dearer : {c h : Cost} {b : Bool} → b ≡ atMostb c h → b ≡ false → AtMost c h → ⊥
+dearer {c} {h} e d l = true≢false (sym (at-most-atMostb c h l) ∙ sym e ∙ d)
+
+-- what the code hands back of one place
+module _ {head corridors : List ℕ} {n : ℕ} {table since : List ℕ} {u v t : ℕ} {h : Cost} (r : Crossed) (m : MoveIs head corridors u v t (asCrossing r)) where
+  pub step-closed : (x : Cost) → r .open ≡ false → StepIs head corridors n table since u v t h (record { found = false; place = u; cost = x })
+  step-closed x e =
+      record { same = refl; of = λ s f A k o. no-move head corridors n table since s f A k v t h o u (subst (MoveFound s u v t) (not-open r e) (move-found m k)) }
+
+  pub step-dear : (x : Cost) → r .open ≡ true → (AtMost (r .cost) h → ⊥) → StepIs head corridors n table since u v t h (record { found = false; place = u; cost = x })
+  step-dear x e d =
+      record { same = refl; of = λ s f A k o. too-dear head corridors n table since s f A k v t h o u (r .cost) (subst (MoveFound s u v t) (is-open r e) (move-found m k)) d }
+
+  pub step-done : r .open ≡ true → (g : Cost) → (length g ≡ figures) × (add g (r .cost) ≡ h) → u < 64 → t < 256 → (w : Cost) → ((s : Sheet) → s .head ≡ head → w ≡ waitOf s u)
+      → (b : Bool) → Decided (BecomesIn n table u (number since (u * 256 + t)) t w g) b → StepIs head corridors n table since u v t h (record { found = b; place = u; cost = g })
+  step-done e g q i j w z b d =
+      record {
+        same = refl;
+        of = λ s f A k o.
+            stepped head corridors n table since s f A k v t h o u (r .cost) g (subst (MoveFound s u v t) (is-open r e) (move-found m k)) (q .0) (q .1) b
+            (subst (λ (x : ℕ). Decided (BecomesIn n table u x t (waitOf s u) g) b) (k .since-of u t i j) (subst (λ (y : Cost). Decided (BecomesIn n table u (number since (u * 256 + t)) t y g) b) (z s (k .head-is)) d));
+      }
+
+-- none of the places below u can stand before
+pub record NoneBelow (head corridors : List ℕ) (n : ℕ) (table since : List ℕ) (v t : ℕ) (h : Cost) (u : ℕ) : Type 0 where
+  pub of : (s : Sheet) (f : Cost) (A : ℕ) → Walks head corridors n table since A f s → OnWay s f A v (suc t) h → (x : ℕ) → x < u → (y : Cost) → Steps s x v t y h → ⊥
+
+module _ {head corridors : List ℕ} {n : ℕ} {table since : List ℕ} {v t : ℕ} {h : Cost} where
+  pub none-start : NoneBelow head corridors n table since v t h 0
+  none-start = record { of = λ s f A k o x l y z. omega arith }
+
+  pub none-more : {u : ℕ} (b : Stepped) → NoneBelow head corridors n table since v t h u → StepIs head corridors n table since u v t h b → b .found ≡ false → NoneBelow head corridors n table since v t h (u + 1)
+  none-more {u} b p q e = record { of = λ s f A k o x l y z. go s f A k o x l y z (eqb x u) refl }
+    where
+      nothing : asBack b ≡ none
+      nothing = rw e
+
+      go : (s : Sheet) (f : Cost) (A : ℕ) → Walks head corridors n table since A f s → OnWay s f A v (suc t) h → (x : ℕ) → x < u + 1 → (y : Cost) → Steps s x v t y h → (c : Bool) → eqb x u ≡ c → ⊥
+      go s f A k o x l y z true d =
+          some-not-none (sym nothing ∙ q .of s f A k o .is y (subst (λ (i : ℕ). Steps s i v t y h) (eqb-true _ _ d) z))
+      go s f A k o x l y z false d = let i : x ≢ u = eqb-false _ _ d in p .of s f A k o x (omega arith) y z
+
+  pub before-found : {u : ℕ} (b : Stepped) → NoneBelow head corridors n table since v t h u → StepIs head corridors n table since u v t h b → b .found ≡ true → BeforeIs head corridors n table since v t h b
+  before-found {u} b p q e =
+      record {
+        of = λ s f A k o.
+            subst (λ (x : ℕ). LowestStep s v t h x (b .cost)) (sym (q .same))
+            (first-lowest head corridors n table since s f A k v t h o u (b .cost) (q .of s f A k o .there (b .cost) something) (p .of s f A k o));
+      }
+    where
+      something : asBack b ≡ some (b .cost)
+      something = rw e
+
+  -- one of the places can, so the search ends before the last
+  pub before-none : {u : ℕ} (b : Stepped) → NoneBelow head corridors n table since v t h u → number head 0 ≤ u → BeforeIs head corridors n table since v t h b
+  before-none {u} b p l = record { of = λ s f A k o. absurd (never s f A k o) }
+    where
+      never : (s : Sheet) (f : Cost) (A : ℕ) → Walks head corridors n table since A f s → OnWay s f A v (suc t) h → ⊥
+      never s f A k o =
+          let x = some-step head corridors n table since s f A k v t h o in
+          p .of s f A k o (x .0) (omega (arith, steps-place head corridors n table since s f A k v t h o (x .0) (x .1) (x .2), ap (λ (y : List ℕ). number y 0) (k .head-is))) (x .1) (x .2)

@@ -1,46 +1,44 @@
+-- `journeys::walk::place_before` meets its contract. The loop's invariant: no place below u can stand before. The measure is what is left of the
+-- places.
+-- Assumes nothing.
+use mathlib.Core.Path.{_≡_, refl}
+use Prim.Native.Nat.{_-_, _≤_}
+use native.Mathlib.Omega.{arith}
+use Rattle.sheet.specs.Lists.{number}
+use Rattle.journeys.proofs.Stepping.{head-seven, head-places, NoneBelow, none-start, none-more, before-found, before-none}
+use borrow.Author.Needs.{needs}
 use Rattle.journeys.proofs.walk.place_before.Statement.{statement}
 use Rattle.journeys.proofs.walk.place_before.Tie as tie
-use Rattle.journeys.proofs.walk.place_before.Reads as reads
-use Rattle.journeys.proofs.walk.place_before.Lts as lts
-use Rattle.journeys.proofs.walk.step_from.Reads as step-from-reads
 
 abbrev Inv-loop : tie.InvT-loop
-Inv-loop head corridors table n since v t h places u₀ u = ?
+Inv-loop head corridors table n since v t h places u₀ u = (u ≤ places) × (places ≡ number head 0) × NoneBelow head corridors n table since v t h u
 
 abbrev μ-loop : tie.MeasureT-loop
-μ-loop head corridors table n since v t h places u₀ u = ?
+μ-loop head corridors table n since v t h places u₀ u = places - u
 
--- src/walk.rt:149:18
 shared-slice-read-places : tie.Need-shared-slice-read-places Inv-loop μ-loop
-shared-slice-read-places c = ?
+shared-slice-read-places c = search needs
 
--- src/walk.rt:151:5
 loop-holds : tie.Need-loop-holds Inv-loop μ-loop
-loop-holds c = ?
+loop-holds c = (search needs, refl, none-start)
 
--- src/walk.rt:152:13
 step-from-requires : tie.Need-step-from-requires Inv-loop μ-loop
-step-from-requires c κs = ?
+step-from-requires c κs = search needs
 
--- src/walk.rt:154:13
 returns : tie.Need-returns Inv-loop μ-loop
-returns c = ?
+returns c = search needs
 
--- src/walk.rt:156:9
 add-u : tie.Need-add-u Inv-loop μ-loop
-add-u c = ?
+add-u c = search needs
 
--- src/walk.rt:151:5
 loop-less : tie.Need-loop-less Inv-loop μ-loop
-loop-less c = ?
+loop-less c = search needs
 
--- src/walk.rt:151:5
 loop-again : tie.Need-loop-again Inv-loop μ-loop
-loop-again c = ?
+loop-again c = search needs
 
--- src/walk.rt:136:1
 returns-2 : tie.Need-returns-2 Inv-loop μ-loop
-returns-2 c = ?
+returns-2 c = search needs
 
 pub place-before-spec : {M : Type 1} → statement M
 place-before-spec =

@@ -1,65 +1,55 @@
+-- `journeys::walk::step_from` meets its contract: no move, a move dearer than the cost, or what is left of the cost and whether a row becomes it.
+-- Assumes nothing.
+use mathlib.Core.Path.{sym, _∙_}
+use Prim.Native.Nat.{_+_, _*_}
+use native.Mathlib.Omega.{arith}
+use borrow.Author.Tests.{not-true, not-false}
+use Rattle.costs.specs.Laws.Figures.{atMostb-true}
+use Rattle.journeys.proofs.Stepping.{head-seven, few-corridors, wait-within, waits-as, dearer, step-closed, step-dear, step-done}
 use borrow.Author.Needs.{needs}
 use Rattle.journeys.proofs.walk.step_from.Statement.{statement}
 use Rattle.journeys.proofs.walk.step_from.Tie as tie
-use Rattle.journeys.proofs.walk.step_from.Reads as reads
-use Rattle.journeys.proofs.walk.step_from.Lts as lts
-use Rattle.costs.proofs.at_most.Reads as at-most-reads
-use Rattle.costs.proofs.wait_at.Reads as wait-at-reads
-use Rattle.journeys.proofs.walk.becomes.Reads as becomes-reads
-use Rattle.journeys.proofs.walk.less.Reads as less-reads
-use Rattle.journeys.proofs.walk.move_cost.Reads as move-cost-reads
 
--- src/walk.rt:121:9
 move-cost-requires : tie.Need-move-cost-requires
-move-cost-requires c κs = ?
+move-cost-requires c κs = (head-seven (c .before .before .before .before .pre .0), few-corridors (c .before .before .before .before .pre .0), c .before .before .before .before .pre .0 .whole)
 
--- src/walk.rt:123:9
 returns : tie.Need-returns
-returns c = ?
+returns c = step-closed (c .before .before .move-cost .result) (c .before .before .move-cost .ensures) _ (not-true _ (c .if1 .taken))
 
--- src/walk.rt:126:9
 at-most-requires : tie.Need-at-most-requires
 at-most-requires c κs = search needs
 
--- src/walk.rt:127:9
 returns-2 : tie.Need-returns-2
-returns-2 c = ?
+returns-2 c = 
+    step-dear (c .before .before .before .before .before .move-cost .result) (c .before .before .before .before .before .move-cost .ensures) _ (not-false _ (c .before .before .before .if1 .left)) (dearer (c .before .at-most .ensures) (not-true _ (c .if2 .taken)))
 
--- src/walk.rt:129:21
 mul-low : tie.Need-mul-low
 mul-low c = search needs
 
--- src/walk.rt:129:21
 add-low : tie.Need-add-low
 add-low c = search needs
 
--- src/walk.rt:129:15
 mul-low-2 : tie.Need-mul-low-2
 mul-low-2 c = search needs
 
--- src/walk.rt:129:15
 shared-slice-read-low : tie.Need-shared-slice-read-low
 shared-slice-read-low c = search needs
 
--- src/walk.rt:129:15
 cast-low : tie.Need-cast-low
-cast-low c = ?
+cast-low c = omega (arith, c .shared-slice-known5 .given (c .before .before .before .before .before .before .before .before .before .before .before .args .u * 256 + c .before .before .before .before .before .before .before .before .before .before .before .args .t))
 
--- src/walk.rt:130:9
 less-requires : tie.Need-less-requires
-less-requires c κs = ?
+less-requires c κs = atMostb-true _ _ (sym (c .before .before .at-most .ensures) ∙ not-false _ (c .before .if2 .left))
 
--- src/walk.rt:131:46
 wait-at-requires : tie.Need-wait-at-requires
 wait-at-requires c κs = search needs
 
--- src/walk.rt:131:9
 becomes-requires : tie.Need-becomes-requires
-becomes-requires c κs = ?
+becomes-requires c κs = (c .before .before .before .before .before .before .before .before .before .before .before .before .before .pre .0 .room, omega arith, wait-within (c .before .before .before .before .before .before .before .before .before .before .before .before .before .pre .0) (c .before .before .before .before .before .before .before .before .before .before .before .before .before .args .u) _ (waits-as (c .wait-at .ensures)))
 
--- src/walk.rt:107:1
 returns-3 : tie.Need-returns-3
-returns-3 c = ?
+returns-3 c = 
+    step-done (c .before .before .before .before .before .before .before .before .before .move-cost .result) (c .before .before .before .before .before .before .before .before .before .move-cost .ensures) (not-false _ (c .before .before .before .before .before .before .before .if1 .left)) _ (c .before .before .less .ensures) (c .before .before .before .before .before .before .before .before .before .before .before .before .before .before .pre .1) (c .before .before .before .before .before .before .before .before .before .before .before .before .before .before .pre .2) _ (waits-as (c .before .wait-at .ensures)) _ (c .becomes .ensures)
 
 pub step-from-spec : {M : Type 1} → statement M
 step-from-spec =
