@@ -176,12 +176,12 @@ pub fn walk_back(
     let mut v = head[3];
     let mut h = cost;
     let mut t = arrival;
-    path[t as usize] = v;
     while t > 0 {
+        path[t as usize] = v;
         t -= 1;
         let b = place_before(head, corridors, table, n, since, v, t, h);
         v = b.place;
         h = b.cost;
-        path[t as usize] = v;
     }
+    path[0] = v;
 }

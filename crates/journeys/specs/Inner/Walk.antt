@@ -97,12 +97,14 @@ pub record LowestStep (s : Sheet) (v t : ℕ) (h : Cost) (u : ℕ) (g : Cost) : 
 pub record BeforeIs (head corridors : List ℕ) (n : ℕ) (table since : List ℕ) (v t : ℕ) (h : Cost) (r : Back) : Type 0 where
   pub of : (s : Sheet) (f : Cost) (A : ℕ) → Walks head corridors n table since A f s → OnWay s f A v (suc t) h → LowestStep s v t h (r .place) (r .cost)
 
--- the walk has come back to v at step t: the places from there on are written, and the best way to (v, t, h) goes on by them to the goal
+-- the walk has come back to v at step t: the best way to (v, t, h) goes on by the places chosen to the goal, and those after step t are written
 pub record CameTo (s : Sheet) (A : ℕ) (f : Cost) (v t : ℕ) (h : Cost) (path path′ : List ℕ) : Type 0 where
   pub on-way : OnWay s f A v t h
   pub chosen : List ℕ
   pub chain : Chain s A f v t h chosen
-  pub written : path′ ≡ sets path t (reverse (goal s ∷ chosen))
+  pub after : List ℕ
+  pub ends : reverse (goal s ∷ chosen) ≡ v ∷ after
+  pub written : path′ ≡ sets path (suc t) after
 
 pub record Walked (head corridors : List ℕ) (n : ℕ) (table since : List ℕ) (A : ℕ) (f : Cost) (v t : ℕ) (h : Cost) (path path′ : List ℕ) : Type 0 where
   pub of : (s : Sheet) → Walks head corridors n table since A f s → CameTo s A f v t h path path′

@@ -1,70 +1,63 @@
+-- `journeys::walk::walk_back` meets its contract. The loop's invariant: the walk has come back to v at step t, and the places after t are written.
+-- The measure is t.
+-- Assumes nothing.
+use mathlib.Core.Path.{_≡_, refl, _∙_}
+use Prim.Native.Nat.{_≤_, _<_}
+use native.Mathlib.Omega.{arith}
+use lib.ListN.{length, length-set}
+use Rattle.journeys.specs.Inner.Walk.{Walked}
+use Rattle.journeys.proofs.Stepping.{head-seven}
+use Rattle.journeys.proofs.Backwards.{readable, arrives-in-day, walked-start, walked-step, walked-end}
+use borrow.Author.Needs.{needs}
 use Rattle.journeys.proofs.walk.walk_back.Statement.{statement}
 use Rattle.journeys.proofs.walk.walk_back.Tie as tie
-use Rattle.journeys.proofs.walk.walk_back.Reads as reads
-use Rattle.journeys.proofs.walk.walk_back.Lts as lts
-use Rattle.journeys.proofs.walk.place_before.Reads as place-before-reads
 
 abbrev Inv-loop : tie.InvT-loop
-Inv-loop head corridors table n since arrival path₀ v₀ h₀ t₀ path v h t = ?
+Inv-loop head corridors table n since arrival path₀ v₀ h₀ t₀ path v h t = 
+    (t ≤ arrival) × (arrival ≤ 255) × (arrival < length path) × (length path ≡ length path₀) × Walked head corridors n table since arrival h₀ v t h path₀ path
 
 abbrev μ-loop : tie.MeasureT-loop
-μ-loop head corridors table n since arrival path₀ v₀ h₀ t₀ path v h t = ?
+μ-loop head corridors table n since arrival path₀ v₀ h₀ t₀ path v h t = t
 
--- src/walk.rt:176:17
 shared-slice-read-v : tie.Need-shared-slice-read-v Inv-loop μ-loop
-shared-slice-read-v c = ?
+shared-slice-read-v c = omega (arith, head-seven (readable (c .before .before .before .before .before .before .pre)))
 
--- src/walk.rt:179:10
-cast-path : tie.Need-cast-path Inv-loop μ-loop
-cast-path c = ?
-
--- src/walk.rt:179:5
-mul-path : tie.Need-mul-path Inv-loop μ-loop
-mul-path c = ?
-
--- src/walk.rt:179:5
-slice-write-path : tie.Need-slice-write-path Inv-loop μ-loop
-slice-write-path c = ?
-
--- src/walk.rt:180:5
 loop-holds : tie.Need-loop-holds Inv-loop μ-loop
-loop-holds c = ?
+loop-holds c = (omega arith, arrives-in-day (c .before .before .before .before .before .before .pre), omega (arith, c .before .before .before .before .before .before .pre .room), refl, walked-start _)
 
--- src/walk.rt:181:9
+cast-path : tie.Need-cast-path Inv-loop μ-loop
+cast-path c = search needs
+
+mul-path : tie.Need-mul-path Inv-loop μ-loop
+mul-path c = search needs
+
+slice-write-path : tie.Need-slice-write-path Inv-loop μ-loop
+slice-write-path c = search needs
+
 sub-t : tie.Need-sub-t Inv-loop μ-loop
-sub-t c = ?
+sub-t c = search needs
 
--- src/walk.rt:182:13
 place-before-requires : tie.Need-place-before-requires Inv-loop μ-loop
-place-before-requires c κs = ?
+place-before-requires c κs = (readable (c .before .before .before .before .before .before .before .before .pre), omega arith)
 
--- src/walk.rt:185:14
-cast-path-2 : tie.Need-cast-path-2 Inv-loop μ-loop
-cast-path-2 c = ?
-
--- src/walk.rt:185:9
-mul-path-2 : tie.Need-mul-path-2 Inv-loop μ-loop
-mul-path-2 c = ?
-
--- src/walk.rt:185:9
-slice-write-path-2 : tie.Need-slice-write-path-2 Inv-loop μ-loop
-slice-write-path-2 c = ?
-
--- src/walk.rt:180:5
 loop-less : tie.Need-loop-less Inv-loop μ-loop
-loop-less c = ?
+loop-less c = search needs
 
--- src/walk.rt:180:5
 loop-again : tie.Need-loop-again Inv-loop μ-loop
-loop-again c = ?
+loop-again c = 
+    let w = c .before .before .before .loop in
+    (omega arith, w .inv .1, omega (arith, length-set (w .path) (w .t) (w .v)), length-set (w .path) (w .t) (w .v) ∙ w .inv .3, walked-step _ (w .inv .4) (c .before .before .loop-test .taken) (c .before .place-before .ensures))
 
--- src/walk.rt:163:1
+slice-write-path-2 : tie.Need-slice-write-path-2 Inv-loop μ-loop
+slice-write-path-2 c = search needs
+
 same-length : tie.Need-same-length Inv-loop μ-loop
-same-length c = ?
+same-length c = 
+    let w = c .before .loop in
+    length-set (w .path) 0 (w .v) ∙ w .inv .3
 
--- src/walk.rt:163:1
 returns : tie.Need-returns Inv-loop μ-loop
-returns c = ?
+returns c = walked-end (c .before .loop .inv .4) (c .loop-test .left)
 
 pub walk-back-spec : {M : Type 1} → statement M
 walk-back-spec =
@@ -73,16 +66,14 @@ walk-back-spec =
     Inv-loop
     μ-loop
     shared-slice-read-v
+    loop-holds
     cast-path
     mul-path
     slice-write-path
-    loop-holds
     sub-t
     place-before-requires
-    cast-path-2
-    mul-path-2
-    slice-write-path-2
     loop-less
     loop-again
+    slice-write-path-2
     same-length
     returns)
