@@ -41,7 +41,7 @@ pub fn at_most(a: [u32; 3], b: [u32; 3]) -> bool
     ensures { λ r. ⌜ r ≡ atMostb a b ⌝ }
 {
     for i in 0..3 {
-        if b[i] < a[i] {
+        if a[i] > b[i] {
             return false;
         }
     }

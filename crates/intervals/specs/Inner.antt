@@ -1,10 +1,11 @@
 -- What the functions over a sheet's occupancies promise.
 use mathlib.Core.Path.{_≡_}
-use mathlib.Core.Bool.{Bool}
+use mathlib.Core.Bool.{Bool, true, false, _&&_}
 use mathlib.Core.List.{List}
-use Prim.Native.Nat.{ℕ, _+_, _*_, _≤_, _<_, _%_}
+use Prim.Native.Nat.{ℕ, zero, suc, _+_, _*_, _≤_, _<_, _%_}
+use lib.Dec.{leb, eqb}
 use lib.ListN.{length}
-use Rattle.sheet.specs.Lists.{_∈_, number}
+use Rattle.sheet.specs.Lists.{_∈_, pick, number}
 use Rattle.sheet.specs.Kinds.{kindO}
 use Rattle.sheet.specs.Sheet.{Sheet, placeOf, last}
 use Rattle.sheet.specs.Calls.{groupRows}
@@ -26,3 +27,44 @@ pub record ValidGroup (occupancies : List ℕ) : Type 0 where
 -- the table holds the first steps of the free runs, on every sheet with these occupancies
 pub record SinceTable (occupancies since : List ℕ) : Type 0 where
   pub of : (s : Sheet) → s .occupancies ≡ groupRows kindO occupancies → (v t : ℕ) → v < 64 → t < 256 → number since (v * 256 + t) ≡ sinceOf s v t
+
+-- line k occupies place v at step t
+abbrev pub coversb : List ℕ → ℕ → ℕ → ℕ → Bool
+coversb l v t k = eqb (number l (k * 3)) v && leb (number l (k * 3 + 1)) t && leb t (number l (k * 3 + 2))
+
+-- the entry of place v and step t
+abbrev pub entry : List ℕ → ℕ → ℕ → ℕ
+entry since v t = number since (v * 256 + t)
+
+pub record Blank (since : List ℕ) : Type 0 where
+  pub every : (i : ℕ) → i < 16384 → number since i ≡ 0
+
+-- line k is whole, and its entries stand in the table
+pub record MarkableLine (occupancies : List ℕ) (k : ℕ) : Type 0 where
+  pub few : k ≤ 255
+  pub whole : k * 3 + 3 ≤ length occupancies
+  pub place : number occupancies (k * 3) < 64
+  pub step : number occupancies (k * 3 + 2) ≤ 255
+
+-- the entries of line k are 256 after, and the others as before
+pub record MarkedLine (occupancies : List ℕ) (k : ℕ) (before after : List ℕ) : Type 0 where
+  pub hit : (v t : ℕ) → v < 64 → t < 256 → coversb occupancies v t k ≡ true → entry after v t ≡ 256
+  pub kept : (v t : ℕ) → v < 64 → t < 256 → coversb occupancies v t k ≡ false → entry after v t ≡ entry before v t
+
+-- the entries of the first n lines are 256, and the others 0
+pub record Marked (occupancies : List ℕ) (n : ℕ) (since : List ℕ) : Type 0 where
+  pub hit : (v t k : ℕ) → v < 64 → t < 256 → k < n → coversb occupancies v t k ≡ true → entry since v t ≡ 256
+  pub free : (v t : ℕ) → v < 64 → t < 256 → ((k : ℕ) → k < n → coversb occupancies v t k ≡ false) → entry since v t ≡ 0
+
+-- the first step of the run that holds a step, from its mark and from what was found at the step before
+abbrev pub runAt : ℕ → ℕ → ℕ → ℕ
+runAt mark before step = pick (eqb mark 256) 256 (pick (eqb step 0) 0 (pick (eqb before 256) step before))
+
+-- what was found before entry i
+abbrev pub foundAt : List ℕ → ℕ → ℕ
+foundAt marks zero = 0
+foundAt marks (suc i) = runAt (number marks i) (foundAt marks i) (i % 256)
+
+-- each entry is what was found at it
+pub record Turned (marks since : List ℕ) : Type 0 where
+  pub every : (i : ℕ) → i < 16384 → number since i ≡ foundAt marks (suc i)

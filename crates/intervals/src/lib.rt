@@ -1,1 +1,105 @@
-// Safe intervals of places among the occupancies of a sheet (document 01, "Safe intervals and leading arrivals").
+// Occupied and free places, and the safe intervals of a sheet as a table that is looked up in constant time (document 01, "Safe intervals and
+// leading arrivals").
+ghost use mathlib.Core.Path.{_≡_};
+ghost use Prim.Native.Nat.{ℕ, _+_, _*_, _≤_, _<_, _/_, _%_};
+ghost use lib.ListN.{length};
+ghost use Rattle.intervals.specs.Inner.{FreeIs, Blank, MarkableLine, MarkedLine, Marked, runAt, Turned, SinceTable, ValidGroup};
+use sheet::Place;
+use sheet::Step;
+
+// Whether v is unoccupied at t, on a sheet with these occupancies.
+pub fn is_free(occupancies: &[u32], v: Place, t: Step) -> bool
+    requires { ⌜ (length (now occupancies) ≤ 768) × (length (now occupancies) % 3 ≡ 0) ⌝ }
+    ensures { λ r. ⌜ FreeIs (now (occupancies .entry)) v t r ⌝ }
+{
+    let n = occupancies.len() / 3;
+    let place = v.0;
+    let step = t.0;
+    let mut k = 0;
+    while k < n {
+        if (occupancies[k * 3] == place)
+            & (occupancies[k * 3 + 1] <= step)
+            & (step <= occupancies[k * 3 + 2])
+        {
+            return false;
+        }
+        k += 1;
+    }
+    true
+}
+
+// Sets every entry to 0.
+fn clear(since: &mut [u16])
+    requires { ⌜ length (now since) ≡ 16384 ⌝ }
+    ensures { λ _. ⌜ Blank (now (since .exit)) ⌝ }
+{
+    for i in 0..16384 {
+        since[i] = 0;
+    }
+}
+
+// Marks with 256 the entries of the steps that line k occupies.
+fn mark(occupancies: &[u32], k: usize, since: &mut [u16])
+    requires { ⌜ (MarkableLine (now occupancies) k) × (length (now since) ≡ 16384) ⌝ }
+    ensures { λ _. ⌜ MarkedLine (now (occupancies .entry)) k (now (since .entry)) (now (since .exit)) ⌝ }
+{
+    let row = occupancies[k * 3] as usize * 256;
+    let last = occupancies[k * 3 + 2] as usize;
+    let mut t = occupancies[k * 3 + 1] as usize;
+    while t <= last {
+        since[row + t] = 256;
+        t += 1;
+    }
+}
+
+// Marks with 256 the entries of the steps that are occupied, in a table of zeros.
+fn mark_all(occupancies: &[u32], since: &mut [u16])
+    requires { ⌜ (ValidGroup (now occupancies)) × (length (now since) ≡ 16384) × (Blank (now since)) ⌝ }
+    ensures { λ _. ⌜ Marked (now (occupancies .entry)) (length (now (occupancies .entry)) / 3) (now (since .exit)) ⌝ }
+{
+    let n = occupancies.len() / 3;
+    let mut k = 0;
+    while k < n {
+        mark(occupancies, k, since);
+        k += 1;
+    }
+}
+
+// The first step of the run that holds a step, from its mark and from what was found at the step before.
+fn run_at(mark: u16, before: u16, step: u16) -> u16
+    ensures { λ r. ⌜ r ≡ runAt mark before step ⌝ }
+{
+    if mark == 256 {
+        return 256;
+    }
+    if step == 0 {
+        return 0;
+    }
+    if before == 256 {
+        return step;
+    }
+    before
+}
+
+// Turns the marks into first steps.
+fn turn(since: &mut [u16])
+    requires { ⌜ length (now since) ≡ 16384 ⌝ }
+    ensures { λ _. ⌜ Turned (now (since .entry)) (now (since .exit)) ⌝ }
+{
+    let mut before = 0;
+    for i in 0..16384 {
+        before = run_at(since[i], before, (i % 256) as u16);
+        since[i] = before;
+    }
+}
+
+// Fills the table of first steps: the entry of place v and step t, at v * 256 + t, is the first step of the free run of v that holds t, and 256
+// where v is occupied at t. The time grows with the steps that the occupancies cover and with the 16,384 entries.
+pub fn fill_since(occupancies: &[u32], since: &mut [u16; 16384])
+    requires { ⌜ ValidGroup (now occupancies) ⌝ }
+    ensures { λ _. ⌜ SinceTable (now (occupancies .entry)) (now (since .exit)) ⌝ }
+{
+    clear(since);
+    mark_all(occupancies, since);
+    turn(since);
+}

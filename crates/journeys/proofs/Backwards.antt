@@ -8,19 +8,19 @@ use native.Mathlib.Omega.{arith}
 use lib.ListN.{length, set}
 use lib.Seq.{sets, set-comm}
 use Rattle.sheet.specs.Lists.{number}
-use Rattle.sheet.specs.Sheet.{Sheet, places, steps, goal}
-use Rattle.costs.specs.Costs.{Cost, figures, zeroCost, add}
+use Rattle.sheet.specs.Sheet.{Sheet, places, goal}
+use Rattle.costs.specs.Costs.{Cost, zeroCost}
 use Rattle.costs.specs.Laws.Figures.{zero-right}
 use Rattle.arrivals.specs.Arrivals.{arrival, Arrives}
 use Rattle.arrivals.specs.Laws.Trails.{Begins, Trail}
 use Rattle.arrivals.specs.Laws.Leading.{arrives-free, arrives-came}
 use Rattle.arrivals.specs.Laws.Bounds.{move-once}
-use Rattle.journeys.specs.Journeys.{journeyOf, arrivalOf}
+use Rattle.journeys.specs.Journeys.{journeyOf}
 use Rattle.journeys.specs.Inner.{Walks, Walkable, WalkIs}
-use Rattle.journeys.specs.Inner.Walk.{Readable, OnWay, Steps, LowestStep, BeforeIs, CameTo, Walked}
+use Rattle.journeys.specs.Inner.Walk.{Readable, LowestStep, BeforeIs, CameTo, Walked}
 use Rattle.journeys.specs.declared.walk.Back.{Back}
 use Rattle.journeys.specs.Laws.Journeys.{has-three}
-use Rattle.journeys.specs.Laws.Goal.{AtGoal, Earliest, arrivalOf-earliest}
+use Rattle.journeys.specs.Laws.Goal.{Earliest, arrivalOf-earliest}
 use Rattle.journeys.specs.Laws.Tie.{Chain, chain-start, chain-back, chain-end, best-journeyOf}
 use Rattle.journeys.proofs.Stepping.{steps-way}
 

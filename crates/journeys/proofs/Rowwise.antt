@@ -2,15 +2,14 @@
 -- exactly when it is reached exactly from a leading arrival of that safe interval.
 -- Assumes nothing.
 use mathlib.Core.Path.{_≡_, refl, sym, _∙_, ap, subst}
-use mathlib.Core.Logic.{_⊎_, inl, inr}
 use mathlib.Core.Bool.{Bool, true, false, not, _||_, true≢false}
 use mathlib.Core.List.{List, map}
 use Prim.Native.Nat.{ℕ, zero, suc, _+_, _*_, _-_, _≤_, _<_}
 use native.Mathlib.Omega.{arith}
-use lib.Dec.{eqb, leb, ltb}
+use lib.Dec.{eqb, ltb}
 use lib.ListN.{length}
-use borrow.Author.Tests.{eqb-true, eq-eqb, leb-true, leb-false, ltb-false, le-ltb, not-false}
-use Rattle.sheet.specs.Lists.{_∈_, pick, number, numbersFrom, rows}
+use borrow.Author.Tests.{eqb-true, eq-eqb, ltb-false, le-ltb, not-false}
+use Rattle.sheet.specs.Lists.{_∈_, number, numbersFrom, rows}
 use Rattle.sheet.specs.Sheet.{Sheet}
 use Rattle.sheet.specs.Laws.Members.{map-mem, mem-map}
 use Rattle.sheet.specs.Laws.Passed.{or-false, false-or}
@@ -18,8 +17,8 @@ use Rattle.costs.specs.Costs.{Cost, figures, fig, add, times, AtMost}
 use Rattle.costs.specs.Moves.{waitOf}
 use Rattle.costs.specs.Laws.Figures.{fig-add, fig-times, length-add, length-times, Stored, is-same}
 use Rattle.costs.specs.Laws.Rows.{row, row-number, mem-rows, rows-mem}
-use Rattle.intervals.specs.Intervals.{freeb, Free, Run, firstOf, sinceOf}
-use Rattle.intervals.specs.Laws.Runs.{FirstStep, first-step}
+use Rattle.intervals.specs.Intervals.{sinceOf}
+use Rattle.intervals.specs.Laws.Runs.{since-run}
 use Rattle.arrivals.specs.Arrivals.{Arrival, arrival, Leading, waited, leading}
 use Rattle.arrivals.specs.Laws.Leading.{arrival-path, leading-is, is-leading}
 use Rattle.journeys.specs.Inner.{rowOf, Holds}
@@ -104,35 +103,8 @@ leads-row s n xs t a o =
     let y = rows-mem 5 n xs (x .0) (x .1) in
     (y .0, y .1, x .2 ∙ ap rowOf (y .2) ∙ row-at xs (y .0))
 
--- the first step of the run that holds t is at or before a exactly when the place is free from a to t
-pub since-run : (s : Sheet) (v a t : ℕ) → a ≤ t → t < 256 → sinceOf s v t ≤ a → Run s v a t
-unfolding sinceOf
-since-run s v a t h l p = go (freeb s v t) refl p
-  where
-    go : (b : Bool) → freeb s v t ≡ b → pick b (firstOf s v t) 256 ≤ a → Run s v a t
-    go true e q i x y = first-step s v t e .run i (omega arith) y
-    go false e q i x y = absurd (omega arith)
-
-pub run-since : (s : Sheet) (v a t : ℕ) → a ≤ t → Run s v a t → sinceOf s v t ≤ a
-unfolding sinceOf
-run-since s v a t h r = rw f (go (leb (firstOf s v t) a) refl)
-  where
-    f : Free s v t
-    f = r t h (omega arith)
-
-    k : FirstStep s v t (firstOf s v t)
-    k = first-step s v t f
-
-    late : a < firstOf s v t → (firstOf s v t ≡ 0) ⊎ (freeb s v (firstOf s v t - 1) ≡ false) → ⊥
-    late l (inl e) = omega arith
-    late l (inr e) = true≢false (sym (r (firstOf s v t - 1) (omega arith) (omega (arith, k .soon))) ∙ e)
-
-    go : (b : Bool) → leb (firstOf s v t) a ≡ b → firstOf s v t ≤ a
-    go true e = leb-true _ _ e
-    go false e = absurd (late (leb-false _ _ e) (k .no-sooner))
-
 -- the rows tell what is reached exactly
-module _ (s : Sheet) (n : ℕ) (xs : List ℕ) (t : Holds s n xs) (u b : ℕ) (g : Cost) (day : b < 256) where
+module _ (s : Sheet) (n : ℕ) (xs : List ℕ) (t : Holds s n xs) (u b : ℕ) (g : Cost) (day : b ≤ 255) where
   pub becomes-exact : BecomesIn n xs u (sinceOf s u b) b (waitOf s u) g → Exact s u b g
   becomes-exact x =
       record {
@@ -140,7 +112,7 @@ module _ (s : Sheet) (n : ℕ) (xs : List ℕ) (t : Holds s n xs) (u b : ℕ) (g
         leads = row-leads s n xs t (x .row) (x .listed);
         place = x .becomes .place;
         soon = x .becomes .until;
-        run = since-run s u (number xs (x .row * 5 + 1)) b (x .becomes .until) day (x .becomes .from);
+        run = since-run s u (number xs (x .row * 5 + 1)) b day (x .becomes .until) .0 (x .becomes .from);
         sum = x .becomes .waits .sum;
       }
 
@@ -154,7 +126,7 @@ module _ (s : Sheet) (n : ℕ) (xs : List ℕ) (t : Holds s n xs) (u b : ℕ) (g
         becomes =
             record {
               place = sym (ap (λ (a : Arrival). a .place) (k .2)) ∙ x .place;
-              from = omega (arith, run-since s u (x .from .step) b (x .soon) (x .run));
+              from = omega (arith, since-run s u (x .from .step) b day (x .soon) .1 (x .run));
               until = omega (arith, x .soon);
               waits = record { sum = subst (λ (a : Arrival). waited s u (b - a .step) (a .cost) ≡ g) (k .2) (x .sum) };
             };

@@ -2,35 +2,33 @@
 -- places passed none can stand before, so the first that can is the lowest, and one can.
 -- Assumes nothing.
 use mathlib.Core.Path.{_≡_, refl, sym, _∙_, ap, subst}
-use mathlib.Core.Logic.{_⊎_, inl, inr, _≢_}
+use mathlib.Core.Logic.{_≢_}
 use mathlib.Core.Bool.{Bool, true, false, true≢false}
 use mathlib.Core.List.{List}
 use mathlib.Core.Option.{Option, some, none}
-use Prim.Native.Nat.{ℕ, suc, _+_, _*_, _-_, _≤_, _<_, _/_, _%_}
+use Prim.Native.Nat.{ℕ, suc, _+_, _*_, _-_, _≤_, _<_, _/_}
 use native.Mathlib.Omega.{arith}
 use native.Mathlib.Nat.{div-add-mod'}
 use lib.Dec.{eqb, leb}
 use lib.ListN.{length}
 use borrow.Author.Tests.{eqb-true, eqb-false, leb-true, leb-false}
 use Rattle.sheet.specs.Lists.{pick, number}
-use Rattle.sheet.specs.Kinds.{kindC}
 use Rattle.sheet.specs.Sheet.{Sheet, places, steps}
 use Rattle.sheet.specs.Valid.{Valid}
-use Rattle.sheet.specs.Calls.{groupRows}
 use Rattle.sheet.specs.Laws.Rows.{rows-count}
 use Rattle.sheet.specs.declared.Place.{Place}
 use Rattle.sheet.specs.declared.Step.{Step}
 use Rattle.costs.specs.Costs.{Cost, figures, fig, add, Within, AtMost, atMostb}
-use Rattle.costs.specs.Moves.{waitOf, waitAt, Crossing, crossingAt}
+use Rattle.costs.specs.Moves.{waitOf, waitAt, crossingAt}
 use Rattle.costs.specs.Inner.{asCrossing, WaitIs}
 use Rattle.costs.specs.declared.Crossing as crossing
 use Rattle.costs.specs.Laws.Figures.{fig-add, cancel-right, at-most-atMostb}
-use Rattle.costs.specs.Laws.Moves.{wait-bounded, crossing-at, at-crossing, crossing-apart}
+use Rattle.costs.specs.Laws.Moves.{wait-bounded, crossing-at, at-crossing}
 use Rattle.intervals.specs.Intervals.{sinceOf}
 use Rattle.arrivals.specs.Ways.{Move, waits, crosses}
-use Rattle.arrivals.specs.Arrivals.{arrival, Arrives}
+use Rattle.arrivals.specs.Arrivals.{arrival}
 use Rattle.arrivals.specs.Laws.Leading.{arrives-free, arrives-three}
-use Rattle.arrivals.specs.Laws.Steps.{Back, arrives-back}
+use Rattle.arrivals.specs.Laws.Steps.{arrives-back}
 use Rattle.arrivals.specs.Laws.Bounds.{move-once}
 use Rattle.journeys.specs.Inner.{Walks}
 use Rattle.journeys.specs.Inner.Walk.{Decided, holds, fails, BecomesIn, MoveFound, MoveIs, Readable, OnWay, Steps, asBack, StepFound, StepIs, LowestStep, BeforeIs}
@@ -99,7 +97,7 @@ module _ (head corridors : List ℕ) (n : ℕ) (table since : List ℕ) (s : She
       → (b : Bool) → Decided (BecomesIn n table u (sinceOf s u t) t (waitOf s u) g) b → StepFound s u v t h (pick b (some g) none)
   stepped u c g m l e b d = go b d
     where
-      day : t < 256
+      day : t ≤ 255
       day = omega (arith, o .arrives .in-time, k .valid .most-steps)
 
       this : Exact s u t g → Steps s u v t g h

@@ -1,6 +1,5 @@
 -- What the functions that read the front and a journey off the arrivals table promise each other. No exported contract cites this file.
 pub mod Walk
-
 use mathlib.Core.Path.{_≡_}
 use mathlib.Core.Bool.{Bool, true, false, _&&_}
 use mathlib.Core.List.{List, [], _∷_, _++_, map}

@@ -6,10 +6,10 @@ ghost use Rattle.costs.specs.Costs.{figures, add, Within, AtMost};
 ghost use Rattle.costs.specs.Inner.{asCrossing};
 ghost use Rattle.journeys.specs.Inner.{Walkable, WalkIs};
 ghost use Rattle.journeys.specs.Inner.Walk.{Decided, Waits, Becomes, BecomesIn, MoveIs, Readable, StepIs, BeforeIs};
+use costs::Crossing;
 use costs::at_most;
 use costs::crossing_at;
 use costs::wait_at;
-use costs::Crossing;
 use sheet::Place;
 use sheet::Step;
 
@@ -38,15 +38,7 @@ fn waits_to(table: &[u32], k: usize, n: u32, w: [u32; 3], h: [u32; 3]) -> bool
 }
 
 // Whether row k is an arrival at u, at a step e from `low` to t, that becomes h by waiting t - e steps at cost w.
-fn row_becomes(
-    table: &[u32],
-    k: usize,
-    u: u32,
-    low: u32,
-    t: u32,
-    w: [u32; 3],
-    h: [u32; 3],
-) -> bool
+fn row_becomes(table: &[u32], k: usize, u: u32, low: u32, t: u32, w: [u32; 3], h: [u32; 3]) -> bool
     requires { ⌜ (k * 5 + 5 ≤ length (now table)) × (t ≤ 60000) × (Within 60000 w) ⌝ }
     ensures { λ r. ⌜ Decided (Becomes (now (table .entry)) u low t w h k) r ⌝ }
 {
@@ -58,15 +50,7 @@ fn row_becomes(
 }
 
 // Whether some of the first n rows is such an arrival.
-fn becomes(
-    table: &[u32],
-    n: usize,
-    u: u32,
-    low: u32,
-    t: u32,
-    w: [u32; 3],
-    h: [u32; 3],
-) -> bool
+fn becomes(table: &[u32], n: usize, u: u32, low: u32, t: u32, w: [u32; 3], h: [u32; 3]) -> bool
     requires { ⌜ (n * 5 ≤ length (now table)) × (t ≤ 60000) × (Within 60000 w) ⌝ }
     ensures { λ r. ⌜ Decided (BecomesIn n (now (table .entry)) u low t w h) r ⌝ }
 {
@@ -86,7 +70,10 @@ fn move_cost(head: &[u32], corridors: &[u32], u: u32, v: u32, t: u32) -> Crossin
     ensures { λ r. ⌜ MoveIs (now (head .entry)) (now (corridors .entry)) u v t (asCrossing r) ⌝ }
 {
     if u == v {
-        return Crossing { open: true, cost: wait_at(head, Place(u)) };
+        return Crossing {
+            open: true,
+            cost: wait_at(head, Place(u)),
+        };
     }
     crossing_at(corridors, Place(u), Place(v), Step(t))
 }
@@ -120,16 +107,28 @@ fn step_from(
 {
     let m = move_cost(head, corridors, u, v, t);
     if !m.open {
-        return Back { found: false, place: u, cost: h };
+        return Back {
+            found: false,
+            place: u,
+            cost: h,
+        };
     }
     let price = m.cost;
     if !at_most(price, h) {
-        return Back { found: false, place: u, cost: h };
+        return Back {
+            found: false,
+            place: u,
+            cost: h,
+        };
     }
     let low = since[u as usize * 256 + t as usize] as u32;
     let g = less(h, price);
     let found = becomes(table, n, u, low, t, wait_at(head, Place(u)), g);
-    Back { found: found, place: u, cost: g }
+    Back {
+        found: found,
+        place: u,
+        cost: g,
+    }
 }
 
 // The lowest place that can stand before v at step t, with its cost, where the cart is at v with cost h one step on.
@@ -155,7 +154,11 @@ fn place_before(
         }
         u += 1;
     }
-    Back { found: false, place: v, cost: h }
+    Back {
+        found: false,
+        place: v,
+        cost: h,
+    }
 }
 
 // Writes the places of the journey of the front cost `cost`, which arrives at step `arrival`, for each step from 0 on; what is past them is kept.

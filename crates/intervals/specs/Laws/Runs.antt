@@ -1,6 +1,7 @@
 -- Safe intervals as runs of free steps. Two steps are in one safe interval exactly when the place is free at every step between them;
 -- each free step within the horizon lies in one safe interval, whose ends `firstOf` and `lastOf` compute; `intervalsOf` lists exactly
--- the safe intervals of a place, and `sinceAt` gives the first step of the one that holds a step.
+-- the safe intervals of a place, and `sinceAt` gives the first step of the one that holds a step. `sinceOf` is at most the step exactly where the
+-- place is free, one and the same over a run, and at most a step exactly where the run reaches back to it.
 use mathlib.Core.Path.{_≡_, refl, sym, _∙_, ap, subst}
 use mathlib.Core.Logic.{_↔_, _⊎_, inl, inr, _≢_}
 use mathlib.Core.Bool.{Bool, true, false, _&&_, true≢false}
@@ -16,7 +17,7 @@ use Rattle.sheet.specs.Laws.Order.{and-true, true-and}
 use Rattle.sheet.specs.Laws.Members.{mem-left, mem-right, mem-append, filter-mem, mem-filter, map-mem, mem-map}
 use Rattle.sheet.specs.declared.Place.{Place}
 use Rattle.sheet.specs.declared.Step.{Step}
-use Rattle.intervals.specs.Intervals.{freeb, Free, Run, runb, Interval, Together, firstOf, lastOf, Span, beginsb, stepsTo, intervalsOf, sinceAt}
+use Rattle.intervals.specs.Intervals.{freeb, Free, Run, runb, Interval, Together, firstOf, lastOf, Span, beginsb, stepsTo, intervalsOf, sinceOf, sinceAt}
 
 pub run-one : (s : Sheet) (v t : ℕ) → Free s v t → Run s v t t
 run-one s v t f i p q = let e : i ≡ t = omega arith in rw e f
@@ -253,3 +254,86 @@ is-since s v t a h =
     let l : t .0 ≤ steps s = omega (arith, h .interval .within, h .until) in
     let e = interval-once s (v .0) (firstOf s (v .0) (t .0)) (lastOf s (v .0) (t .0) (steps s - t .0)) a (h .end) (t .0) (interval-at s (v .0) (t .0) l f) (h .interval) (first-step s (v .0) (t .0) f .soon) (last-step s (v .0) (t .0) (steps s - t .0) f .late) (h .from) (h .until) in
     rw (le-leb (t .0) (steps s) l, f) (ap some (e .0))
+
+-- no run that ends at t begins before the first step
+pub first-least : (s : Sheet) (v a t : ℕ) → a ≤ t → Run s v a t → firstOf s v t ≤ a
+first-least s v a t h r = go (leb (firstOf s v t) a) refl
+  where
+    q : FirstStep s v t (firstOf s v t)
+    q = first-step s v t (r t h (omega arith))
+
+    sooner : a < firstOf s v t → (firstOf s v t ≡ 0) ⊎ (freeb s v (firstOf s v t - 1) ≡ false) → ⊥
+    sooner l (inl e) = omega arith
+    sooner l (inr e) = true≢false (sym (r (firstOf s v t - 1) (omega arith) (omega (arith, q .soon))) ∙ e)
+
+    go : (b : Bool) → leb (firstOf s v t) a ≡ b → firstOf s v t ≤ a
+    go true e = leb-true (firstOf s v t) a e
+    go false e = absurd (sooner (leb-false (firstOf s v t) a e) (q .no-sooner))
+
+pub first-same : (s : Sheet) (v a t : ℕ) → a ≤ t → Run s v a t → firstOf s v a ≡ firstOf s v t
+first-same s v a t h r =
+    let q = first-step s v t (r t h (omega arith)) in
+    let p = first-step s v a (r a (omega arith) h) in
+    let l = first-least s v a t h r in
+    let x = first-least s v (firstOf s v t) a l (λ i m n. q .run i m (omega arith)) in
+    let y = first-least s v (firstOf s v a) t (omega (arith, p .soon)) (run-join s v (firstOf s v a) a t (p .run) r) in
+    omega arith
+
+-- the first step where the place is free, and 256 where it is occupied
+pub since-first : (s : Sheet) (v t : ℕ) → Free s v t → sinceOf s v t ≡ firstOf s v t
+unfolding sinceOf
+since-first s v t f = rw f
+
+pub since-occupied : (s : Sheet) (v t : ℕ) → freeb s v t ≡ false → sinceOf s v t ≡ 256
+unfolding sinceOf
+since-occupied s v t f = rw f
+
+pub free-since : (s : Sheet) (v t : ℕ) → Free s v t → sinceOf s v t ≤ t
+free-since s v t f = omega (arith, since-first s v t f, first-step s v t f .soon)
+
+pub since-most : (s : Sheet) (v t : ℕ) → t ≤ 255 → sinceOf s v t ≤ 256
+since-most s v t h = go (freeb s v t) refl
+  where
+    go : (b : Bool) → freeb s v t ≡ b → sinceOf s v t ≤ 256
+    go true f = omega (arith, free-since s v t f)
+    go false f = omega (arith, since-occupied s v t f)
+
+pub since-free : (s : Sheet) (v t : ℕ) → t ≤ 255 → sinceOf s v t ≤ t ↔ Free s v t
+since-free s v t h = (λ l. go l (freeb s v t) refl, free-since s v t)
+  where
+    go : sinceOf s v t ≤ t → (b : Bool) → freeb s v t ≡ b → Free s v t
+    go l true f = f
+    go l false f = absurd (omega (arith, since-occupied s v t f))
+
+-- the run that holds t reaches back to a exactly where the first step is not after a
+pub since-run : (s : Sheet) (v a t : ℕ) → t ≤ 255 → a ≤ t → sinceOf s v t ≤ a ↔ Run s v a t
+since-run s v a t h k = (λ l. back l (since-free s v t h .0 (omega arith)), λ r. omega (arith, since-first s v t (r t k (omega arith)), first-least s v a t k r))
+  where
+    back : sinceOf s v t ≤ a → Free s v t → Run s v a t
+    back l f i m n = first-step s v t f .run i (omega (arith, since-first s v t f)) n
+
+-- it is the same over a run
+pub since-same : (s : Sheet) (v a t : ℕ) → a ≤ t → Run s v a t → sinceOf s v a ≡ sinceOf s v t
+since-same s v a t h r =
+    since-first s v a (r a (omega arith) h) ∙ first-same s v a t h r ∙ sym (since-first s v t (r t h (omega arith)))
+
+pub since-next : (s : Sheet) (v t : ℕ) → Free s v t → Free s v (t + 1) → sinceOf s v (t + 1) ≡ sinceOf s v t
+since-next s v t f g = sym (since-same s v t (t + 1) (omega arith) step)
+  where
+    step : Run s v t (t + 1)
+    step i m n = go (eqb i t) refl
+      where
+        go : (b : Bool) → eqb i t ≡ b → Free s v i
+        go true e = rw (eqb-true i t e) f
+        go false e =
+            let d : i ≢ t = eqb-false i t e in
+            let q : i ≡ t + 1 = omega arith in
+            rw q g
+
+-- and it is the first step of the safe interval, where there is one
+pub since-interval : (s : Sheet) (v a b t : ℕ) → Interval s v a b → a ≤ t → t ≤ b → sinceOf s v t ≡ a
+since-interval s v a b t i h k =
+    let f : Free s v t = i .free t h k in
+    let w : t ≤ steps s = omega (arith, i .within) in
+    since-first s v t f
+    ∙ interval-once s v (firstOf s v t) (lastOf s v t (steps s - t)) a b t (interval-at s v t w f) i (first-step s v t f .soon) (last-step s v t (steps s - t) f .late) h k .0

@@ -1,7 +1,7 @@
 -- What the functions of the walk back promise each other. No exported contract cites this file.
 use mathlib.Core.Path.{_≡_}
 use mathlib.Core.Bool.{Bool, true, false}
-use mathlib.Core.List.{List, _++_, _∷_, reverse}
+use mathlib.Core.List.{List, _∷_, reverse}
 use mathlib.Core.Option.{Option, some, none}
 use Prim.Native.Nat.{ℕ, suc, _*_, _+_, _-_, _≤_, _<_, _%_}
 use lib.ListN.{length}
@@ -13,7 +13,7 @@ use Rattle.sheet.specs.Kinds.{kindC}
 use Rattle.sheet.specs.Calls.{groupRows}
 use Rattle.costs.specs.Costs.{Cost, figures, add, times}
 use Rattle.arrivals.specs.Ways.{Move}
-use Rattle.arrivals.specs.Arrivals.{Arrival, arrival, Arrives}
+use Rattle.arrivals.specs.Arrivals.{arrival, Arrives}
 use Rattle.journeys.specs.Inner.{Walks}
 use Rattle.journeys.specs.Laws.Exact.{Towards}
 use Rattle.journeys.specs.Laws.Tie.{Chain}

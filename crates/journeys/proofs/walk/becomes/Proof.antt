@@ -23,7 +23,7 @@ row-becomes-requires : tie.Need-row-becomes-requires Inv-loop μ-loop
 row-becomes-requires c κs = (omega arith, c .before .before .before .pre .1, c .before .before .before .pre .2)
 
 returns : tie.Need-returns Inv-loop μ-loop
-returns c = 
+returns c =
     let w = c .before .before .before .loop in
     holds (record { row = w .k; listed = c .before .before .loop-test .taken; becomes = yes-of (c .before .row-becomes .ensures) (c .if1 .taken) })
 

@@ -3,8 +3,7 @@
 -- Assumes nothing.
 use mathlib.Core.Path.{refl}
 use Rattle.journeys.proofs.Rowwise.{is-less}
-use mathlib.Core.Path.{_≡_, _∙_, sym}
-use Prim.Native.Nat.{ℕ, _-_, _≤_, _<_}
+use Prim.Native.Nat.{_-_, _≤_}
 use native.Mathlib.Omega.{arith}
 use Rattle.costs.specs.Costs.{fig}
 use Rattle.costs.specs.Laws.Figures.{Stored, stored-none, stored-more, stored-all}

@@ -27,12 +27,12 @@ shared-slice-read-if1 : tie.Need-shared-slice-read-if1
 shared-slice-read-if1 c = search needs
 
 returns : tie.Need-returns
-returns c = 
+returns c =
     let a = c .before .before .before .before .args in
     row-out (a .table .now) (a .u) (a .low) (a .t) (a .w) (a .h) (a .k) (c .if1 .taken)
 
 sub-waits-to : tie.Need-sub-waits-to
-sub-waits-to c = 
+sub-waits-to c =
     let a = c .before .before .before .before .args in
     inside (a .table .now) (a .u) (a .low) (a .t) (a .w) (a .h) (a .k) (c .if1 .left) .2
 
@@ -40,7 +40,7 @@ waits-to-requires : tie.Need-waits-to-requires
 waits-to-requires c κs = search needs
 
 returns-2 : tie.Need-returns-2
-returns-2 c = 
+returns-2 c =
     let a = c .before .before .before .before .before .args in
     row-decided (a .table .now) (a .u) (a .low) (a .t) (a .w) (a .h) (a .k) (c .before .if1 .left) (c .waits-to .ensures)
 

@@ -20,7 +20,7 @@ at-most-requires : tie.Need-at-most-requires
 at-most-requires c κs = search needs
 
 returns-2 : tie.Need-returns-2
-returns-2 c = 
+returns-2 c =
     step-dear (c .before .before .before .before .before .move-cost .result) (c .before .before .before .before .before .move-cost .ensures) _ (not-false _ (c .before .before .before .if1 .left)) (dearer (c .before .at-most .ensures) (not-true _ (c .if2 .taken)))
 
 mul-low : tie.Need-mul-low
@@ -48,7 +48,7 @@ becomes-requires : tie.Need-becomes-requires
 becomes-requires c κs = (c .before .before .before .before .before .before .before .before .before .before .before .before .before .pre .0 .room, omega arith, wait-within (c .before .before .before .before .before .before .before .before .before .before .before .before .before .pre .0) (c .before .before .before .before .before .before .before .before .before .before .before .before .before .args .u) _ (waits-as (c .wait-at .ensures)))
 
 returns-3 : tie.Need-returns-3
-returns-3 c = 
+returns-3 c =
     step-done (c .before .before .before .before .before .before .before .before .before .move-cost .result) (c .before .before .before .before .before .before .before .before .before .move-cost .ensures) (not-false _ (c .before .before .before .before .before .before .before .if1 .left)) _ (c .before .before .less .ensures) (c .before .before .before .before .before .before .before .before .before .before .before .before .before .before .pre .1) (c .before .before .before .before .before .before .before .before .before .before .before .before .before .before .pre .2) _ (waits-as (c .before .wait-at .ensures)) _ (c .becomes .ensures)
 
 pub step-from-spec : {M : Type 1} → statement M

@@ -2,7 +2,7 @@
 -- The measure is what is left of the three figures.
 -- Assumes nothing.
 use native.Mathlib.Nat.{mul-le-mul}
-use mathlib.Core.Path.{_≡_, _∙_, sym}
+use mathlib.Core.Path.{_≡_}
 use Prim.Native.Nat.{ℕ, _+_, _*_, _-_, _≤_, _<_}
 use native.Mathlib.Omega.{arith}
 use borrow.Author.Count.{below-none, below-more}
@@ -45,7 +45,7 @@ array-read-if1 : tie.Need-array-read-if1 Inv-loop μ-loop
 array-read-if1 c = search needs
 
 returns : tie.Need-returns Inv-loop μ-loop
-returns c = 
+returns c =
     let a = c .before .before .before .before .args in
     fails (λ x. omega (arith, waits-at (a .table .now) (a .k) (a .n) (a .t4) (a .t5) x (c .before .before .before .loop .i) (omega arith)))
 
@@ -68,7 +68,7 @@ mul-if2-3 : tie.Need-mul-if2-3 Inv-loop μ-loop
 mul-if2-3 c = omega (arith, mul-le-mul (c .before .before .before .before .pre .1) (c .before .before .before .before .pre .2 .every (c .before .before .before .loop .i)))
 
 returns-2 : tie.Need-returns-2 Inv-loop μ-loop
-returns-2 c = 
+returns-2 c =
     let a = c .before .before .before .before .before .args in
     fails (λ x. omega (arith, c .if2 .taken, waits-at (a .table .now) (a .k) (a .n) (a .t4) (a .t5) x (c .before .before .before .before .loop .i) (omega arith)))
 
@@ -82,7 +82,7 @@ loop-again : tie.Need-loop-again Inv-loop μ-loop
 loop-again c = (search needs, below-more _ _ (c .before .before .before .before .loop .inv .1) (omega arith))
 
 returns-3 : tie.Need-returns-3 Inv-loop μ-loop
-returns-3 c = 
+returns-3 c =
     let a = c .before .before .args in
     holds (waits-all (a .table .now) (a .k) (a .n) (a .t4) (a .t5) (search needs) (search needs) (λ j l. c .before .loop .inv .1 j (omega arith)))
 

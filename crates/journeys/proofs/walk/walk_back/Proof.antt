@@ -13,7 +13,7 @@ use Rattle.journeys.proofs.walk.walk_back.Statement.{statement}
 use Rattle.journeys.proofs.walk.walk_back.Tie as tie
 
 abbrev Inv-loop : tie.InvT-loop
-Inv-loop head corridors table n since arrival path₀ v₀ h₀ t₀ path v h t = 
+Inv-loop head corridors table n since arrival path₀ v₀ h₀ t₀ path v h t =
     (t ≤ arrival) × (arrival ≤ 255) × (arrival < length path) × (length path ≡ length path₀) × Walked head corridors n table since arrival h₀ v t h path₀ path
 
 abbrev μ-loop : tie.MeasureT-loop
@@ -44,7 +44,7 @@ loop-less : tie.Need-loop-less Inv-loop μ-loop
 loop-less c = search needs
 
 loop-again : tie.Need-loop-again Inv-loop μ-loop
-loop-again c = 
+loop-again c =
     let w = c .before .before .before .loop in
     (omega arith, w .inv .1, omega (arith, length-set (w .path) (w .t) (w .v)), length-set (w .path) (w .t) (w .v) ∙ w .inv .3, walked-step _ (w .inv .4) (c .before .before .loop-test .taken) (c .before .place-before .ensures))
 
@@ -52,7 +52,7 @@ slice-write-path-2 : tie.Need-slice-write-path-2 Inv-loop μ-loop
 slice-write-path-2 c = search needs
 
 same-length : tie.Need-same-length Inv-loop μ-loop
-same-length c = 
+same-length c =
     let w = c .before .loop in
     length-set (w .path) 0 (w .v) ∙ w .inv .3
 
