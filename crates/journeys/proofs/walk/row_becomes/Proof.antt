@@ -1,5 +1,6 @@
 -- `journeys::walk::row_becomes` meets its contract: the tests of the place and the step, then what `waits_to` tells of the cost.
 -- Assumes nothing.
+use native.Mathlib.Omega.{arith}
 use Rattle.journeys.proofs.Rowwise.{row-out, inside, row-decided}
 use borrow.Author.Needs.{needs}
 use Rattle.journeys.proofs.walk.row_becomes.Statement.{statement}
@@ -34,7 +35,7 @@ returns c =
 sub-waits-to : tie.Need-sub-waits-to
 sub-waits-to c =
     let a = c .before .before .before .before .args in
-    inside (a .table .now) (a .u) (a .low) (a .t) (a .w) (a .h) (a .k) (c .if1 .left) .2
+    omega (arith, inside (a .table .now) (a .u) (a .low) (a .t) (a .w) (a .h) (a .k) (c .if1 .left) .2)
 
 waits-to-requires : tie.Need-waits-to-requires
 waits-to-requires c κs = search needs
