@@ -6,6 +6,8 @@ use sheet::SheetWritten;
 use sheet::reader::read;
 use sheet::writer::write;
 
+pub mod walk; // walk.rt: the journey of a front cost
+
 // What a call of the front hands back: the count of front costs and the number of leading arrivals.
 #[repr(C)]
 pub struct FrontAnswer {

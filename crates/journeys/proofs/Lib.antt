@@ -1,0 +1,3 @@
+pub mod Rowwise
+pub mod Stepping
+pub mod Backwards

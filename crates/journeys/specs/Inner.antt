@@ -1,0 +1,80 @@
+-- What the functions that read the front and a journey off the arrivals table promise each other. No exported contract cites this file.
+pub mod Walk
+use mathlib.Core.Path.{_≡_}
+use mathlib.Core.Bool.{Bool, true, false, _&&_}
+use mathlib.Core.List.{List, [], _∷_, _++_, map}
+use mathlib.Core.Option.{Option, some, none}
+use Prim.Native.Nat.{ℕ, zero, suc, _*_, _+_, _≤_, _<_, _%_}
+use lib.Dec.{eqb, leb}
+use lib.ListN.{length, getD}
+use lib.Seq.{sets}
+use Rattle.sheet.specs.Lists.{pick, number, numbersFrom, rows, filter, bind, lexb}
+use Rattle.sheet.specs.Sheet.{Sheet}
+use Rattle.sheet.specs.Valid.{Valid}
+use Rattle.sheet.specs.Kinds.{kindC}
+use Rattle.sheet.specs.Calls.{groupRows}
+use Rattle.costs.specs.Costs.{Cost, figures, sameb}
+use Rattle.intervals.specs.Intervals.{sinceOf}
+use Rattle.arrivals.specs.Arrivals.{Arrival, arrival, leading}
+use Rattle.journeys.specs.Journeys.{journeyOf, arrivalOf}
+use Rattle.journeys.specs.Front.{OnFront, frontOf}
+
+-- the arrival that a row of five numbers stands for
+abbrev pub rowOf : List ℕ → Arrival
+rowOf r = arrival (number r 0) (number r 1) (numbersFrom figures 2 r)
+
+-- the arrivals in the first n rows of a table
+abbrev pub tableRows : ℕ → List ℕ → List Arrival
+tableRows n xs = map rowOf (rows 5 n xs)
+
+-- an arrival at the place v, at a step up to `last`
+abbrev pub isGoalRow : ℕ → ℕ → Arrival → Bool
+isGoalRow v last a = eqb (a .place) v && leb (a .step) last
+
+abbrev pub goalRows : ℕ → ℕ → ℕ → List ℕ → List Arrival
+goalRows v last n xs = filter (isGoalRow v last) (tableRows n xs)
+
+abbrev pub costsOf : List Arrival → List Cost
+costsOf l = map (λ a. a .cost) l
+
+-- the step of the first arrival with the cost g
+abbrev pub firstStep : Cost → List Arrival → ℕ
+firstStep g [] = 0
+firstStep g (a ∷ l) = let r = firstStep g l in pick (sameb (a .cost) g) (a .step) r
+
+-- the first cost of an ascending list above `last`, or the first of all
+abbrev pub nextIn : List Cost → Option Cost → Option Cost
+nextIn [] last = none
+nextIn (x ∷ l) none = some x
+nextIn (x ∷ l) (some a) = let r = nextIn l (some a) in pick (lexb a x) (some x) r
+
+-- the rows of the front list
+abbrev pub offeredRows : List Arrival → List ℕ
+offeredRows l = bind (frontOf (costsOf l)) (λ g. g ++ (firstStep g l ∷ []))
+
+-- the table begins with the rows of the leading arrivals of s, of which there are n
+pub record Holds (s : Sheet) (n : ℕ) (xs : List ℕ) : Type 0 where
+  pub room : n * 5 ≤ length xs
+  pub rows-are : tableRows n xs ≡ leading s
+
+-- s is a sheet with this S line and these corridors, the table holds its leading arrivals and `since` the first steps of its free runs; f is on its
+-- front, with the arrival step A
+pub record Walks (head corridors : List ℕ) (n : ℕ) (table since : List ℕ) (A : ℕ) (f : Cost) (s : Sheet) : Type 0 where
+  pub valid : Valid s
+  pub head-is : s .head ≡ head
+  pub corridors-are : s .corridors ≡ groupRows kindC corridors
+  pub whole : length corridors % 5 ≡ 0
+  pub holds : Holds s n table
+  pub since-room : length since ≡ 16384
+  pub since-of : (v t : ℕ) → v < 64 → t < 256 → number since (v * 256 + t) ≡ sinceOf s v t
+  pub on-front : OnFront s f
+  pub arrives-at : A ≡ arrivalOf s f
+
+-- what the walk back needs, and what it writes
+pub record Walkable (head corridors : List ℕ) (n : ℕ) (table since : List ℕ) (A : ℕ) (f : Cost) (path : List ℕ) : Type 0 where
+  pub sheet : Sheet
+  pub walks : Walks head corridors n table since A f sheet
+  pub room : suc A ≤ length path
+
+pub record WalkIs (head corridors : List ℕ) (n : ℕ) (table since : List ℕ) (A : ℕ) (f : Cost) (path path′ : List ℕ) : Type 0 where
+  pub of : (s : Sheet) → Walks head corridors n table since A f s → path′ ≡ sets path 0 (journeyOf s f)
