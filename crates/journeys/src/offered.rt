@@ -1,13 +1,13 @@
 // The front read off the arrivals table: each front cost is the cost of a leading arrival at the goal that none of these dominates.
 ghost use mathlib.Core.Path.{_≡_};
 ghost use mathlib.Core.List.{_∷_, [], _++_};
-ghost use Prim.Native.Nat.{ℕ, _+_, _*_, _≤_, _<_};
-ghost use lib.ListN.{length};
+ghost use Prim.Native.Nat.{ℕ, _+_, _*_, _-_, _≤_, _<_};
+ghost use lib.ListN.{length, take, replicate};
 ghost use lib.Seq.{sets};
 ghost use Rattle.sheet.specs.Lists.{numbersFrom, rows, filled};
 ghost use Rattle.costs.specs.Costs.{figures};
 ghost use Rattle.journeys.specs.Front.{undominatedb, frontOf};
-ghost use Rattle.journeys.specs.Inner.{isGoalRow, rowOf, goalRows, costsOf, asOffered, NextIs, NumberIs, offeredRows};
+ghost use Rattle.journeys.specs.Inner.{isGoalRow, rowOf, goalRows, costsOf, asOffered, BestUpTo, NextIs, NumberIs, offeredRows};
 use costs::before;
 use costs::dominates;
 
@@ -63,19 +63,22 @@ pub fn next_cost(table: &[u32], n: usize, v: u32, last: u32, after: Offered) -> 
 
 // The better of `best` and row k: a cost above `after` and before `best` that is on the front.
 fn better_row(table: &[u32], n: usize, v: u32, last: u32, after: Offered, best: Offered, k: usize) -> Offered
-    requires { ⌜ (n ≤ 1000000000000000000) × (n * 5 ≤ length (now table)) × (k < n) ⌝ }
+    requires { ⌜ (n ≤ 1000000000000000000) × (n * 5 ≤ length (now table)) × (k < n) × (BestUpTo (goalRows v last n (now table)) (asOffered after) (goalRows v last k (now table)) best) ⌝ }
+    ensures { λ r. ⌜ BestUpTo (goalRows v last n (now (table .entry))) (asOffered after) (goalRows v last (k + 1) (now (table .entry))) r ⌝ }
 {
     if (table[k * 5] != v) | (last < table[k * 5 + 1]) {
         return best;
     }
     let g = row_cost(table, k);
+    let least = after.cost;
     if after.found {
-        if !before(after.cost, g) {
+        if !before(least, g) {
             return best;
         }
     }
+    let most = best.cost;
     if best.found {
-        if !before(g, best.cost) {
+        if !before(g, most) {
             return best;
         }
     }
@@ -135,7 +138,8 @@ pub fn list_costs(table: &[u32], n: usize, v: u32, last: u32, list: &mut [u32])
     let mut at = next_cost(table, n, v, last, Offered { found: false, cost: [0; 3], step: 0 });
     let mut i = 0;
     while at.found {
-        put_cost(list, i, at.cost, at.step);
+        let cost = at.cost;
+        put_cost(list, i, cost, at.step);
         at = next_cost(table, n, v, last, at);
         i += 1;
     }
@@ -145,6 +149,7 @@ pub fn list_costs(table: &[u32], n: usize, v: u32, last: u32, list: &mut [u32])
 // Zeros from position `from` on.
 pub fn clear_from(list: &mut [u32], from: usize)
     requires { ⌜ from ≤ length (now list) ⌝ }
+    ensures { λ _. ⌜ now (list .exit) ≡ take from (now (list .entry)) ++ replicate (length (now (list .entry)) - from) 0 ⌝ }
 {
     let mut i = from;
     while i < list.len() {
