@@ -4,15 +4,15 @@
 use mathlib.Core.Path.{_≡_, refl, sym, _∙_, ap, subst}
 use mathlib.Core.Logic.{_⊎_, inl, inr, _≢_}
 use mathlib.Core.Bool.{Bool, true, false, not, _&&_, true≢false}
-use mathlib.Core.List.{List, [], _∷_, _++_, map, append-nil}
+use mathlib.Core.List.{List, [], _∷_, _++_, map, append-nil, append-assoc}
 use mathlib.Core.Option.{Option, some, none}
 use Prim.Native.Nat.{ℕ, zero, suc, _+_, _*_, _-_, _/_, _≤_, _<_}
 use native.Mathlib.Omega.{arith}
 use native.Mathlib.Nat.{suc-mul, zero-mul, div-add-mod'}
 use native.Mathlib.Numerals.{add-one}
 use lib.Dec.{eqb, leb}
-use lib.ListN.{length, getD, take, drop, replicate, length-append, length-map}
-use lib.Seq.{take-at, drop-at}
+use lib.ListN.{length, getD, getElem?, take, drop, replicate, length-append, length-map}
+use lib.Seq.{sets, sets-eq, take-at, drop-at, take-all, take-suc, length-take-le}
 use borrow.Author.Tests.{eqb-true, eqb-false, eq-eqb, leb-true, le-leb, not-true}
 use Rattle.sheet.specs.Lists.{_∈_, pick, number, numbersFrom, rows, flat, bind, filled, keep, filter, all, Lex, lexb, Before, Ascending, insert, put, sortUnique}
 use Rattle.sheet.specs.Sheet.{Sheet, steps, goal}
@@ -212,3 +212,307 @@ module _ (l : List Arrival) (last : Option Cost) where
         go g k (inl m) =
             let j = b .least g (record { member = m; is-above = k .is-above; undominated = k .undominated }) in
             above-both g (lexb-true (a .cost) (r .cost) (f (j .0))) (lexb-false g (r .cost) (j .1))
+
+-- the least member above `last` is the next one
+pub next-least : (f : List Cost) (last : Option Cost) (g : Cost) → Ascending self f → g ∈ f → above last g ≡ true → ((h : Cost) → h ∈ f → above last h ≡ true → lexb h g ≡ false) → nextIn f last ≡ some g
+next-least [] last g s m u n = absurd m
+next-least (x ∷ f) none g s (inl e) u n = ap some (sym e)
+next-least (x ∷ f) none g s (inr m) u n =
+    absurd (true≢false (sym (Lex-lexb x g (before-all self x f (s .0) (s .1) g m)) ∙ n x (inl refl) refl))
+next-least (x ∷ f) (some a) g s m u n = go (lexb a x) refl m (next-least f (some a) g (s .1))
+  where
+    go : (b : Bool) → lexb a x ≡ b → g ∈ (x ∷ f) → (g ∈ f → above (some a) g ≡ true → ((h : Cost) → h ∈ f → above (some a) h ≡ true → lexb h g ≡ false) → nextIn f (some a) ≡ some g) → pick b (some x) (nextIn f (some a)) ≡ some g
+    go true e (inl q) r = ap some (sym q)
+    go true e (inr m) r = absurd (true≢false (sym (Lex-lexb x g (before-all self x f (s .0) (s .1) g m)) ∙ n x (inl refl) e))
+    go false e (inl q) r = absurd (true≢false (sym u ∙ ap (lexb a) q ∙ e))
+    go false e (inr m) r = r m u (λ h k. n h (inr k))
+
+pub next-none : (f : List Cost) (last : Option Cost) → ((h : Cost) → h ∈ f → above last h ≡ true → ⊥) → nextIn f last ≡ none
+next-none [] last n = refl
+next-none (x ∷ f) none n = absurd (n x (inl refl) refl)
+next-none (x ∷ f) (some a) n = go (lexb a x) refl (next-none f (some a))
+  where
+    go : (b : Bool) → lexb a x ≡ b → (((h : Cost) → h ∈ f → above (some a) h ≡ true → ⊥) → nextIn f (some a) ≡ none) → pick b (some x) (nextIn f (some a)) ≡ none
+    go true e r = absurd (n x (inl refl) e)
+    go false e r = r (λ h m. n h (inr m))
+
+pub best-next : (l : List Arrival) (last : Option Cost) (r : Offered) → BestUpTo l last l r → NextIs l last r
+best-next l last r b = record { next = go (r .found) refl; step = λ t. b .is t .1 }
+  where
+    candidate : (g : Cost) → g ∈ frontOf (costsOf l) → above last g ≡ true → Candidate l last l g
+    candidate g m u = let k = member-front (costsOf l) g m in record { member = k .0; is-above = u; undominated = k .1 }
+
+    go : (t : Bool) → r .found ≡ t → pick t (some (r .cost)) none ≡ nextIn (frontOf (costsOf l)) last
+    go true e =
+        let k = b .is e .0 in
+        sym (next-least (frontOf (costsOf l)) last (r .cost) (frontOf-ascending (costsOf l)) (front-member (costsOf l) (r .cost) (k .member) (k .undominated)) (k .is-above) (λ h m u. b .least h (candidate h m u) .1))
+    go false e = sym (next-none (frontOf (costsOf l)) last (λ h m u. true≢false (sym (b .least h (candidate h m u) .0) ∙ e)))
+
+-- after number i comes number i + 1
+next-first : (f : List Cost) → nextIn f none ≡ getElem? f 0
+next-first [] = refl
+next-first (x ∷ f) = refl
+
+after-head : (x : Cost) (f : List Cost) → Ascending self (x ∷ f) → nextIn f (some x) ≡ getElem? f 0
+after-head x [] s = refl
+after-head x (y ∷ f) s = rw (Lex-lexb x y (s .0))
+
+get-member : {A : Type 0} (f : List A) (i : ℕ) (d : A) → i < length f → getD f i d ∈ f
+get-member [] i d h = absurd (omega arith)
+get-member (x ∷ f) zero d h = inl refl
+get-member (x ∷ f) (suc i) d h = inr (get-member f i d (omega arith))
+
+next-after : (f : List Cost) (i : ℕ) → Ascending self f → i < length f → nextIn f (some (getD f i [])) ≡ getElem? f (suc i)
+next-after [] i s h = absurd (omega arith)
+next-after (x ∷ f) zero s h = rw (lexb-irrefl x) (after-head x f s)
+next-after (x ∷ f) (suc i) s h =
+    let g = getD f i [] in
+    let e : lexb g x ≡ false = lexb-not g x (λ k. Lex-asym x g (before-all self x f (s .0) (s .1) g (get-member f i [] (omega arith))) k) in
+    rw e (next-after f i (s .1) (omega arith))
+
+-- number i of a list, or none
+pub record Number (f : List Cost) (i : ℕ) (b : Bool) (g : Cost) : Type 0 where
+  pub on : b ≡ true → (i < length f) × (g ≡ getD f i [])
+  pub off : b ≡ false → length f ≤ i
+
+some-none : {g : Cost} → _≡_ {A = Option Cost} (some g) none → ⊥
+some-none e = let z : _≡_ {A = ℕ} 0 1 = cc in omega arith
+
+number-get : (f : List Cost) (i : ℕ) (b : Bool) (g : Cost) → pick b (some g) none ≡ getElem? f i → Number f i b g
+number-get [] i true g e = absurd (some-none e)
+number-get [] i false g e = record { on = λ t. absurd (true≢false (sym t)); off = λ t. omega arith }
+number-get (x ∷ f) zero true g e = record { on = λ t. (omega arith, (cc)); off = λ t. absurd (true≢false t) }
+number-get (x ∷ f) zero false g e = absurd (some-none (sym e))
+number-get (x ∷ f) (suc i) b g e =
+    let r = number-get f i b g e in
+    record { on = λ t. (omega (arith, r .on t .0), r .on t .1); off = λ t. omega (arith, r .off t) }
+
+number-is : (l : List Arrival) (i : ℕ) (r : Offered) → asOffered r ≡ getElem? (frontOf (costsOf l)) i → (r .found ≡ true → r .step ≡ firstStep (r .cost) l) → NumberIs l i r
+number-is l i r e f =
+    let n = number-get (frontOf (costsOf l)) i (r .found) (r .cost) e in
+    record { on = λ t. (n .on t .0, n .on t .1, f t); off = n .off }
+
+pub number-first : (l : List Arrival) (last r : Offered) → last .found ≡ false → NextIs l (asOffered last) r → NumberIs l 0 r
+number-first l last r e n =
+    number-is l 0 r (n .next ∙ ap (λ (b : Bool). nextIn (frontOf (costsOf l)) (pick b (some (last .cost)) none)) e ∙ next-first (frontOf (costsOf l))) (n .step)
+
+pub number-next : (l : List Arrival) (i : ℕ) (last r : Offered) → NumberIs l i last → last .found ≡ true → NextIs l (asOffered last) r → NumberIs l (i + 1) r
+number-next l i last r m t n =
+    let f = frontOf (costsOf l) in
+    let o = m .on t in
+    number-is l (i + 1) r
+    (n .next
+    ∙ ap (λ (b : Bool). nextIn f (pick b (some (last .cost)) none)) t
+    ∙ ap (λ (g : Cost). nextIn f (some g)) (o .1)
+    ∙ next-after f i (frontOf-ascending (costsOf l)) (o .0)
+    ∙ ap (getElem? f) (sym (add-one i)))
+    (n .step)
+
+-- past the end there is none
+pub number-past : (l : List Arrival) (i j : ℕ) (r : Offered) → i ≤ j → r .found ≡ false → NumberIs l i r → NumberIs l j r
+number-past l i j r h e n = record { on = λ t. absurd (true≢false (sym t ∙ e)); off = λ t. omega (arith, n .off t) }
+
+-- the front is no longer than the table
+filter-length : {A : Type 0} (p : A → Bool) (l : List A) → length (filter p l) ≤ length l
+filter-length p [] = omega arith
+filter-length p (x ∷ l) = go (p x) (filter-length p l)
+  where
+    go : (b : Bool) → length (filter p l) ≤ length l → length (keep b x (filter p l)) ≤ suc (length l)
+    go true h = omega arith
+    go false h = omega arith
+
+insert-length : (x : Cost) (l : List Cost) → length (insert self x l) ≤ suc (length l)
+insert-length x [] = omega arith
+insert-length x (y ∷ l) = go (lexb x y) (lexb y x) (insert-length x l)
+  where
+    go : (a b : Bool) → length (insert self x l) ≤ suc (length l) → length (put self a b x y l (insert self x l)) ≤ suc (suc (length l))
+    go true b h = omega arith
+    go false true h = omega arith
+    go false false h = omega arith
+
+sort-length : (l : List Cost) → length (sortUnique self l) ≤ length l
+sort-length [] = omega arith
+sort-length (x ∷ l) = omega (arith, insert-length x (sortUnique self l), sort-length l)
+
+front-length : (l : List Cost) → length (frontOf l) ≤ length l
+unfolding frontOf
+front-length l = omega (arith, filter-length (undominatedb (sortUnique self l)) (sortUnique self l), sort-length l)
+
+pub front-within : (v last n : ℕ) (xs : List ℕ) → length (frontOf (costsOf (goalRows v last n xs))) ≤ n
+front-within v last n xs =
+    omega
+    (arith,
+    front-length (costsOf (goalRows v last n xs)),
+    length-map (goalRows v last n xs) (λ (a : Arrival). a .cost),
+    filter-length (isGoalRow v last) (tableRows n xs),
+    length-map (rows 5 n xs) rowOf,
+    rows-count 5 n xs)
+
+-- its costs have three figures
+pub front-three : (v last n : ℕ) (xs : List ℕ) (g : Cost) → g ∈ frontOf (costsOf (goalRows v last n xs)) → length g ≡ figures
+front-three v last n xs g m =
+    let a = map-mem (λ (a : Arrival). a .cost) g (goalRows v last n xs) (member-front (costsOf (goalRows v last n xs)) g m .0) in
+    let f = filter-mem (isGoalRow v last) (a .0) (tableRows n xs) (a .1) in
+    let r = map-mem rowOf (a .0) (rows 5 n xs) (f .0) in
+    ap length (a .2) ∙ ap (λ (b : Arrival). length (b .cost)) (r .2)
+
+-- the list of the front, row by row
+bind-snoc : (f : List Cost) (entry : Cost → List ℕ) (g : Cost) → bind (f ++ (g ∷ [])) entry ≡ bind f entry ++ entry g
+bind-snoc [] entry g = append-nil (entry g)
+bind-snoc (x ∷ f) entry g = ap (λ (k : List ℕ). entry x ++ k) (bind-snoc f entry g) ∙ sym (append-assoc (entry x) (bind f entry) (entry g))
+
+bind-length : (f : List Cost) (entry : Cost → List ℕ) (w : ℕ) → ((g : Cost) → g ∈ f → length (entry g) ≡ w) → length (bind f entry) ≡ length f * w
+bind-length [] entry w h = sym (zero-mul w)
+bind-length (x ∷ f) entry w h = omega (arith, length-append (entry x) (bind f entry), h x (inl refl), bind-length f entry w (λ g m. h g (inr m)), suc-mul (length f) w)
+
+-- the first i rows of w numbers, one for each of the first i members, stand in the list
+pub record Listed (f : List Cost) (entry : Cost → List ℕ) (w i : ℕ) (xs : List ℕ) : Type 0 where
+  pub within : i ≤ length f
+  pub wide : (g : Cost) → g ∈ f → length (entry g) ≡ w
+  pub stands : take (i * w) xs ≡ bind (take i f) entry
+
+pub listed-none : (f : List Cost) (entry : Cost → List ℕ) (w : ℕ) (xs : List ℕ) → ((g : Cost) → g ∈ f → length (entry g) ≡ w) → Listed f entry w 0 xs
+listed-none f entry w xs h = record { within = omega arith; wide = h; stands = rw (zero-mul w) }
+
+pub listed-more : (f : List Cost) (entry : Cost → List ℕ) (w i : ℕ) (xs : List ℕ) → i < length f → i * w + w ≤ length xs → Listed f entry w i xs → Listed f entry w (i + 1) (sets xs (i * w) (entry (getD f i [])))
+listed-more f entry w i xs h b r = record { within = omega arith; wide = r .wide; stands = stands }
+  where
+    g : Cost
+    g = getD f i []
+
+    wide-enough : length (entry g) ≡ w
+    wide-enough = r .wide g (get-member f i [] h)
+
+    front-part : length (take (i * w) xs ++ entry g) ≡ (i + 1) * w
+    front-part =
+        let n : i * w ≤ length xs = omega arith in
+        omega (arith, length-append (take (i * w) xs) (entry g), length-take-le (i * w) xs n, wide-enough, suc-mul i w, ap (λ (m : ℕ). m * w) (add-one i))
+
+    stands : take ((i + 1) * w) (sets xs (i * w) (entry g)) ≡ bind (take (i + 1) f) entry
+    stands =
+        let n : i * w + length (entry g) ≤ length xs = omega (arith, wide-enough) in
+        ap (take ((i + 1) * w)) (sets-eq (entry g) xs (i * w) n)
+        ∙ take-at (take (i * w) xs ++ entry g) (drop (i * w + length (entry g)) xs) ((i + 1) * w) front-part
+        ∙ ap (λ (k : List ℕ). k ++ entry g) (r .stands)
+        ∙ sym (bind-snoc (take i f) entry g)
+        ∙ ap (λ (k : List Cost). bind k entry) (sym (ap (λ (m : ℕ). take m f) (add-one i) ∙ take-suc f i [] h))
+
+-- all of them, and zeros to the end
+pub listed-all : (f : List Cost) (entry : Cost → List ℕ) (w i : ℕ) (xs : List ℕ) → length f ≤ i → Listed f entry w i xs → take (i * w) xs ++ replicate (length xs - i * w) 0 ≡ filled (length xs) (bind f entry)
+listed-all f entry w i xs h r =
+    let e : i ≡ length f = omega (arith, r .within) in
+    let b : take (i * w) xs ≡ bind f entry = r .stands ∙ ap (λ (k : List Cost). bind k entry) (take-all i f h) in
+    let n : i * w ≡ length (bind f entry) = ap (λ (m : ℕ). m * w) e ∙ sym (bind-length f entry w (r .wide)) in
+    ap (λ (k : List ℕ). k ++ replicate (length xs - i * w) 0) b ∙ ap (λ (m : ℕ). bind f entry ++ replicate (length xs - m) 0) n
+
+-- the front of a sheet off its table
+module _ (s : Sheet) (n : ℕ) (xs : List ℕ) where
+  goal-leading : Holds s n xs → goalRows (goal s) (steps s) n xs ≡ filter (isGoalRow (goal s) (steps s)) (leading s)
+  goal-leading h = ap (filter (isGoalRow (goal s) (steps s))) (h .rows-are)
+
+  pub holds-front : Holds s n xs → front s ≡ frontOf (costsOf (goalRows (goal s) (steps s) n xs))
+  unfolding goalCosts countsb
+  holds-front h = front-by-leading s ∙ ap (λ (l : List Arrival). frontOf (costsOf l)) (sym (goal-leading h))
+
+-- the first of the arrivals with a cost is one of them; and none is earlier, where they ascend
+first-of : (g : Cost) (l : List Arrival) → g ∈ costsOf l → (a : Arrival) × (a ∈ l) × (a .cost ≡ g) × (firstStep g l ≡ a .step)
+first-of g [] m = absurd m
+first-of g (x ∷ l) m = go (sameb (x .cost) g) refl m (first-of g l)
+  where
+    go : (b : Bool) → sameb (x .cost) g ≡ b → g ∈ costsOf (x ∷ l) → (g ∈ costsOf l → (a : Arrival) × (a ∈ l) × (a .cost ≡ g) × (firstStep g l ≡ a .step))
+        → (a : Arrival) × (a ∈ (x ∷ l)) × (a .cost ≡ g) × (pick b (x .step) (firstStep g l) ≡ a .step)
+    go true e m f = (x, inl refl, sameb-true (x .cost) g e, refl)
+    go false e (inl q) f = absurd (true≢false (sym (subst (λ (h : Cost). sameb h g ≡ true) q (sameb-refl g)) ∙ e))
+    go false e (inr m) f = let r = f m in (r .0, inr (r .1), r .2, r .3)
+
+step-ascends : (a b : Arrival) → Lex (keyOf a) (keyOf b) → a .step ≤ b .step
+step-ascends a b (inl h) = omega arith
+step-ascends a b (inr h) = omega (arith, h .0)
+
+first-earliest : (g : Cost) (l : List Arrival) → Ascending keyOf l → (a : Arrival) → a ∈ l → a .cost ≡ g → firstStep g l ≤ a .step
+first-earliest g [] s a m e = absurd m
+first-earliest g (x ∷ l) s a m e = go (sameb (x .cost) g) refl m (first-earliest g l (s .1) a)
+  where
+    go : (b : Bool) → sameb (x .cost) g ≡ b → a ∈ (x ∷ l) → (a ∈ l → a .cost ≡ g → firstStep g l ≤ a .step) → pick b (x .step) (firstStep g l) ≤ a .step
+    go true q (inl p) f = omega (arith, ap (λ (y : Arrival). y .step) p)
+    go true q (inr m) f = step-ascends x a (before-all keyOf x l (s .0) (s .1) a m)
+    go false q (inl p) f = absurd (true≢false (sym (subst (λ (h : Cost). sameb h g ≡ true) (sym e ∙ ap (λ (y : Arrival). y .cost) p) (sameb-refl g)) ∙ q))
+    go false q (inr m) f = f m e
+
+pub holds-step : (s : Sheet) (n : ℕ) (xs : List ℕ) (g : Cost) → Holds s n xs → g ∈ front s → firstStep g (goalRows (goal s) (steps s) n xs) ≡ arrivalOf s g
+unfolding countsb
+holds-step s n xs g h m = ap (firstStep g) (goal-leading s n xs h) ∙ same
+  where
+    test : Arrival → Bool
+    test = isGoalRow (goal s) (steps s)
+
+    l : List Arrival
+    l = filter test (leading s)
+
+    o : OnFront s g
+    o = front-on s g m
+
+    a : Arrival
+    a = arrival (goal s) (arrivalOf s g) g
+
+    e : Earliest s g (arrivalOf s g)
+    e = arrivalOf-earliest s g (o .has)
+
+    listed : a ∈ l
+    listed =
+        mem-filter test a (leading s) (is-leading s a (arrivalOf-leading s g o))
+        (true-and (eqb (goal s) (goal s)) (leb (arrivalOf s g) (steps s)) (eq-eqb (goal s) (goal s) refl) (counts-countsb s (arrivalOf s g) (e .there .counts)))
+
+    no-sooner : (b : Arrival) → b ∈ l → b .cost ≡ g → arrivalOf s g ≤ b .step
+    no-sooner b k q =
+        let f = filter-mem test b (leading s) k in
+        let t = and-true (eqb (b .place) (goal s)) (leb (b .step) (steps s)) (f .1) in
+        let p : b ≡ arrival (goal s) (b .step) g = arrival-path b (arrival (goal s) (b .step) g) (eqb-true (b .place) (goal s) (t .0)) refl q in
+        e .none-sooner (b .step) (record { arrives = subst (Arrives s) p (leading-is s b (f .0) .arrives); counts = countsb-true s (b .step) (t .1) })
+
+    same : firstStep g l ≡ arrivalOf s g
+    same =
+        let r = first-of g l (mem-map (λ (x : Arrival). x .cost) a l listed) in
+        omega (arith, first-earliest g l (filter-ascending keyOf test (leading s) (leading-ascending s)) a listed refl, no-sooner (r .0) (r .1) (r .2), r .3)
+
+-- the arrivals table holds the leading arrivals
+rows-flat-then : (w : ℕ) (l : List (List ℕ)) (z : List ℕ) → Wide w l → rows w (length l) (flat l ++ z) ≡ l
+rows-flat-then w [] z h = refl
+rows-flat-then w (k ∷ l) z h =
+    let e = append-assoc k (flat l) z in
+    let p = h k (inl refl) in
+    rw (e, take-at k (flat l ++ z) w p, drop-at k (flat l ++ z) w p, rows-flat-then w l z (λ j m. h j (inr m)))
+
+row-back : (l : List Arrival) → ((a : Arrival) → a ∈ l → length (a .cost) ≡ figures) → map rowOf (map arrivalRow l) ≡ l
+row-back [] h = refl
+row-back (a ∷ l) h = rw (arrival-path (rowOf (arrivalRow a)) a refl refl (whole (a .cost) (h a (inl refl))), row-back l (λ b m. h b (inr m)))
+  where
+    whole : (g : Cost) → length g ≡ figures → numbersFrom figures 0 g ≡ g
+    whole [] e = absurd (omega arith)
+    whole (x ∷ []) e = absurd (omega arith)
+    whole (x ∷ y ∷ []) e = absurd (omega arith)
+    whole (x ∷ y ∷ z ∷ []) e = refl
+    whole (x ∷ y ∷ z ∷ t ∷ g) e = absurd (omega arith)
+
+pub table-holds : (s : Sheet) (xs : List ℕ) → length (leading s) ≤ length xs / 5 → xs ≡ arrivalTable s (length xs) → Holds s (length (leading s)) xs
+unfolding arrivalTable
+table-holds s xs h e = record { room = omega (arith, div-add-mod' (length xs) 5); rows-are = are }
+  where
+    l : List Arrival
+    l = leading s
+
+    three : (a : Arrival) → a ∈ l → length (a .cost) ≡ figures
+    three a m = arrives-three s a (leading-is s a m .arrives)
+
+    wide : Wide 5 (map arrivalRow l)
+    wide k m = let r = map-mem arrivalRow k l m in ap length (r .2) ∙ ap (λ (i : ℕ). suc (suc i)) (three (r .0) (r .1))
+
+    are : tableRows (length l) xs ≡ l
+    are =
+        let z = replicate {A = ℕ} (length xs - length (bind l arrivalRow)) 0 in
+        let f : xs ≡ flat (map arrivalRow l) ++ z = e ∙ ap (λ (k : List ℕ). k ++ z) (bind-flat arrivalRow l) in
+        let c : length l ≡ length (map arrivalRow l) = sym (length-map l arrivalRow) in
+        ap (λ (k : List ℕ). map rowOf (rows 5 (length l) k)) f
+        ∙ ap (λ (n : ℕ). map rowOf (rows 5 n (flat (map arrivalRow l) ++ z))) c
+        ∙ ap (map rowOf) (rows-flat-then 5 (map arrivalRow l) z wide)
+        ∙ row-back l three
