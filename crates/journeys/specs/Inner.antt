@@ -61,6 +61,11 @@ abbrev pub above : Option Cost → Cost → Bool
 above none g = true
 above (some a) g = lexb a g
 
+-- g is below `best`, if there is one
+abbrev pub below : Option Cost → Cost → Bool
+below none g = true
+below (some a) g = lexb g a
+
 -- among the arrivals p, an arrival at the cost g, which is above `last` and which no arrival of l dominates
 pub record Candidate (l : List Arrival) (last : Option Cost) (p : List Arrival) (g : Cost) : Type 0 where
   pub member : g ∈ costsOf p

@@ -7,7 +7,7 @@ ghost use lib.Seq.{sets};
 ghost use Rattle.sheet.specs.Lists.{numbersFrom, rows, filled};
 ghost use Rattle.costs.specs.Costs.{figures};
 ghost use Rattle.journeys.specs.Front.{undominatedb, frontOf};
-ghost use Rattle.journeys.specs.Inner.{isGoalRow, rowOf, goalRows, costsOf, asOffered, BestUpTo, NextIs, NumberIs, offeredRows};
+ghost use Rattle.journeys.specs.Inner.{isGoalRow, rowOf, goalRows, costsOf, asOffered, above, below, BestUpTo, NextIs, NumberIs, offeredRows};
 use costs::before;
 use costs::dominates;
 
@@ -61,31 +61,47 @@ pub fn next_cost(table: &[u32], n: usize, v: u32, last: u32, after: Offered) -> 
     best
 }
 
-// The better of `best` and row k: a cost above `after` and before `best` that is on the front.
+// Whether g is above `after`, if that was found.
+fn is_above(g: [u32; 3], after: Offered) -> bool
+    ensures { λ r. ⌜ r ≡ above (asOffered after) g ⌝ }
+{
+    let cost = after.cost;
+    if after.found {
+        return before(cost, g);
+    }
+    true
+}
+
+// Whether g is below `best`, if that was found.
+fn is_below(g: [u32; 3], best: Offered) -> bool
+    ensures { λ r. ⌜ r ≡ below (asOffered best) g ⌝ }
+{
+    let cost = best.cost;
+    if best.found {
+        return before(g, cost);
+    }
+    true
+}
+
+// The better of `best` and row k: a cost above `after` and below `best` that is on the front.
 fn better_row(table: &[u32], n: usize, v: u32, last: u32, after: Offered, best: Offered, k: usize) -> Offered
     requires { ⌜ (n ≤ 1000000000000000000) × (n * 5 ≤ length (now table)) × (k < n) × (BestUpTo (goalRows v last n (now table)) (asOffered after) (goalRows v last k (now table)) best) ⌝ }
     ensures { λ r. ⌜ BestUpTo (goalRows v last n (now (table .entry))) (asOffered after) (goalRows v last (k + 1) (now (table .entry))) r ⌝ }
 {
-    if (table[k * 5] != v) | (last < table[k * 5 + 1]) {
+    if !((table[k * 5] == v) & (table[k * 5 + 1] <= last)) {
         return best;
     }
     let g = row_cost(table, k);
-    let least = after.cost;
-    if after.found {
-        if !before(least, g) {
-            return best;
-        }
+    if !is_above(g, after) {
+        return best;
     }
-    let most = best.cost;
-    if best.found {
-        if !before(g, most) {
-            return best;
-        }
+    if !is_below(g, best) {
+        return best;
     }
-    if is_undominated(table, n, v, last, g) {
-        return Offered { found: true, cost: g, step: table[k * 5 + 1] };
+    if !is_undominated(table, n, v, last, g) {
+        return best;
     }
-    best
+    Offered { found: true, cost: g, step: table[k * 5 + 1] }
 }
 
 // The count of front costs.

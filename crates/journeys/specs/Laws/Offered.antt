@@ -113,11 +113,18 @@ dominated l a g m d = go (undominatedb (costsOf l) g) refl
     go false e = e
     go true e = absurd (true≢false (sym d ∙ not-true (dominatesb (a .cost) g) (all-true (λ h. not (dominatesb h g)) (costsOf l) e (a .cost) (mem-map (λ (x : Arrival). x .cost) a l m))))
 
-pub undominated-more : (l : List Arrival) (a : Arrival) (g : Cost) → undominatedb (costsOf l) g ≡ true → dominatesb (a .cost) g ≡ false → undominatedb (costsOf (l ++ (a ∷ []))) g ≡ true
+undominated-more : (l : List Arrival) (a : Arrival) (g : Cost) → undominatedb (costsOf l) g ≡ true → dominatesb (a .cost) g ≡ false → undominatedb (costsOf (l ++ (a ∷ []))) g ≡ true
 undominated-more [] a g e d = rw d
 undominated-more (x ∷ l) a g e d =
     let q = and-true (not (dominatesb (x .cost) g)) (undominatedb (costsOf l) g) e in
     true-and (not (dominatesb (x .cost) g)) (undominatedb (costsOf (l ++ (a ∷ []))) g) (q .0) (undominated-more l a g (q .1) d)
+
+module _ (v last : ℕ) (xs : List ℕ) (k : ℕ) (g : Cost) (u : undominatedb (costsOf (goalRows v last k xs)) g ≡ true) where
+  pub undominated-kept : isGoalRow v last (rowAt xs k) ≡ true → dominatesb (rowAt xs k .cost) g ≡ false → undominatedb (costsOf (goalRows v last (k + 1) xs)) g ≡ true
+  undominated-kept e d = ap (λ (l : List Arrival). undominatedb (costsOf l) g) (goal-kept v last xs k e) ∙ undominated-more (goalRows v last k xs) (rowAt xs k) g u d
+
+  pub undominated-skipped : isGoalRow v last (rowAt xs k) ≡ false → undominatedb (costsOf (goalRows v last (k + 1) xs)) g ≡ true
+  undominated-skipped e = ap (λ (l : List Arrival). undominatedb (costsOf l) g) (goal-skipped v last xs k e) ∙ u
 
 -- the members of the front, by the test
 pub front-member : (l : List Cost) (g : Cost) → g ∈ l → undominatedb l g ≡ true → g ∈ frontOf l
