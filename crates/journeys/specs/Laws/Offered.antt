@@ -27,7 +27,7 @@ use Rattle.arrivals.specs.Arrivals.{Arrival, arrival, keyOf, Arrives, Leading, 
 use Rattle.arrivals.specs.Laws.Leading.{arrival-path, leading-is, is-leading, leading-ascending, arrives-three}
 use Rattle.journeys.specs.Journeys.{Counts, countsb, arrivalOf}
 use Rattle.journeys.specs.Front.{OnFront, self, undominatedb, frontOf, front}
-use Rattle.journeys.specs.Inner.{rowOf, tableRows, isGoalRow, goalRows, costsOf, firstStep, nextIn, asOffered, above, Candidate, BestUpTo, NextIs, NumberIs, offeredRows, Holds}
+use Rattle.journeys.specs.Inner.{rowOf, tableRows, isGoalRow, goalRows, costsOf, firstStep, nextIn, asOffered, above, below, Candidate, BestUpTo, NextIs, NumberIs, offeredRows, Holds}
 use Rattle.journeys.specs.declared.offered.Offered.{Offered}
 use Rattle.journeys.specs.Laws.Counts.{countsb-true, counts-countsb}
 use Rattle.journeys.specs.Laws.Front.{Undominated, frontOf-is, is-frontOf, frontOf-ascending, front-on}
@@ -219,6 +219,47 @@ module _ (l : List Arrival) (last : Option Cost) where
         go g k (inl m) =
             let j = b .least g (record { member = m; is-above = k .is-above; undominated = k .undominated }) in
             above-both g (lexb-true (a .cost) (r .cost) (f (j .0))) (lexb-false g (r .cost) (j .1))
+
+-- the same of the goal rows of a table, where row k, at the cost g, comes next
+below-true : (r : Offered) (g : Cost) → below (asOffered r) g ≡ true → r .found ≡ true → lexb g (r .cost) ≡ true
+below-true r g e t = sym (ap (λ (b : Bool). below (pick b (some (r .cost)) none) g) t) ∙ e
+
+below-false : (r : Offered) (g : Cost) → below (asOffered r) g ≡ false → (r .found ≡ true) × (lexb g (r .cost) ≡ false)
+below-false r g e = go (r .found) refl
+  where
+    go : (b : Bool) → r .found ≡ b → (r .found ≡ true) × (lexb g (r .cost) ≡ false)
+    go true t = (t, sym (ap (λ (b : Bool). below (pick b (some (r .cost)) none) g) t) ∙ e)
+    go false t = absurd (true≢false (sym (ap (λ (b : Bool). below (pick b (some (r .cost)) none) g) t) ∙ e))
+
+module _ (v last n : ℕ) (xs : List ℕ) (after : Option Cost) (k : ℕ) (r : Offered) (b : BestUpTo (goalRows v last n xs) after (goalRows v last k xs) r) where
+  pub row-skipped : isGoalRow v last (rowAt xs k) ≡ false → BestUpTo (goalRows v last n xs) after (goalRows v last (k + 1) xs) r
+  row-skipped e = subst (λ (p : List Arrival). BestUpTo (goalRows v last n xs) after p r) (sym (goal-skipped v last xs k e)) b
+
+  module _ (g : Cost) (q : g ≡ rowAt xs k .cost) (e : isGoalRow v last (rowAt xs k) ≡ true) where
+    row-kept : (Candidate (goalRows v last n xs) after (goalRows v last k xs ++ (rowAt xs k ∷ [])) (rowAt xs k .cost) → (r .found ≡ true) × (lexb (rowAt xs k .cost) (r .cost) ≡ false))
+        → BestUpTo (goalRows v last n xs) after (goalRows v last (k + 1) xs) r
+    row-kept f = subst (λ (p : List Arrival). BestUpTo (goalRows v last n xs) after p r) (sym (goal-kept v last xs k e)) (best-kept (goalRows v last n xs) after (goalRows v last k xs) (rowAt xs k) r f b)
+
+    pub row-low : above after g ≡ false → BestUpTo (goalRows v last n xs) after (goalRows v last (k + 1) xs) r
+    row-low u = row-kept (λ c. absurd (true≢false (sym (c .is-above) ∙ ap (above after) (sym q) ∙ u)))
+
+    pub row-high : below (asOffered r) g ≡ false → BestUpTo (goalRows v last n xs) after (goalRows v last (k + 1) xs) r
+    row-high u = row-kept (λ c. subst (λ (h : Cost). (r .found ≡ true) × (lexb h (r .cost) ≡ false)) q (below-false r g u))
+
+    pub row-dominated : undominatedb (costsOf (goalRows v last n xs)) g ≡ false → BestUpTo (goalRows v last n xs) after (goalRows v last (k + 1) xs) r
+    row-dominated u = row-kept (λ c. absurd (true≢false (sym (c .undominated) ∙ ap (undominatedb (costsOf (goalRows v last n xs))) (sym q) ∙ u)))
+
+    pub row-taken : (o : Offered) → above after g ≡ true → below (asOffered r) g ≡ true → undominatedb (costsOf (goalRows v last n xs)) g ≡ true
+        → o .found ≡ true → o .cost ≡ g → o .step ≡ rowAt xs k .step → BestUpTo (goalRows v last n xs) after (goalRows v last (k + 1) xs) o
+    row-taken o u w d t f j =
+        subst (λ (p : List Arrival). BestUpTo (goalRows v last n xs) after p o) (sym (goal-kept v last xs k e))
+        (best-new (goalRows v last n xs) after (goalRows v last k xs) (rowAt xs k) r o b
+        (ap (above after) (sym q) ∙ u)
+        (ap (undominatedb (costsOf (goalRows v last n xs))) (sym q) ∙ d)
+        (λ t. ap (λ (h : Cost). lexb h (r .cost)) (sym q) ∙ below-true r g w t)
+        t
+        (f ∙ q)
+        j)
 
 -- the least member above `last` is the next one
 pub next-least : (f : List Cost) (last : Option Cost) (g : Cost) → Ascending self f → g ∈ f → above last g ≡ true → ((h : Cost) → h ∈ f → above last h ≡ true → lexb h g ≡ false) → nextIn f last ≡ some g
