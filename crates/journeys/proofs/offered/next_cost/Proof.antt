@@ -23,19 +23,24 @@ loop-holds : tie.Need-loop-holds Inv-loop μ-loop
 loop-holds c = (omega arith, best-none _ _ _ refl)
 
 better-row-requires : tie.Need-better-row-requires Inv-loop μ-loop
-better-row-requires c κs = ?
+better-row-requires c κs = (search needs, search needs, search needs, c .before .loop .inv .1)
 
 add-k : tie.Need-add-k Inv-loop μ-loop
-add-k c = ?
+add-k c = search needs
 
 loop-less : tie.Need-loop-less Inv-loop μ-loop
-loop-less c = ?
+loop-less c = search needs
 
 loop-again : tie.Need-loop-again Inv-loop μ-loop
-loop-again c = ?
+loop-again c = (search needs, c .better-row .ensures)
 
 returns : tie.Need-returns Inv-loop μ-loop
-returns c = ?
+returns c = 
+    let a = c .before .before .before .args in
+    let e : c .before .loop .k ≡ a .n = omega arith in
+    let l = goalRows (a .v) (a .last) (a .n) (a .table .now) in
+    best-next l (asOffered (a .after)) (c .before .loop .best)
+    (subst (λ (i : ℕ). BestUpTo l (asOffered (a .after)) (goalRows (a .v) (a .last) i (a .table .now)) (c .before .loop .best)) e (c .before .loop .inv .1))
 
 pub next-cost-spec : {M : Type 1} → statement M
 next-cost-spec =
