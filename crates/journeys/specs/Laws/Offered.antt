@@ -340,9 +340,8 @@ number-is l i r e f =
     let n = number-get (frontOf (costsOf l)) i (r .found) (r .cost) e in
     record { on = λ t. (n .on t .0, n .on t .1, f t); off = n .off }
 
-pub number-first : (l : List Arrival) (last r : Offered) → last .found ≡ false → NextIs l (asOffered last) r → NumberIs l 0 r
-number-first l last r e n =
-    number-is l 0 r (n .next ∙ ap (λ (b : Bool). nextIn (frontOf (costsOf l)) (pick b (some (last .cost)) none)) e ∙ next-first (frontOf (costsOf l))) (n .step)
+pub number-first : (l : List Arrival) (r : Offered) → NextIs l none r → NumberIs l 0 r
+number-first l r n = number-is l 0 r (n .next ∙ next-first (frontOf (costsOf l))) (n .step)
 
 pub number-next : (l : List Arrival) (i : ℕ) (last r : Offered) → NumberIs l i last → last .found ≡ true → NextIs l (asOffered last) r → NumberIs l (i + 1) r
 number-next l i last r m t n =
@@ -404,6 +403,13 @@ front-three v last n xs g m =
     let r = map-mem rowOf (a .0) (rows 5 n xs) (f .0) in
     ap length (a .2) ∙ ap (λ (b : Arrival). length (b .cost)) (r .2)
 
+-- a row of the front list
+abbrev pub offeredRow : List Arrival → Cost → List ℕ
+offeredRow l g = g ++ (firstStep g l ∷ [])
+
+pub offered-wide : (v last n : ℕ) (xs : List ℕ) (l : List Arrival) (g : Cost) → g ∈ frontOf (costsOf (goalRows v last n xs)) → length (offeredRow l g) ≡ 4
+offered-wide v last n xs l g m = length-append g (firstStep g l ∷ []) ∙ ap (λ (i : ℕ). i + 1) (front-three v last n xs g m)
+
 -- the list of the front, row by row
 bind-snoc : (f : List Cost) (entry : Cost → List ℕ) (g : Cost) → bind (f ++ (g ∷ [])) entry ≡ bind f entry ++ entry g
 bind-snoc [] entry g = append-nil (entry g)
@@ -445,13 +451,21 @@ listed-more f entry w i xs h b r = record { within = omega arith; wide = r .wide
         ∙ sym (bind-snoc (take i f) entry g)
         ∙ ap (λ (k : List Cost). bind k entry) (sym (ap (λ (m : ℕ). take m f) (add-one i) ∙ take-suc f i [] h))
 
+pub listed-offered : (l : List Arrival) (i : ℕ) (r : Offered) (xs ys : List ℕ) → NumberIs l i r → r .found ≡ true → length (frontOf (costsOf l)) * 4 ≤ length xs
+    → ys ≡ sets xs (i * 4) (r .cost ++ (r .step ∷ [])) → Listed (frontOf (costsOf l)) (offeredRow l) 4 i xs → Listed (frontOf (costsOf l)) (offeredRow l) 4 (i + 1) ys
+listed-offered l i r xs ys n t h e k =
+    let f = frontOf (costsOf l) in
+    let o = n .on t in
+    let q : r .cost ++ (r .step ∷ []) ≡ offeredRow l (getD f i []) = ap (λ (j : ℕ). r .cost ++ (j ∷ [])) (o .2) ∙ ap (offeredRow l) (o .1) in
+    subst (Listed f (offeredRow l) 4 (i + 1)) (sym (e ∙ ap (sets xs (i * 4)) q)) (listed-more f (offeredRow l) 4 i xs (o .0) (omega (arith, o .0)) k)
+
 -- all of them, and zeros to the end
-pub listed-all : (f : List Cost) (entry : Cost → List ℕ) (w i : ℕ) (xs : List ℕ) → length f ≤ i → Listed f entry w i xs → take (i * w) xs ++ replicate (length xs - i * w) 0 ≡ filled (length xs) (bind f entry)
-listed-all f entry w i xs h r =
+pub listed-all : (f : List Cost) (entry : Cost → List ℕ) (w i n : ℕ) (xs : List ℕ) → length xs ≡ n → length f ≤ i → Listed f entry w i xs → take (i * w) xs ++ replicate (length xs - i * w) 0 ≡ filled n (bind f entry)
+listed-all f entry w i n xs l h r =
     let e : i ≡ length f = omega (arith, r .within) in
     let b : take (i * w) xs ≡ bind f entry = r .stands ∙ ap (λ (k : List Cost). bind k entry) (take-all i f h) in
-    let n : i * w ≡ length (bind f entry) = ap (λ (m : ℕ). m * w) e ∙ sym (bind-length f entry w (r .wide)) in
-    ap (λ (k : List ℕ). k ++ replicate (length xs - i * w) 0) b ∙ ap (λ (m : ℕ). bind f entry ++ replicate (length xs - m) 0) n
+    let q : length xs - i * w ≡ n - length (bind f entry) = omega (arith, ap (λ (m : ℕ). m * w) e, bind-length f entry w (r .wide)) in
+    ap (λ (k : List ℕ). k ++ replicate (length xs - i * w) 0) b ∙ ap (λ (m : ℕ). bind f entry ++ replicate m 0) q
 
 -- the front of a sheet off its table
 module _ (s : Sheet) (n : ℕ) (xs : List ℕ) where
