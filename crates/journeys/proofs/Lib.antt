@@ -1,3 +1,4 @@
 pub mod Rowwise
 pub mod Stepping
+pub mod Stores
 pub mod Backwards

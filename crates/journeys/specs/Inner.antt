@@ -1,5 +1,4 @@
 -- What the functions that read the front and a journey off the arrivals table promise each other. No exported contract cites this file.
-pub mod Walk
 use mathlib.Core.Path.{_≡_}
 use mathlib.Core.Bool.{Bool, true, false, _&&_}
 use mathlib.Core.List.{List, [], _∷_, _++_, map}
@@ -8,7 +7,7 @@ use Prim.Native.Nat.{ℕ, zero, suc, _*_, _+_, _≤_, _<_, _%_}
 use lib.Dec.{eqb, leb}
 use lib.ListN.{length, getD}
 use lib.Seq.{sets}
-use Rattle.sheet.specs.Lists.{pick, number, numbersFrom, rows, filter, bind, lexb}
+use Rattle.sheet.specs.Lists.{_∈_, pick, number, numbersFrom, rows, filter, bind, lexb}
 use Rattle.sheet.specs.Sheet.{Sheet}
 use Rattle.sheet.specs.Valid.{Valid}
 use Rattle.sheet.specs.Kinds.{kindC}
@@ -17,7 +16,10 @@ use Rattle.costs.specs.Costs.{Cost, figures, sameb}
 use Rattle.intervals.specs.Intervals.{sinceOf}
 use Rattle.arrivals.specs.Arrivals.{Arrival, arrival, leading}
 use Rattle.journeys.specs.Journeys.{journeyOf, arrivalOf}
-use Rattle.journeys.specs.Front.{OnFront, frontOf}
+use Rattle.journeys.specs.Front.{OnFront, undominatedb, frontOf}
+use Rattle.journeys.specs.declared.offered.Offered.{Offered}
+
+pub mod Walk
 
 -- the arrival that a row of five numbers stands for
 abbrev pub rowOf : List ℕ → Arrival
@@ -47,6 +49,40 @@ abbrev pub nextIn : List Cost → Option Cost → Option Cost
 nextIn [] last = none
 nextIn (x ∷ l) none = some x
 nextIn (x ∷ l) (some a) = let r = nextIn l (some a) in pick (lexb a x) (some x) r
+
+abbrev pub asOffered : Offered → Option Cost
+asOffered r = pick (r .found) (some (r .cost)) none
+
+-- r is the first cost above `last` on the front of the arrivals l, with the step of its first arrival
+pub record NextIs (l : List Arrival) (last : Option Cost) (r : Offered) : Type 0 where
+  pub next : asOffered r ≡ nextIn (frontOf (costsOf l)) last
+  pub step : r .found ≡ true → r .step ≡ firstStep (r .cost) l
+
+-- g is above `last`, if there is one
+abbrev pub above : Option Cost → Cost → Bool
+above none g = true
+above (some a) g = lexb a g
+
+-- g is below `best`, if there is one
+abbrev pub below : Option Cost → Cost → Bool
+below none g = true
+below (some a) g = lexb g a
+
+-- among the arrivals p, an arrival at the cost g, which is above `last` and which no arrival of l dominates
+pub record Candidate (l : List Arrival) (last : Option Cost) (p : List Arrival) (g : Cost) : Type 0 where
+  pub member : g ∈ costsOf p
+  pub is-above : above last g ≡ true
+  pub undominated : undominatedb (costsOf l) g ≡ true
+
+-- r is the least candidate among the arrivals p, with the step of its first arrival; or there is none
+pub record BestUpTo (l : List Arrival) (last : Option Cost) (p : List Arrival) (r : Offered) : Type 0 where
+  pub is : r .found ≡ true → Candidate l last p (r .cost) × (r .step ≡ firstStep (r .cost) p)
+  pub least : (g : Cost) → Candidate l last p g → (r .found ≡ true) × (lexb g (r .cost) ≡ false)
+
+-- r is the cost with number i on the front of the arrivals l, with the step of its first arrival; or there is none
+pub record NumberIs (l : List Arrival) (i : ℕ) (r : Offered) : Type 0 where
+  pub on : r .found ≡ true → (i < length (frontOf (costsOf l))) × (r .cost ≡ getD (frontOf (costsOf l)) i []) × (r .step ≡ firstStep (r .cost) l)
+  pub off : r .found ≡ false → length (frontOf (costsOf l)) ≤ i
 
 -- the rows of the front list
 abbrev pub offeredRows : List Arrival → List ℕ

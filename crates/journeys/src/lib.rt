@@ -6,6 +6,7 @@ use sheet::SheetWritten;
 use sheet::reader::read;
 use sheet::writer::write;
 
+pub mod offered; // offered.rt: the front off the arrivals table
 pub mod walk; // walk.rt: the journey of a front cost
 
 // What a call of the front hands back: the count of front costs and the number of leading arrivals.
