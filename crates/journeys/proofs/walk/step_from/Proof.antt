@@ -60,8 +60,8 @@ returns-3 : tie.Need-returns-3
 returns-3 c = 
     let s = c .before .before .before .before .before .before .before .before .before .before .before .before .before .before in
     let m = c .before .before .before .before .before .before .before .before .before .move-cost in
-    let open = not-false _ (c .before .before .before .before .before .before .before .if1 .left) in
-    step-done (m .result) (m .ensures) open _ (c .before .before .less .ensures) (s .pre .1) (s .pre .2) _ (waits-as (c .before .wait-at .ensures)) _ (c .becomes .ensures)
+    let o = not-false _ (c .before .before .before .before .before .before .before .if1 .left) in
+    step-done (m .result) (m .ensures) o _ (c .before .before .less .ensures) (s .pre .1) (s .pre .2) _ (waits-as (c .before .wait-at .ensures)) _ (c .becomes .ensures)
 
 pub step-from-spec : {M : Type 1} → statement M
 step-from-spec =
