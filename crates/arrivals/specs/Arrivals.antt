@@ -1,12 +1,12 @@
 -- Arrivals and leading arrivals (document 01, "Safe intervals and leading arrivals"; 001: labels, definition 2), and the arrivals table.
 use mathlib.Core.Path.{_≡_}
 use mathlib.Core.Logic.{_≢_}
-use mathlib.Core.Bool.{Bool, not, _&&_}
-use mathlib.Core.List.{List, _∷_, _++_, map}
+use mathlib.Core.Bool.{Bool, true, false, not, _&&_}
+use mathlib.Core.List.{List, [], _∷_, _++_, map}
 use Prim.Native.Nat.{ℕ, zero, suc, _-_, _≤_, _/_}
 use lib.Dec.{eqb, leb, ltb}
 use lib.ListN.{length}
-use Rattle.sheet.specs.Lists.{number, filled, filter, all, bind, sortUnique}
+use Rattle.sheet.specs.Lists.{pick, number, filled, filter, all, bind, sortUnique}
 use Rattle.sheet.specs.Sheet.{Sheet, steps}
 use Rattle.costs.specs.Costs.{Cost, add, times, AtMost, atMostb, sameb}
 use Rattle.costs.specs.Moves.{waitOf}
@@ -103,3 +103,16 @@ crowded s n = ltb (arrivalRoom n) (length (leading s))
 unfoldable pub arrivalTable : Sheet → ℕ → List ℕ
 unfolding leading
 arrivalTable s n = filled n (bind (leading s) arrivalRow)
+
+-- the search: whether it is served, the number of leading arrivals handed back, and the table afterwards
+pub record SearchEnd : Type 0 where
+  pub served : Bool
+  pub arrivals : ℕ
+  pub table : List ℕ
+
+-- served unless there are more leading arrivals than room; otherwise the whole table is zero
+unfoldable pub searchOn : Sheet → List ℕ → SearchEnd
+unfolding crowded leading arrivalTable
+searchOn s table =
+    let r = record { served = true; arrivals = length (leading s); table = arrivalTable s (length table) } in
+    pick (crowded s (length table)) (record { served = false; arrivals = 0; table = filled (length table) [] }) r

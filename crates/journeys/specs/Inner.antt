@@ -8,16 +8,18 @@ use lib.Dec.{eqb, leb}
 use lib.ListN.{length, getD}
 use lib.Seq.{sets}
 use Rattle.sheet.specs.Lists.{_∈_, pick, number, numbersFrom, rows, filter, bind, lexb}
-use Rattle.sheet.specs.Sheet.{Sheet}
+use Rattle.sheet.specs.Sheet.{Sheet, Outcome, refused, loaded, readOf}
 use Rattle.sheet.specs.Valid.{Valid}
 use Rattle.sheet.specs.Kinds.{kindC}
-use Rattle.sheet.specs.Calls.{groupRows}
+use Rattle.sheet.specs.Calls.{groupRows, readAnswer}
 use Rattle.costs.specs.Costs.{Cost, figures, sameb}
 use Rattle.intervals.specs.Intervals.{sinceOf}
-use Rattle.arrivals.specs.Arrivals.{Arrival, arrival, leading}
+use Rattle.arrivals.specs.Arrivals.{Arrival, arrival, leading, arrivalTable}
 use Rattle.journeys.specs.Journeys.{journeyOf, arrivalOf}
 use Rattle.journeys.specs.Front.{OnFront, undominatedb, frontOf}
+use Rattle.journeys.specs.Calls.{mostRows, noRoom, cleared}
 use Rattle.journeys.specs.declared.offered.Offered.{Offered}
+use Rattle.journeys.specs.declared.prepare.Prepared.{Prepared}
 
 pub mod Walk
 
@@ -114,3 +116,18 @@ pub record Walkable (head corridors : List ℕ) (n : ℕ) (table since : List �
 
 pub record WalkIs (head corridors : List ℕ) (n : ℕ) (table since : List ℕ) (A : ℕ) (f : Cost) (path path′ : List ℕ) : Type 0 where
   pub of : (s : Sheet) → Walks head corridors n table since A f s → path′ ≡ sets path 0 (journeyOf s f)
+
+-- the table holds the rows of the leading arrivals of the sheet s, which was read, and zeros
+pub record ReadyOn (s : Sheet) (table : List ℕ) (r : Prepared) : Type 0 where
+  pub served : r .refusal ≡ 0
+  pub filled-table : table ≡ arrivalTable s (length table)
+  pub counted : r .arrivals ≡ length (leading s)
+  pub fits : length (leading s) ≤ mostRows
+  pub read-sheet : r .sheet ≡ readAnswer (loaded s)
+
+-- the sheet with the bytes b was read and its leading arrivals were searched into the lent table
+pub record PreparedIs (b table table′ : List ℕ) (r : Prepared) : Type 0 where
+  pub same-length : length table′ ≡ length table
+  pub of-refused : (k l : ℕ) → readOf b ≡ refused k l → (r .refusal ≡ k) × (r .line ≡ l) × (table′ ≡ table)
+  pub of-crowded : (s : Sheet) → readOf b ≡ loaded s → noRoom s (length table) ≡ true → (r .refusal ≡ 8) × (r .line ≡ 0) × (table′ ≡ cleared table)
+  pub of-ready : (s : Sheet) → readOf b ≡ loaded s → noRoom s (length table) ≡ false → ReadyOn s table′ r

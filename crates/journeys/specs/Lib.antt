@@ -4,4 +4,5 @@ pub mod Calls
 pub mod Page
 pub mod Demand3
 pub mod Inner
+pub mod Stub
 pub mod Laws

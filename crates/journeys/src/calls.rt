@@ -1,0 +1,76 @@
+// The front of a sheet and a journey of it, from the sheet's bytes to every cell of the lent arrays.
+ghost use mathlib.Core.Path.{_≡_};
+ghost use Prim.Native.Nat.{ℕ};
+ghost use Rattle.journeys.specs.Calls.{frontEnd, frontCall, journeyEnd, journeyCall};
+use crate::FrontAnswer;
+use crate::JourneyAnswer;
+use crate::offered::{clear_from, count_costs, list_costs, nth_cost};
+use crate::prepare::{prepare, usable_of};
+use crate::walk::walk_back;
+use intervals::fill_since;
+
+fn refuse_front(number: u32, line: u32) -> FrontAnswer
+    ensures { λ r. ⌜ (r .refusal ≡ number) × (r .line ≡ line) × (r .costs ≡ 0) × (r .arrivals ≡ 0) ⌝ }
+{
+    FrontAnswer { refusal: number, line, costs: 0, arrivals: 0 }
+}
+
+// The front of the sheet: the arrivals table and the front list filled, zeros to their ends; or a refusal, 1 to 9. The front is counted before
+// anything is written into the list.
+pub fn front(sheet: &[u8], table: &mut [u32], list: &mut [u32]) -> FrontAnswer
+    ensures { λ r. ⌜ frontEnd r (now (table .exit)) (now (list .exit)) ≡ frontCall (now (sheet .entry)) (now (table .entry)) (now (list .entry)) ⌝ }
+{
+    let p = prepare(sheet, table);
+    if p.refusal != 0 {
+        return refuse_front(p.refusal, p.line);
+    }
+    let s = p.sheet;
+    let head = s.head;
+    let n = p.arrivals;
+    let costs = count_costs(table, n, head[3], head[1]);
+    if usable_of(list.len(), 4) / 4 < costs {
+        clear_from(table, 0);
+        return refuse_front(9, 0);
+    }
+    list_costs(table, n, head[3], head[1], list);
+    FrontAnswer { refusal: 0, line: 0, costs: costs as u32, arrivals: n as u32 }
+}
+
+fn refuse_journey(number: u32, line: u32) -> JourneyAnswer
+    ensures { λ r. ⌜ r .refusal ≡ number ⌝ }
+{
+    JourneyAnswer { refusal: number, line, cost: [0; 3], arrival: 0 }
+}
+
+// The journey with a number in the front, from 0: the path buffer holds one place for each step, then zeros, and the arrivals table is filled; or
+// a refusal, 1 to 8, 10 or 11.
+pub fn journey(sheet: &[u8], number: u32, table: &mut [u32], path: &mut [u32]) -> JourneyAnswer
+    ensures { λ r. ⌜ journeyEnd r (now (table .exit)) (now (path .exit)) ≡ journeyCall (now (sheet .entry)) number (now (table .entry)) (now (path .entry)) ⌝ }
+{
+    let p = prepare(sheet, table);
+    if p.refusal != 0 {
+        return refuse_journey(p.refusal, p.line);
+    }
+    let s = p.sheet;
+    let head = s.head;
+    let corridors = s.corridors;
+    let occupancies = s.occupancies;
+    let lines = s.lines;
+    let n = p.arrivals;
+    let o = nth_cost(table, n, head[3], head[1], number as usize);
+    if !o.found {
+        clear_from(table, 0);
+        return refuse_journey(10, 0);
+    }
+    if path.len() <= o.step as usize {
+        clear_from(table, 0);
+        return refuse_journey(11, 0);
+    }
+    let mut since = [0u16; 16384];
+    let c = lines[1] as usize * 5;
+    let q = lines[2] as usize * 3;
+    fill_since(&occupancies[..q], &mut since);
+    walk_back(&head, &corridors[..c], table, n, &since, o.step, o.cost, path);
+    clear_from(path, o.step as usize + 1);
+    JourneyAnswer { refusal: 0, line: 0, cost: o.cost, arrival: o.step }
+}
