@@ -114,5 +114,5 @@ pub record SearchEnd : Type 0 where
 unfoldable pub searchOn : Sheet → List ℕ → SearchEnd
 unfolding crowded leading arrivalTable
 searchOn s table =
-    let r = record { served = true; arrivals = length (leading s); table = arrivalTable s (length table) } in
+    let r : SearchEnd = record { served = true; arrivals = length (leading s); table = arrivalTable s (length table) } in
     pick (crowded s (length table)) (record { served = false; arrivals = 0; table = filled (length table) [] }) r

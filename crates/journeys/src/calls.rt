@@ -66,11 +66,13 @@ pub fn journey(sheet: &[u8], number: u32, table: &mut [u32], path: &mut [u32]) -
         clear_from(table, 0);
         return refuse_journey(11, 0);
     }
+    let cost = o.cost;
+    let arrival = o.step;
     let mut since = [0u16; 16384];
     let c = lines[1] as usize * 5;
     let q = lines[2] as usize * 3;
     fill_since(&occupancies[..q], &mut since);
-    walk_back(&head, &corridors[..c], table, n, &since, o.step, o.cost, path);
-    clear_from(path, o.step as usize + 1);
-    JourneyAnswer { refusal: 0, line: 0, cost: o.cost, arrival: o.step }
+    walk_back(&head, &corridors[..c], table, n, &since, arrival, cost, path);
+    clear_from(path, arrival as usize + 1);
+    JourneyAnswer { refusal: 0, line: 0, cost, arrival }
 }

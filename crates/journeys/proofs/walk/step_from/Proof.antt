@@ -11,12 +11,12 @@ use Rattle.journeys.proofs.walk.step_from.Statement.{statement}
 use Rattle.journeys.proofs.walk.step_from.Tie as tie
 
 move-cost-requires : tie.Need-move-cost-requires
-move-cost-requires c κs = 
+move-cost-requires c κs =
     let k = c .before .before .before .before .pre .0 in
     (head-seven k, few-corridors k, k .whole)
 
 returns : tie.Need-returns
-returns c = 
+returns c =
     let m = c .before .before .move-cost in
     step-closed (m .result) (m .ensures) _ (not-true _ (c .if1 .taken))
 
@@ -24,7 +24,7 @@ at-most-requires : tie.Need-at-most-requires
 at-most-requires c κs = search needs
 
 returns-2 : tie.Need-returns-2
-returns-2 c = 
+returns-2 c =
     let m = c .before .before .before .before .before .move-cost in
     step-dear (m .result) (m .ensures) _ (not-false _ (c .before .before .before .if1 .left)) (dearer (c .before .at-most .ensures) (not-true _ (c .if2 .taken)))
 
@@ -41,7 +41,7 @@ shared-slice-read-low : tie.Need-shared-slice-read-low
 shared-slice-read-low c = search needs
 
 cast-low : tie.Need-cast-low
-cast-low c = 
+cast-low c =
     let a = c .before .before .before .before .before .before .before .before .before .before .before .args in
     omega (arith, c .shared-slice-known5 .given (a .u * 256 + a .t))
 
@@ -52,16 +52,16 @@ wait-at-requires : tie.Need-wait-at-requires
 wait-at-requires c κs = search needs
 
 becomes-requires : tie.Need-becomes-requires
-becomes-requires c κs = 
+becomes-requires c κs =
     let s = c .before .before .before .before .before .before .before .before .before .before .before .before .before in
     (s .pre .0 .room, omega (arith, s .pre .2), wait-within (s .pre .0) (s .args .u) _ (waits-as (c .wait-at .ensures)))
 
 returns-3 : tie.Need-returns-3
-returns-3 c = 
+returns-3 c =
     let s = c .before .before .before .before .before .before .before .before .before .before .before .before .before .before in
     let m = c .before .before .before .before .before .before .before .before .before .move-cost in
-    let o = not-false _ (c .before .before .before .before .before .before .before .if1 .left) in
-    step-done (m .result) (m .ensures) o _ (c .before .before .less .ensures) (s .pre .1) (s .pre .2) _ (waits-as (c .before .wait-at .ensures)) _ (c .becomes .ensures)
+    let is-open = not-false _ (c .before .before .before .before .before .before .before .if1 .left) in
+    step-done (m .result) (m .ensures) is-open _ (c .before .before .less .ensures) (s .pre .1) (s .pre .2) _ (waits-as (c .before .wait-at .ensures)) _ (c .becomes .ensures)
 
 pub step-from-spec : {M : Type 1} → statement M
 step-from-spec =
