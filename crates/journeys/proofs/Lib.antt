@@ -2,3 +2,4 @@ pub mod Rowwise
 pub mod Stepping
 pub mod Stores
 pub mod Backwards
+pub mod Ready

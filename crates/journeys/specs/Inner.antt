@@ -17,7 +17,7 @@ use Rattle.intervals.specs.Intervals.{sinceOf}
 use Rattle.arrivals.specs.Arrivals.{Arrival, arrival, leading, arrivalTable}
 use Rattle.journeys.specs.Journeys.{journeyOf, arrivalOf}
 use Rattle.journeys.specs.Front.{OnFront, undominatedb, frontOf}
-use Rattle.journeys.specs.Calls.{mostRows, noRoom, cleared}
+use Rattle.journeys.specs.Calls.{noRoom, cleared}
 use Rattle.journeys.specs.declared.offered.Offered.{Offered}
 use Rattle.journeys.specs.declared.prepare.Prepared.{Prepared}
 
@@ -118,16 +118,20 @@ pub record WalkIs (head corridors : List ℕ) (n : ℕ) (table since : List ℕ)
   pub of : (s : Sheet) → Walks head corridors n table since A f s → path′ ≡ sets path 0 (journeyOf s f)
 
 -- the table holds the rows of the leading arrivals of the sheet s, which was read, and zeros
-pub record ReadyOn (s : Sheet) (table : List ℕ) (r : Prepared) : Type 0 where
+pub record ReadyOn (s : Sheet) (table table′ : List ℕ) (r : Prepared) : Type 0 where
   pub served : r .refusal ≡ 0
-  pub filled-table : table ≡ arrivalTable s (length table)
+  pub filled-table : table′ ≡ arrivalTable s (length table)
   pub counted : r .arrivals ≡ length (leading s)
-  pub fits : length (leading s) ≤ mostRows
   pub read-sheet : r .sheet ≡ readAnswer (loaded s)
 
+-- a refusal, which leaves table′ behind
+pub record RefusedAs (k n : ℕ) (table′ : List ℕ) (r : Prepared) (t : List ℕ) : Type 0 where
+  pub number-is : r .refusal ≡ k
+  pub line-is : r .line ≡ n
+  pub table-is : t ≡ table′
+
 -- the sheet with the bytes b was read and its leading arrivals were searched into the lent table
-pub record PreparedIs (b table table′ : List ℕ) (r : Prepared) : Type 0 where
-  pub same-length : length table′ ≡ length table
-  pub of-refused : (k l : ℕ) → readOf b ≡ refused k l → (r .refusal ≡ k) × (r .line ≡ l) × (table′ ≡ table)
-  pub of-crowded : (s : Sheet) → readOf b ≡ loaded s → noRoom s (length table) ≡ true → (r .refusal ≡ 8) × (r .line ≡ 0) × (table′ ≡ cleared table)
-  pub of-ready : (s : Sheet) → readOf b ≡ loaded s → noRoom s (length table) ≡ false → ReadyOn s table′ r
+pub data PreparedIs (b table table′ : List ℕ) (r : Prepared) : Type 0 where
+  unread : (k n : ℕ) → readOf b ≡ refused k n → RefusedAs k n table r table′ → PreparedIs b table table′ r
+  full : (s : Sheet) → readOf b ≡ loaded s → noRoom s (length table) ≡ true → RefusedAs 8 0 (cleared table) r table′ → PreparedIs b table table′ r
+  ready : (s : Sheet) → readOf b ≡ loaded s → noRoom s (length table) ≡ false → ReadyOn s table table′ r → PreparedIs b table table′ r
