@@ -3,3 +3,4 @@ pub mod Stepping
 pub mod Stores
 pub mod Backwards
 pub mod Ready
+pub mod Ends

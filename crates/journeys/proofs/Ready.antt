@@ -121,7 +121,7 @@ room-fits s n e =
     let d = div-add-mod' (usable 5 n) 5 in
     (omega (arith, h, d, usable-most 5 n .1), omega (arith, h, d))
 
-filled-length : (m : ℕ) (l : List ℕ) → length l ≤ m → length (filled m l) ≡ m
+pub filled-length : (m : ℕ) (l : List ℕ) → length l ≤ m → length (filled m l) ≡ m
 filled-length m l h = omega (arith, length-append l (replicate (m - length l) 0), length-replicate {A = ℕ} (m - length l) 0)
 
 -- the table, once t stands for its first m numbers and zeros past them

@@ -1,7 +1,7 @@
 // The front of a sheet and a journey of it, from the sheet's bytes to every cell of the lent arrays.
 ghost use mathlib.Core.Path.{_≡_};
-ghost use Prim.Native.Nat.{ℕ};
-ghost use Rattle.journeys.specs.Calls.{frontEnd, frontCall, journeyEnd, journeyCall};
+ghost use mathlib.Core.List.{[]};
+ghost use Rattle.journeys.specs.Calls.{frontEnd, frontRefused, frontCall, journeyEnd, journeyRefused, journeyCall};
 use crate::FrontAnswer;
 use crate::JourneyAnswer;
 use crate::offered::{clear_from, count_costs, list_costs, nth_cost};
@@ -10,7 +10,7 @@ use crate::walk::walk_back;
 use intervals::fill_since;
 
 fn refuse_front(number: u32, line: u32) -> FrontAnswer
-    ensures { λ r. ⌜ (r .refusal ≡ number) × (r .line ≡ line) × (r .costs ≡ 0) × (r .arrivals ≡ 0) ⌝ }
+    ensures { λ r. ⌜ r ≡ frontRefused number line [] [] .answer ⌝ }
 {
     FrontAnswer { refusal: number, line, costs: 0, arrivals: 0 }
 }
@@ -37,7 +37,7 @@ pub fn front(sheet: &[u8], table: &mut [u32], list: &mut [u32]) -> FrontAnswer
 }
 
 fn refuse_journey(number: u32, line: u32) -> JourneyAnswer
-    ensures { λ r. ⌜ r .refusal ≡ number ⌝ }
+    ensures { λ r. ⌜ r ≡ journeyRefused number line [] [] .answer ⌝ }
 {
     JourneyAnswer { refusal: number, line, cost: [0; 3], arrival: 0 }
 }
