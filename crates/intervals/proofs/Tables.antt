@@ -162,8 +162,8 @@ module _ (s : Sheet) (v : ℕ) where
         ∙ next-found t (omega arith)
 
 -- the turned marks of a group are its first steps
-pub since-table : (l marks since : List ℕ) → Marked l (length l / 3) marks → Turned marks since → SinceTable l since
-since-table l marks since m h = record { of = table }
+pub since-table : (l marks since : List ℕ) → Marked l (length l / 3) marks → Turned marks since → length since ≡ 16384 → SinceTable l since
+since-table l marks since m h n = record { size = n; of = table }
   where
     table : (s : Sheet) → s .occupancies ≡ groupRows kindO l → (v t : ℕ) → v < 64 → t < 256 → entry since v t ≡ sinceOf s v t
     table s e v t p q = h .every (v * 256 + t) (omega arith) ∙ found-since s v marks (λ u b. mark u b (freeb s v u) refl) t q

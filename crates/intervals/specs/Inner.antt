@@ -26,6 +26,7 @@ pub record ValidGroup (occupancies : List ℕ) : Type 0 where
 
 -- the table holds the first steps of the free runs, on every sheet with these occupancies
 pub record SinceTable (occupancies since : List ℕ) : Type 0 where
+  pub size : length since ≡ 16384
   pub of : (s : Sheet) → s .occupancies ≡ groupRows kindO occupancies → (v t : ℕ) → v < 64 → t < 256 → number since (v * 256 + t) ≡ sinceOf s v t
 
 -- line k occupies place v at step t

@@ -4,3 +4,4 @@ pub mod Stores
 pub mod Backwards
 pub mod Ready
 pub mod Ends
+pub mod Laid

@@ -117,6 +117,14 @@ pub record Walkable (head corridors : List ℕ) (n : ℕ) (table since : List �
 pub record WalkIs (head corridors : List ℕ) (n : ℕ) (table since : List ℕ) (A : ℕ) (f : Cost) (path path′ : List ℕ) : Type 0 where
   pub of : (s : Sheet) → Walks head corridors n table since A f s → path′ ≡ sets path 0 (journeyOf s f)
 
+-- on the sheet s, whose leading arrivals the table holds, the journey of the front cost f arrives at step A, and the path buffer has room for it
+pub record Layable (s : Sheet) (n : ℕ) (table : List ℕ) (A : ℕ) (f : Cost) (path : List ℕ) : Type 0 where
+  pub valid : Valid s
+  pub holds : Holds s n table
+  pub on-front : OnFront s f
+  pub arrives-at : A ≡ arrivalOf s f
+  pub room : suc A ≤ length path
+
 -- the table holds the rows of the leading arrivals of the sheet s, which was read, and zeros
 pub record ReadyOn (s : Sheet) (table table′ : List ℕ) (r : Prepared) : Type 0 where
   pub served : r .refusal ≡ 0

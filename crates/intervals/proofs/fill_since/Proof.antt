@@ -15,7 +15,7 @@ turn-requires : tie.Need-turn-requires
 turn-requires c κs = search needs
 
 returns : tie.Need-returns
-returns c = since-table _ _ _ (c .before .before .mark-all .ensures) (c .turn .ensures)
+returns c = since-table _ _ _ (c .before .before .mark-all .ensures) (c .turn .ensures) (search needs)
 
 pub fill-since-spec : {M : Type 1} → statement M
 fill-since-spec = tie.close (tie.spec clear-requires mark-all-requires turn-requires returns)

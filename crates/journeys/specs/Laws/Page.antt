@@ -62,7 +62,7 @@ member (x ∷ l) zero m = inl refl
 member (x ∷ l) (suc i) m = inr (member l i (omega arith))
 
 -- a journey of a valid sheet has a place for each step 0 to its arrival, at most 256 in all
-journey-length : (s : Sheet) (g : Cost) → HasCost s g → length (journeyOf s g) ≡ suc (arrivalOf s g)
+pub journey-length : (s : Sheet) (g : Cost) → HasCost s g → length (journeyOf s g) ≡ suc (arrivalOf s g)
 unfolding arrivalOf
 journey-length s g h = let j = journeyOf-selected s g h .journey in omega (arith, j .way .places)
 

@@ -1,158 +1,176 @@
+-- `journeys::calls::journey` meets its contract: where `prepare` refuses, so does the call; otherwise the cost with the number is that of the front, its
+-- step is the arrival step of its journey, and the branches are those of `journeyOn`.
+-- Assumes nothing.
+use mathlib.Core.Path.{sym, _∙_, ap}
+use native.Mathlib.Omega.{arith}
+use lib.ListN.{length}
+use lib.Seq.{length-take-le}
 use borrow.Author.Needs.{needs}
+use borrow.Author.Tests.{not-true, not-false}
+use Rattle.journeys.proofs.Ready.{corridors-whole, occupancies-whole}
+use Rattle.journeys.proofs.Ends.{prepared-ready, journey-refused, journey-ten, journey-eleven, journey-end, layable}
 use Rattle.journeys.proofs.calls.journey.Statement.{statement}
 use Rattle.journeys.proofs.calls.journey.Tie as tie
 use Rattle.journeys.proofs.calls.journey.Reads as reads
 use Rattle.journeys.proofs.calls.journey.Lts as lts
-use Rattle.intervals.proofs.fill_since.Reads as fill-since-reads
+use Rattle.journeys.proofs.calls.lay_path.Reads as lay-path-reads
 use Rattle.journeys.proofs.calls.refuse_journey.Reads as refuse-journey-reads
 use Rattle.journeys.proofs.offered.clear_from.Reads as clear-from-reads
 use Rattle.journeys.proofs.offered.nth_cost.Reads as nth-cost-reads
 use Rattle.journeys.proofs.prepare.prepare.Reads as prepare-reads
-use Rattle.journeys.proofs.walk.walk_back.Reads as walk-back-reads
 
--- src/calls.rt:50:9
 prepare-requires : tie.Need-prepare-requires
 prepare-requires c κs = search needs
 
--- src/calls.rt:52:9
 refuse-journey-requires : tie.Need-refuse-journey-requires
 refuse-journey-requires c κs = search needs
 
--- src/calls.rt:52:9
 same-length : tie.Need-same-length
 same-length c = search needs
 
--- src/calls.rt:52:9
 returns : tie.Need-returns
-returns c = ?
+returns c = 
+    let q = c .before .before .before .before .before .prepare in
+    let a = c .before .before .before .before .before .before .before .before .before .before .args in
+    journey-refused (a .sheet .now) (a .number) (a .table .now) (a .path .now) (q .last .1 .0) (q .result) (c .refuse-journey .result) (c .refuse-journey .ensures) (q .ensures) (c .before .if1 .taken)
 
--- src/calls.rt:60:32
 array-read-nth-cost : tie.Need-array-read-nth-cost
 array-read-nth-cost c = search needs
 
--- src/calls.rt:60:41
 array-read-nth-cost-2 : tie.Need-array-read-nth-cost-2
 array-read-nth-cost-2 c = search needs
 
--- src/calls.rt:60:9
 nth-cost-requires : tie.Need-nth-cost-requires
-nth-cost-requires c κs = ?
+nth-cost-requires c κs = 
+    let q = c .before .before .before .before .before .before .before .prepare in
+    let a = c .before .before .before .before .before .before .before .before .before .before .before .before .args in
+    let p = prepared-ready (a .sheet .now) (a .table .now) (q .last .1 .0) (q .result) (q .ensures) (c .before .before .before .if1 .left) in
+    (omega (arith, p .few), p .holds .room)
 
--- src/calls.rt:62:9
 clear-from-requires : tie.Need-clear-from-requires
 clear-from-requires c κs = search needs
 
--- src/calls.rt:63:9
 refuse-journey-requires-2 : tie.Need-refuse-journey-requires-2
 refuse-journey-requires-2 c κs = search needs
 
--- src/calls.rt:63:9
 same-length-2 : tie.Need-same-length-2
 same-length-2 c = search needs
 
--- src/calls.rt:63:9
 returns-2 : tie.Need-returns-2
-returns-2 c = ?
+returns-2 c = 
+    let q = c .before .before .before .before .before .before .before .before .before .before .before .before .before .before .before .prepare in
+    let a = c .before .before .before .before .before .before .before .before .before .before .before .before .before .before .before .before .before .before .before .before .args in
+    let p = prepared-ready (a .sheet .now) (a .table .now) (q .last .1 .0) (q .result) (q .ensures) (c .before .before .before .before .before .before .before .before .before .before .before .if1 .left) in
+    journey-ten (a .sheet .now) (a .number) (a .table .now) (a .path .now) (q .last .1 .0) (q .result) p (c .before .before .before .before .before .before .before .nth-cost .result) (c .before .before .before .before .before .before .before .nth-cost .ensures) (c .refuse-journey2 .result) (c .before .before .before .clear-from .last .0) (c .refuse-journey2 .ensures) (c .before .before .before .clear-from .ensures) (not-true _ (c .before .before .before .before .before .if2 .taken))
 
--- src/calls.rt:65:22
 cast-if3 : tie.Need-cast-if3
 cast-if3 c = search needs
 
--- src/calls.rt:66:9
 clear-from-requires-2 : tie.Need-clear-from-requires-2
 clear-from-requires-2 c κs = search needs
 
--- src/calls.rt:67:9
 refuse-journey-requires-3 : tie.Need-refuse-journey-requires-3
 refuse-journey-requires-3 c κs = search needs
 
--- src/calls.rt:67:9
 same-length-3 : tie.Need-same-length-3
 same-length-3 c = search needs
 
--- src/calls.rt:67:9
 returns-3 : tie.Need-returns-3
-returns-3 c = ?
+returns-3 c = 
+    let q = c .before .before .before .before .before .before .before .before .before .before .before .before .before .before .before .before .prepare in
+    let a = c .before .before .before .before .before .before .before .before .before .before .before .before .before .before .before .before .before .before .before .before .before .args in
+    let p = prepared-ready (a .sheet .now) (a .table .now) (q .last .1 .0) (q .result) (q .ensures) (c .before .before .before .before .before .before .before .before .before .before .before .before .if1 .left) in
+    journey-eleven (a .sheet .now) (a .number) (a .table .now) (a .path .now) (q .last .1 .0) (q .result) p (c .before .before .before .before .before .before .before .before .nth-cost .result) (c .before .before .before .before .before .before .before .before .nth-cost .ensures) (c .refuse-journey3 .result) (c .before .before .before .clear-from2 .last .0) (c .refuse-journey3 .ensures) (c .before .before .before .clear-from2 .ensures) (not-false _ (c .before .before .before .before .before .before .if2 .left)) (c .before .before .before .before .before .if3 .taken)
 
--- src/calls.rt:72:13
 array-read-c : tie.Need-array-read-c
 array-read-c c = search needs
 
--- src/calls.rt:72:13
 cast-c : tie.Need-cast-c
-cast-c c = ?
+cast-c c = 
+    let q = c .before .before .before .before .before .before .before .before .before .before .before .before .before .before .before .prepare in
+    let a = c .before .before .before .before .before .before .before .before .before .before .before .before .before .before .before .before .before .before .before .before .args in
+    let p = prepared-ready (a .sheet .now) (a .table .now) (q .last .1 .0) (q .result) (q .ensures) (c .before .before .before .before .before .before .before .before .before .before .before .if1 .left) in
+    omega (arith, p .groups .corridors-of .few)
 
--- src/calls.rt:72:13
 mul-c : tie.Need-mul-c
-mul-c c = ?
+mul-c c = 
+    let q = c .before .before .before .before .before .before .before .before .before .before .before .before .before .before .before .prepare in
+    let a = c .before .before .before .before .before .before .before .before .before .before .before .before .before .before .before .before .before .before .before .before .args in
+    let p = prepared-ready (a .sheet .now) (a .table .now) (q .last .1 .0) (q .result) (q .ensures) (c .before .before .before .before .before .before .before .before .before .before .before .if1 .left) in
+    omega (arith, p .groups .corridors-of .few)
 
--- src/calls.rt:73:13
 array-read-q : tie.Need-array-read-q
 array-read-q c = search needs
 
--- src/calls.rt:73:13
 cast-q : tie.Need-cast-q
-cast-q c = ?
+cast-q c = 
+    let q = c .before .before .before .before .before .before .before .before .before .before .before .before .before .before .before .prepare in
+    let a = c .before .before .before .before .before .before .before .before .before .before .before .before .before .before .before .before .before .before .before .before .args in
+    let p = prepared-ready (a .sheet .now) (a .table .now) (q .last .1 .0) (q .result) (q .ensures) (c .before .before .before .before .before .before .before .before .before .before .before .if1 .left) in
+    omega (arith, p .groups .occupancies-of .few)
 
--- src/calls.rt:73:13
 mul-q : tie.Need-mul-q
-mul-q c = ?
+mul-q c = 
+    let q = c .before .before .before .before .before .before .before .before .before .before .before .before .before .before .before .prepare in
+    let a = c .before .before .before .before .before .before .before .before .before .before .before .before .before .before .before .before .before .before .before .before .args in
+    let p = prepared-ready (a .sheet .now) (a .table .now) (q .last .1 .0) (q .result) (q .ensures) (c .before .before .before .before .before .before .before .before .before .before .before .if1 .left) in
+    omega (arith, p .groups .occupancies-of .few)
 
--- src/calls.rt:74:16
-array-share-prefix-occupancies : tie.Need-array-share-prefix-occupancies
-array-share-prefix-occupancies c = ?
+slice-aggregate-lay-path : tie.Need-slice-aggregate-lay-path
+slice-aggregate-lay-path c = 
+    let q = c .before .before .before .before .before .before .before .before .before .before .before .before .before .before .before .before .prepare in
+    let a = c .before .before .before .before .before .before .before .before .before .before .before .before .before .before .before .before .before .before .before .before .before .args in
+    let p = prepared-ready (a .sheet .now) (a .table .now) (q .last .1 .0) (q .result) (q .ensures) (c .before .before .before .before .before .before .before .before .before .before .before .before .if1 .left) in
+    sym (ap length (p .groups .head-is) ∙ p .valid .seven)
 
--- src/calls.rt:74:16
-slice-aggregate-fill-since : tie.Need-slice-aggregate-fill-since
-slice-aggregate-fill-since c = ?
-
--- src/calls.rt:74:5
-fill-since-requires : tie.Need-fill-since-requires
-fill-since-requires c κs = ?
-
--- src/calls.rt:75:15
-slice-aggregate-walk-back : tie.Need-slice-aggregate-walk-back
-slice-aggregate-walk-back c = ?
-
--- src/calls.rt:75:22
 array-share-prefix-corridors : tie.Need-array-share-prefix-corridors
-array-share-prefix-corridors c = ?
+array-share-prefix-corridors c = 
+    let q = c .before .before .before .before .before .before .before .before .before .before .before .before .before .before .before .before .prepare in
+    let a = c .before .before .before .before .before .before .before .before .before .before .before .before .before .before .before .before .before .before .before .before .before .args in
+    let p = prepared-ready (a .sheet .now) (a .table .now) (q .last .1 .0) (q .result) (q .ensures) (c .before .before .before .before .before .before .before .before .before .before .before .before .if1 .left) in
+    p .groups .corridors-of .within
 
--- src/calls.rt:75:22
-slice-aggregate-walk-back-2 : tie.Need-slice-aggregate-walk-back-2
-slice-aggregate-walk-back-2 c = ?
+slice-aggregate-lay-path-2 : tie.Need-slice-aggregate-lay-path-2
+slice-aggregate-lay-path-2 c = 
+    let q = c .before .before .before .before .before .before .before .before .before .before .before .before .before .before .before .before .before .prepare in
+    let a = c .before .before .before .before .before .before .before .before .before .before .before .before .before .before .before .before .before .before .before .before .before .before .args in
+    let p = prepared-ready (a .sheet .now) (a .table .now) (q .last .1 .0) (q .result) (q .ensures) (c .before .before .before .before .before .before .before .before .before .before .before .before .before .if1 .left) in
+    sym (length-take-le _ _ (p .groups .corridors-of .within))
 
--- src/calls.rt:75:49
-slice-aggregate-walk-back-3 : tie.Need-slice-aggregate-walk-back-3
-slice-aggregate-walk-back-3 c = ?
+array-share-prefix-occupancies : tie.Need-array-share-prefix-occupancies
+array-share-prefix-occupancies c = 
+    let q = c .before .before .before .before .before .before .before .before .before .before .before .before .before .before .before .before .before .prepare in
+    let a = c .before .before .before .before .before .before .before .before .before .before .before .before .before .before .before .before .before .before .before .before .before .before .args in
+    let p = prepared-ready (a .sheet .now) (a .table .now) (q .last .1 .0) (q .result) (q .ensures) (c .before .before .before .before .before .before .before .before .before .before .before .before .before .if1 .left) in
+    p .groups .occupancies-of .within
 
--- src/calls.rt:75:5
-walk-back-requires : tie.Need-walk-back-requires
-walk-back-requires c κs = ?
+slice-aggregate-lay-path-3 : tie.Need-slice-aggregate-lay-path-3
+slice-aggregate-lay-path-3 c = 
+    let q = c .before .before .before .before .before .before .before .before .before .before .before .before .before .before .before .before .before .before .prepare in
+    let a = c .before .before .before .before .before .before .before .before .before .before .before .before .before .before .before .before .before .before .before .before .before .before .before .args in
+    let p = prepared-ready (a .sheet .now) (a .table .now) (q .last .1 .0) (q .result) (q .ensures) (c .before .before .before .before .before .before .before .before .before .before .before .before .before .before .if1 .left) in
+    sym (length-take-le _ _ (p .groups .occupancies-of .within))
 
--- src/calls.rt:76:22
-cast-clear-from : tie.Need-cast-clear-from
-cast-clear-from c = search needs
+lay-path-requires : tie.Need-lay-path-requires
+lay-path-requires c κs = 
+    let q = c .before .before .before .before .before .before .before .before .before .before .before .before .before .before .before .before .before .before .before .before .prepare in
+    let a = c .before .before .before .before .before .before .before .before .before .before .before .before .before .before .before .before .before .before .before .before .before .before .before .before .before .args in
+    let p = prepared-ready (a .sheet .now) (a .table .now) (q .last .1 .0) (q .result) (q .ensures) (c .before .before .before .before .before .before .before .before .before .before .before .before .before .before .before .before .if1 .left) in
+    let g = p .groups in
+    (corridors-whole _ _ g, occupancies-whole _ _ g, layable (a .sheet .now) (a .table .now) (q .last .1 .0) (q .result) p (a .number) (c .before .before .before .before .before .before .before .before .before .before .before .before .nth-cost .result) (c .before .before .before .before .before .before .before .before .before .before .before .before .nth-cost .ensures) (a .path .now) (not-false _ (c .before .before .before .before .before .before .before .before .before .before .if2 .left)) (c .before .before .before .before .before .before .before .before .before .if3 .left))
 
--- src/calls.rt:76:22
-add-clear-from : tie.Need-add-clear-from
-add-clear-from c = search needs
-
--- src/calls.rt:76:5
-clear-from-requires-3 : tie.Need-clear-from-requires-3
-clear-from-requires-3 c κs = search needs
-
--- src/calls.rt:47:1
 same-length-4 : tie.Need-same-length-4
-same-length-4 c = ?
+same-length-4 c = search needs
 
--- src/calls.rt:47:1
 same-length-5 : tie.Need-same-length-5
 same-length-5 c = search needs
 
--- src/calls.rt:47:1
 returns-4 : tie.Need-returns-4
-returns-4 c = ?
+returns-4 c = 
+    let q = c .before .before .before .before .before .before .before .before .before .before .before .before .before .before .before .before .before .before .before .before .before .before .before .prepare in
+    let a = c .before .before .before .before .before .before .before .before .before .before .before .before .before .before .before .before .before .before .before .before .before .before .before .before .before .before .before .before .args in
+    let p = prepared-ready (a .sheet .now) (a .table .now) (q .last .1 .0) (q .result) (q .ensures) (c .before .before .before .before .before .before .before .before .before .before .before .before .before .before .before .before .before .before .before .if1 .left) in
+    journey-end (a .sheet .now) (a .number) (a .table .now) (a .path .now) (q .last .1 .0) (q .result) p (c .before .before .before .before .before .before .before .before .before .before .before .before .before .before .before .nth-cost .result) (c .before .before .before .before .before .before .before .before .before .before .before .before .before .before .before .nth-cost .ensures) (c .before .before .lay-path .last .1 .1 .1 .1 .1 .1 .1 .0) (not-false _ (c .before .before .before .before .before .before .before .before .before .before .before .before .before .if2 .left)) (c .before .before .before .before .before .before .before .before .before .before .before .before .if3 .left) (c .before .before .lay-path .ensures)
 
 pub journey-spec : {M : Type 1} → statement M
 journey-spec =
@@ -180,17 +198,12 @@ journey-spec =
     array-read-q
     cast-q
     mul-q
-    array-share-prefix-occupancies
-    slice-aggregate-fill-since
-    fill-since-requires
-    slice-aggregate-walk-back
+    slice-aggregate-lay-path
     array-share-prefix-corridors
-    slice-aggregate-walk-back-2
-    slice-aggregate-walk-back-3
-    walk-back-requires
-    cast-clear-from
-    add-clear-from
-    clear-from-requires-3
+    slice-aggregate-lay-path-2
+    array-share-prefix-occupancies
+    slice-aggregate-lay-path-3
+    lay-path-requires
     same-length-4
     same-length-5
     returns-4)
