@@ -2,7 +2,7 @@
 -- "Who causes which refusal"), from the sheet's bytes and the arrays as they are lent, for every length and every refusal.
 use mathlib.Core.Bool.{Bool}
 use mathlib.Core.List.{List, [], _∷_, _++_}
-use Prim.Native.Nat.{ℕ, _/_}
+use Prim.Native.Nat.{ℕ, _*_, _/_}
 use lib.Dec.{ltb, leb}
 use lib.ListN.{length, getD}
 use Rattle.sheet.specs.Lists.{pick, filled, bind}
@@ -22,9 +22,22 @@ cleared l = filled (length l) []
 abbrev pub frontRow : Sheet → Cost → List ℕ
 frontRow s g = g ++ (arrivalOf s g ∷ [])
 
+-- the most rows whose number an answer can tell, in 32 bits
+abbrev pub mostRows : ℕ
+mostRows = 4294967295
+
+-- how many of n lent numbers rows of w numbers may take
+abbrev pub usable : ℕ → ℕ → ℕ
+usable w n = pick (ltb (mostRows * w) n) (mostRows * w) n
+
 -- the room of a list of n numbers, in costs
 abbrev pub frontRoom : ℕ → ℕ
-frontRoom n = n / 4
+frontRoom n = usable 4 n / 4
+
+-- there are more leading arrivals than room in a table of n numbers (refusal 8)
+unfoldable pub noRoom : Sheet → ℕ → Bool
+unfolding crowded
+noRoom s n = crowded s (usable 5 n)
 
 -- there are more front costs than room (refusal 9)
 unfoldable pub overfull : Sheet → ℕ → Bool
@@ -36,6 +49,9 @@ pub record FrontEnd : Type 0 where
   pub answer : FrontAnswer
   pub table : List ℕ
   pub list : List ℕ
+
+abbrev pub frontEnd : FrontAnswer → List ℕ → List ℕ → FrontEnd
+frontEnd r table list = record { answer = r; table = table; list = list }
 
 abbrev pub frontRefused : ℕ → ℕ → List ℕ → List ℕ → FrontEnd
 frontRefused k n table list = record { answer = record { refusal = k; line = n; costs = 0; arrivals = 0 }; table = table; list = list }
@@ -51,11 +67,11 @@ frontServed s table list =
 
 -- 8, then 9
 unfoldable pub frontOn : Sheet → List ℕ → List ℕ → FrontEnd
-unfolding crowded overfull frontServed
+unfolding noRoom overfull frontServed
 frontOn s table list =
     let r = frontServed s table list in
     let q = pick (overfull s (length list)) (frontRefused 9 0 (cleared table) list) r in
-    pick (crowded s (length table)) (frontRefused 8 0 (cleared table) list) q
+    pick (noRoom s (length table)) (frontRefused 8 0 (cleared table) list) q
 
 abbrev pub frontRead : Outcome → List ℕ → List ℕ → FrontEnd
 frontRead (refused k n) table list = frontRefused k n table list
@@ -71,6 +87,9 @@ pub record JourneyEnd : Type 0 where
   pub answer : JourneyAnswer
   pub table : List ℕ
   pub path : List ℕ
+
+abbrev pub journeyEnd : JourneyAnswer → List ℕ → List ℕ → JourneyEnd
+journeyEnd r table path = record { answer = r; table = table; path = path }
 
 abbrev pub journeyRefused : ℕ → ℕ → List ℕ → List ℕ → JourneyEnd
 journeyRefused k n table path = record { answer = record { refusal = k; line = n; cost = zeroCost; arrival = 0 }; table = table; path = path }
@@ -91,13 +110,13 @@ journeyServed s g table path =
 
 -- 8, then 10, then 11
 unfoldable pub journeyOn : Sheet → ℕ → List ℕ → List ℕ → JourneyEnd
-unfolding crowded front tooShort journeyServed
+unfolding noRoom front tooShort journeyServed
 journeyOn s k table path =
     let g = getD (front s) k [] in
     let r = journeyServed s g table path in
     let q = pick (tooShort s g (length path)) (journeyRefused 11 0 (cleared table) path) r in
     let o = pick (leb (length (front s)) k) (journeyRefused 10 0 (cleared table) path) q in
-    pick (crowded s (length table)) (journeyRefused 8 0 (cleared table) path) o
+    pick (noRoom s (length table)) (journeyRefused 8 0 (cleared table) path) o
 
 abbrev pub journeyRead : Outcome → ℕ → List ℕ → List ℕ → JourneyEnd
 journeyRead (refused k n) i table path = journeyRefused k n table path

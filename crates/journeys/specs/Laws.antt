@@ -3,6 +3,7 @@ pub mod Journeys
 pub mod Front
 pub mod Goal
 pub mod Exact
+pub mod Offered
 pub mod Tie
 pub mod Horizon
 pub mod Served

@@ -3,4 +3,5 @@ pub mod Front
 pub mod Calls
 pub mod Page
 pub mod Demand3
+pub mod Inner
 pub mod Laws

@@ -7,10 +7,10 @@ use Rattle.sheet.specs.Lists.{pick, bind}
 use Rattle.sheet.specs.Decimal.{digitsOf}
 use Rattle.sheet.specs.Sheet.{Sheet, Outcome, refused, loaded, readOf}
 use Rattle.costs.specs.Costs.{Cost}
-use Rattle.arrivals.specs.Arrivals.{leading, crowded}
+use Rattle.arrivals.specs.Arrivals.{leading}
 use Rattle.journeys.specs.Journeys.{journeyOf, arrivalOf}
 use Rattle.journeys.specs.Front.{front}
-use Rattle.journeys.specs.Calls.{frontRow, overfull}
+use Rattle.journeys.specs.Calls.{frontRow, overfull, noRoom}
 
 -- the most digits of a printed number
 abbrev pub mostPrinted : ℕ
@@ -44,11 +44,11 @@ abbrev pub listNumbers : ℕ
 listNumbers = 200 * 4
 
 unfoldable pub pageOn : Sheet → List ℕ
-unfolding crowded overfull refusalLine frontLine journeyLines
+unfolding noRoom overfull refusalLine frontLine journeyLines
 pageOn s =
     let r = frontLine s ++ bind (front s) (journeyLines s) in
     let q = pick (overfull s listNumbers) (refusalLine 9 0) r in
-    pick (crowded s tableNumbers) (refusalLine 8 0) q
+    pick (noRoom s tableNumbers) (refusalLine 8 0) q
 
 abbrev pub pageRead : Outcome → List ℕ
 pageRead (refused k n) = refusalLine k n

@@ -6,6 +6,11 @@ use sheet::SheetWritten;
 use sheet::reader::read;
 use sheet::writer::write;
 
+pub mod offered; // offered.rt: the front off the arrivals table
+pub mod walk; // walk.rt: the journey of a front cost
+pub mod prepare; // prepare.rt: a sheet read and searched, for the front and the journeys
+pub mod calls; // calls.rt: the front and a journey of a sheet
+
 // What a call of the front hands back: the count of front costs and the number of leading arrivals.
 #[repr(C)]
 pub struct FrontAnswer {

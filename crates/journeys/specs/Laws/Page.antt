@@ -15,10 +15,9 @@ use Rattle.sheet.specs.Sheet.{Sheet, Outcome, refused, loaded, readOf}
 use Rattle.sheet.specs.Valid.{Valid}
 use Rattle.sheet.specs.Laws.RoundTrip.{read-refused, read-valid}
 use Rattle.costs.specs.Costs.{Cost}
-use Rattle.arrivals.specs.Arrivals.{crowded}
 use Rattle.journeys.specs.Journeys.{HasCost, journeyOf, arrivalOf}
 use Rattle.journeys.specs.Front.{front}
-use Rattle.journeys.specs.Calls.{cleared, frontRow, overfull, FrontEnd, frontRefused, frontServed, frontOn, frontRead, frontCall, JourneyEnd, tooShort, journeyServed, journeyOn, journeyRead, journeyCall}
+use Rattle.journeys.specs.Calls.{noRoom, cleared, frontRow, overfull, FrontEnd, frontRefused, frontServed, frontOn, frontRead, frontCall, JourneyEnd, tooShort, journeyServed, journeyOn, journeyRead, journeyCall}
 use Rattle.journeys.specs.Page.{printed, refusalLine, frontLine, journeyLines, tableNumbers, listNumbers, pageOn, pageRead, page}
 use Rattle.journeys.specs.Laws.Counts.{counts-within}
 use Rattle.journeys.specs.Laws.Journeys.{journeyOf-selected}
@@ -63,7 +62,7 @@ member (x ∷ l) zero m = inl refl
 member (x ∷ l) (suc i) m = inr (member l i (omega arith))
 
 -- a journey of a valid sheet has a place for each step 0 to its arrival, at most 256 in all
-journey-length : (s : Sheet) (g : Cost) → HasCost s g → length (journeyOf s g) ≡ suc (arrivalOf s g)
+pub journey-length : (s : Sheet) (g : Cost) → HasCost s g → length (journeyOf s g) ≡ suc (arrivalOf s g)
 unfolding arrivalOf
 journey-length s g h = let j = journeyOf-selected s g h .journey in omega (arith, j .way .places)
 
@@ -75,12 +74,12 @@ unfolding journeyLines journeyServed
 served-lines s g table path h =
     ap (λ (p : List ℕ). printed 74 (frontRow s g) ++ printed 80 p) (sym (take-at (journeyOf s g) (replicate (length path - length (journeyOf s g)) 0) (suc (arrivalOf s g)) (journey-length s g h)))
 
-journey-served : (s : Sheet) (i : ℕ) (table path : List ℕ) → crowded s (length table) ≡ false → i < length (front s) → length (journeyOf s (getD (front s) i [])) ≤ length path
+journey-served : (s : Sheet) (i : ℕ) (table path : List ℕ) → noRoom s (length table) ≡ false → i < length (front s) → length (journeyOf s (getD (front s) i [])) ≤ length path
     → journeyOn s i table path ≡ journeyServed s (getD (front s) i []) table path
 unfolding journeyOn tooShort
 journey-served s i table path c h l = rw (c, lt-leb (length (front s)) i h, le-ltb (length path) (length (journeyOf s (getD (front s) i []))) l)
 
-on-served : (s : Sheet) (table list path : List ℕ) → Valid s → crowded s (length table) ≡ false → length path ≡ 256
+on-served : (s : Sheet) (table list path : List ℕ) → Valid s → noRoom s (length table) ≡ false → length path ≡ 256
     → frontLine s ++ bind (front s) (journeyLines s)
     ≡ frontPrinted (frontServed s table list) ++ bind (numbers 0 (length (front s))) (λ i. journeyPrinted (journeyOn s i table path))
 unfolding frontLine frontServed
@@ -97,18 +96,18 @@ on-served s table list path v c k = ap (λ (p : List ℕ). frontLine s ++ p) (by
 page-on : (s : Sheet) (table list path : List ℕ) → Valid s → length table ≡ tableNumbers → length list ≡ listNumbers → length path ≡ 256
     → pageOn s ≡ pagePrinted (frontOn s table list) (λ i. journeyOn s i table path)
 unfolding pageOn frontOn
-page-on s table list path v a b k = go (crowded s (length table)) (overfull s (length list)) refl refl
+page-on s table list path v a b k = go (noRoom s (length table)) (overfull s (length list)) refl refl
   where
-    shown : (t u : Bool) → crowded s (length table) ≡ t
+    shown : (t u : Bool) → noRoom s (length table) ≡ t
         → pick t (refusalLine 8 0) (pick u (refusalLine 9 0) (frontLine s ++ bind (front s) (journeyLines s)))
         ≡ pagePrinted (pick t (frontRefused 8 0 (cleared table) list) (pick u (frontRefused 9 0 (cleared table) list) (frontServed s table list))) (λ i. journeyOn s i table path)
     shown true u e = refl
     shown false true e = refl
     shown false false e = on-served s table list path v e k
 
-    go : (t u : Bool) → crowded s (length table) ≡ t → overfull s (length list) ≡ u → pageOn s ≡ pagePrinted (frontOn s table list) (λ i. journeyOn s i table path)
+    go : (t u : Bool) → noRoom s (length table) ≡ t → overfull s (length list) ≡ u → pageOn s ≡ pagePrinted (frontOn s table list) (λ i. journeyOn s i table path)
     go t u e f =
-        let e′ : crowded s tableNumbers ≡ t = ap (crowded s) (sym a) ∙ e in
+        let e′ : noRoom s tableNumbers ≡ t = ap (noRoom s) (sym a) ∙ e in
         let f′ : overfull s listNumbers ≡ u = ap (overfull s) (sym b) ∙ f in
         ap₂ (λ (x y : Bool). pick x (refusalLine 8 0) (pick y (refusalLine 9 0) (frontLine s ++ bind (front s) (journeyLines s)))) e′ f′
         ∙ shown t u e

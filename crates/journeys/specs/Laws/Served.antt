@@ -18,16 +18,20 @@ use Rattle.costs.specs.Costs.{Cost, figures, fig}
 use Rattle.arrivals.specs.Arrivals.{leading, arrivalRoom, crowded}
 use Rattle.journeys.specs.Journeys.{arrivalOf}
 use Rattle.journeys.specs.Front.{front}
-use Rattle.journeys.specs.Calls.{cleared, frontRow, frontRoom, overfull, FrontEnd, frontRefused, frontServed, frontOn, frontRead, frontCall}
+use Rattle.journeys.specs.Calls.{usable, noRoom, cleared, frontRow, frontRoom, overfull, FrontEnd, frontRefused, frontServed, frontOn, frontRead, frontCall}
 use Rattle.journeys.specs.Demand3.{figureAt}
 use Rattle.journeys.specs.Laws.Journeys.{has-three}
 use Rattle.journeys.specs.Laws.Front.{front-on}
+
+-- the room of a table of n numbers, in arrivals
+abbrev pub tableRoom : ℕ → ℕ
+tableRoom n = arrivalRoom (usable 5 n)
 
 -- the sheet of the bytes, whose leading arrivals and front costs fit
 pub record Fits (b table list : List ℕ) : Type 0 where
   pub sheet : Sheet
   pub reads : readOf b ≡ loaded sheet
-  pub arrivals-fit : length (leading sheet) ≤ arrivalRoom (length table)
+  pub arrivals-fit : length (leading sheet) ≤ tableRoom (length table)
   pub costs-fit : length (front sheet) ≤ frontRoom (length list)
 
 -- what a served call ended with
@@ -36,17 +40,17 @@ pub record Served (b table list : List ℕ) (e : FrontEnd) : Type 0 where
   pub end : e ≡ frontServed (fits .sheet) table list
 
 on-served : (s : Sheet) (table list : List ℕ) → frontOn s table list .answer .refusal ≡ 0
-    → (length (leading s) ≤ arrivalRoom (length table)) × (length (front s) ≤ frontRoom (length list)) × (frontOn s table list ≡ frontServed s table list)
-unfolding frontOn crowded overfull
-on-served s table list z = go (ltb (arrivalRoom (length table)) (length (leading s))) (ltb (frontRoom (length list)) (length (front s))) refl refl z
+    → (length (leading s) ≤ tableRoom (length table)) × (length (front s) ≤ frontRoom (length list)) × (frontOn s table list ≡ frontServed s table list)
+unfolding frontOn noRoom crowded overfull
+on-served s table list z = go (ltb (tableRoom (length table)) (length (leading s))) (ltb (frontRoom (length list)) (length (front s))) refl refl z
   where
-    go : (t u : Bool) → ltb (arrivalRoom (length table)) (length (leading s)) ≡ t → ltb (frontRoom (length list)) (length (front s)) ≡ u
+    go : (t u : Bool) → ltb (tableRoom (length table)) (length (leading s)) ≡ t → ltb (frontRoom (length list)) (length (front s)) ≡ u
         → (pick t (frontRefused 8 0 (cleared table) list) (pick u (frontRefused 9 0 (cleared table) list) (frontServed s table list))) .answer .refusal ≡ 0
-        → (length (leading s) ≤ arrivalRoom (length table)) × (length (front s) ≤ frontRoom (length list))
+        → (length (leading s) ≤ tableRoom (length table)) × (length (front s) ≤ frontRoom (length list))
         × (pick t (frontRefused 8 0 (cleared table) list) (pick u (frontRefused 9 0 (cleared table) list) (frontServed s table list)) ≡ frontServed s table list)
     go true u p q z = absurd (omega (arith, z))
     go false true p q z = absurd (omega (arith, z))
-    go false false p q z = (ltb-false (arrivalRoom (length table)) (length (leading s)) p, ltb-false (frontRoom (length list)) (length (front s)) q, refl)
+    go false false p q z = (ltb-false (tableRoom (length table)) (length (leading s)) p, ltb-false (frontRoom (length list)) (length (front s)) q, refl)
 
 pub served : (b table list : List ℕ) → frontCall b table list .answer .refusal ≡ 0 → Served b table list (frontCall b table list)
 unfolding frontCall
@@ -59,9 +63,9 @@ served b table list z = go (readOf b) refl z
         record { fits = record { sheet = s; reads = r; arrivals-fit = q .0; costs-fit = q .1 }; end = q .2 }
 
 fits-served : (b table list : List ℕ) → Fits b table list → frontCall b table list .answer .refusal ≡ 0
-unfolding frontCall frontOn crowded overfull frontServed
+unfolding frontCall frontOn noRoom crowded overfull frontServed
 fits-served b table list f =
-    rw (f .reads, le-ltb (arrivalRoom (length table)) (length (leading (f .sheet))) (f .arrivals-fit), le-ltb (frontRoom (length list)) (length (front (f .sheet))) (f .costs-fit))
+    rw (f .reads, le-ltb (tableRoom (length table)) (length (leading (f .sheet))) (f .arrivals-fit), le-ltb (frontRoom (length list)) (length (front (f .sheet))) (f .costs-fit))
 
 -- a call of the front is served exactly when the sheet reads, the leading arrivals fit and the front fits
 pub served-exactly : (b table list : List ℕ) → (frontCall b table list .answer .refusal ≡ 0) ↔ Fits b table list

@@ -1,0 +1,7 @@
+pub mod Rowwise
+pub mod Stepping
+pub mod Stores
+pub mod Backwards
+pub mod Ready
+pub mod Ends
+pub mod Laid

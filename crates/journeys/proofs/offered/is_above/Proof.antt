@@ -1,0 +1,27 @@
+-- `journeys::offered::is_above` meets its contract: by whether `after` was found.
+-- Assumes nothing.
+use mathlib.Core.Path.{sym, _∙_, ap}
+use mathlib.Core.Bool.{Bool}
+use mathlib.Core.Option.{some, none}
+use Rattle.sheet.specs.Lists.{pick}
+use Rattle.journeys.specs.Inner.{above}
+use borrow.Author.Needs.{needs}
+use Rattle.journeys.proofs.offered.is_above.Statement.{statement}
+use Rattle.journeys.proofs.offered.is_above.Tie as tie
+use Rattle.journeys.proofs.offered.is_above.Reads as reads
+use Rattle.journeys.proofs.offered.is_above.Lts as lts
+use Rattle.costs.proofs.before.Reads as before-reads
+
+before-requires : tie.Need-before-requires
+before-requires c κs = search needs
+
+returns : tie.Need-returns
+returns c = 
+    let a = c .before .before .before .args in
+    c .before2 .ensures ∙ sym (ap (λ (b : Bool). above (pick b (some (a .after .cost)) none) (a .g)) (c .before .if1 .taken))
+
+returns-2 : tie.Need-returns-2
+returns-2 c = search needs
+
+pub is-above-spec : {M : Type 1} → statement M
+is-above-spec = tie.close (tie.spec before-requires returns returns-2)

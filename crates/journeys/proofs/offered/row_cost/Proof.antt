@@ -1,0 +1,77 @@
+-- `journeys::offered::row_cost` meets its contract. The loop's invariant: the first i figures of r are the numbers of row k from 2 on.
+-- The measure is what is left of the three figures.
+-- Assumes nothing.
+use mathlib.Core.Path.{_≡_, refl}
+use Prim.Native.Nat.{_+_, _*_, _-_, _≤_}
+use native.Mathlib.Omega.{arith}
+use borrow.Author.Needs.{needs}
+use Rattle.sheet.specs.Lists.{number}
+use Rattle.costs.specs.Laws.Figures.{Stored, stored-none, stored-more, stored-all, is-from}
+use Rattle.journeys.proofs.offered.row_cost.Statement.{statement}
+use Rattle.journeys.proofs.offered.row_cost.Tie as tie
+use Rattle.journeys.proofs.offered.row_cost.Reads as reads
+use Rattle.journeys.proofs.offered.row_cost.Lts as lts
+
+abbrev Inv-loop : tie.InvT-loop
+Inv-loop table k r₀ i₀ r i = (i ≤ 3) × Stored 3 (λ j. number table (k * 5 + 2 + j)) i r
+
+abbrev μ-loop : tie.MeasureT-loop
+μ-loop table k r₀ i₀ r i = 3 - i
+
+loop-holds : tie.Need-loop-holds Inv-loop μ-loop
+loop-holds c = (search needs, stored-none 3 _ _ refl)
+
+mul-r : tie.Need-mul-r Inv-loop μ-loop
+mul-r c = search needs
+
+add-r : tie.Need-add-r Inv-loop μ-loop
+add-r c = search needs
+
+add-r-2 : tie.Need-add-r-2 Inv-loop μ-loop
+add-r-2 c = search needs
+
+mul-r-2 : tie.Need-mul-r-2 Inv-loop μ-loop
+mul-r-2 c = search needs
+
+shared-slice-read-r : tie.Need-shared-slice-read-r Inv-loop μ-loop
+shared-slice-read-r c = search needs
+
+mul-r-3 : tie.Need-mul-r-3 Inv-loop μ-loop
+mul-r-3 c = search needs
+
+array-write-r : tie.Need-array-write-r Inv-loop μ-loop
+array-write-r c = search needs
+
+add-i : tie.Need-add-i Inv-loop μ-loop
+add-i c = search needs
+
+loop-less : tie.Need-loop-less Inv-loop μ-loop
+loop-less c = search needs
+
+loop-again : tie.Need-loop-again Inv-loop μ-loop
+loop-again c = (search needs, stored-more 3 _ (c .before .before .loop .i) (c .before .before .loop .r) (search needs) (c .before .before .loop .inv .1))
+
+returns : tie.Need-returns Inv-loop μ-loop
+returns c = 
+    let k = c .before .before .args .k in
+    is-from 3 (k * 5 + 2) (c .before .loop .r) (c .before .before .args .table .now)
+    (stored-all 3 _ (c .before .loop .i) _ (omega arith) (c .before .loop .inv .1))
+
+pub row-cost-spec : {M : Type 1} → statement M
+row-cost-spec =
+    tie.close
+    (tie.spec
+    Inv-loop
+    μ-loop
+    loop-holds
+    mul-r
+    add-r
+    add-r-2
+    mul-r-2
+    shared-slice-read-r
+    mul-r-3
+    array-write-r
+    add-i
+    loop-less
+    loop-again
+    returns)

@@ -1,0 +1,130 @@
+-- `journeys::prepare::prepare` meets its contract: what was read is a valid sheet, whose groups up to their last lines make it again, and the searched
+-- part of the table with zeros after it is the table of the sheet's leading arrivals.
+-- Assumes nothing.
+use mathlib.Core.Path.{refl, sym, _∙_, ap, subst}
+use native.Mathlib.Omega.{arith}
+use lib.ListN.{length, drop, length-append}
+use lib.Seq.{length-take-le}
+use borrow.Author.Needs.{needs}
+use borrow.Author.Tests.{not-true, not-false}
+use Rattle.sheet.specs.Valid.{Valid}
+use Rattle.journeys.specs.Inner.{unread, full, ready}
+use Rattle.journeys.proofs.Ready.{usable-most, groups-sheet, corridors-whole, occupancies-whole, searched, read-as, not-read}
+use Rattle.journeys.proofs.prepare.prepare.Statement.{statement}
+use Rattle.journeys.proofs.prepare.prepare.Tie as tie
+use Rattle.journeys.proofs.prepare.prepare.Reads as reads
+use Rattle.journeys.proofs.prepare.prepare.Lts as lts
+use Rattle.journeys.proofs.offered.clear_from.Reads as clear-from-reads
+use Rattle.journeys.proofs.prepare.usable_of.Reads as usable-of-reads
+use Rattle.arrivals.proofs.search.Reads as search-reads
+use Rattle.sheet.proofs.reader.read.Reads as read-reads
+
+read-requires : tie.Need-read-requires
+read-requires c κs = search needs
+
+returns : tie.Need-returns
+returns c = let r = not-read _ _ (c .before .before .read .ensures) (c .if1 .taken) in unread _ _ (r .reads) (record { number-is = refl; line-is = refl; table-is = refl })
+
+array-read-c : tie.Need-array-read-c
+array-read-c c = search needs
+
+cast-c : tie.Need-cast-c
+cast-c c = search needs
+
+mul-c : tie.Need-mul-c
+mul-c c = omega (arith, (read-as _ _ (c .before .before .before .before .before .before .read .ensures) (c .before .before .before .before .if1 .left)) .groups .corridors-of .few)
+
+array-read-o : tie.Need-array-read-o
+array-read-o c = search needs
+
+cast-o : tie.Need-cast-o
+cast-o c = search needs
+
+mul-o : tie.Need-mul-o
+mul-o c = omega (arith, (read-as _ _ (c .before .before .before .before .before .before .read .ensures) (c .before .before .before .before .if1 .left)) .groups .occupancies-of .few)
+
+usable-of-requires : tie.Need-usable-of-requires
+usable-of-requires c κs = search needs
+
+slice-aggregate-search : tie.Need-slice-aggregate-search
+slice-aggregate-search c = search needs
+
+array-share-prefix-corridors : tie.Need-array-share-prefix-corridors
+array-share-prefix-corridors c = (read-as _ _ (c .before .before .before .before .before .before .before .before .read .ensures) (c .before .before .before .before .before .before .if1 .left)) .groups .corridors-of .within
+
+slice-aggregate-search-2 : tie.Need-slice-aggregate-search-2
+slice-aggregate-search-2 c = sym (length-take-le _ _ ((read-as _ _ (c .before .before .before .before .before .before .before .before .before .read .ensures) (c .before .before .before .before .before .before .before .if1 .left)) .groups .corridors-of .within))
+
+array-share-prefix-occupancies : tie.Need-array-share-prefix-occupancies
+array-share-prefix-occupancies c = (read-as _ _ (c .before .before .before .before .before .before .before .before .before .read .ensures) (c .before .before .before .before .before .before .before .if1 .left)) .groups .occupancies-of .within
+
+slice-aggregate-search-3 : tie.Need-slice-aggregate-search-3
+slice-aggregate-search-3 c = sym (length-take-le _ _ ((read-as _ _ (c .before .before .before .before .before .before .before .before .before .before .read .ensures) (c .before .before .before .before .before .before .before .before .if1 .left)) .groups .occupancies-of .within))
+
+slice-relend-prefix-search : tie.Need-slice-relend-prefix-search
+slice-relend-prefix-search c = omega (arith, usable-most 5 (length (c .before .before .before .before .before .before .before .before .before .before .before .before .before .args .table .now)) .0, c .before .before .before .usable-of .ensures)
+
+slice-aggregate-search-4 : tie.Need-slice-aggregate-search-4
+slice-aggregate-search-4 c = sym (length-take-le _ _ (omega (arith, usable-most 5 (length (c .before .before .before .before .before .before .before .before .before .before .before .before .before .before .args .table .now)) .0, c .before .before .before .before .usable-of .ensures)))
+
+search-requires : tie.Need-search-requires
+search-requires c κs = 
+    let r = read-as _ _ (c .before .before .before .before .before .before .before .before .before .before .before .read .ensures) (c .before .before .before .before .before .before .before .before .before .if1 .left) in
+    let g = r .groups in
+    (subst Valid (sym (groups-sheet _ _ g)) (r .valid), corridors-whole _ _ g, occupancies-whole _ _ g)
+
+clear-from-requires : tie.Need-clear-from-requires
+clear-from-requires c κs = 
+    let s = c .before .before .before .search in
+    let r = read-as _ _ (c .before .before .before .before .before .before .before .before .before .before .before .before .before .before .before .read .ensures) (c .before .before .before .before .before .before .before .before .before .before .before .before .before .if1 .left) in
+    let h = searched _ _ r (c .before .before .before .before .before .before .before .before .usable-of .result) (c .before .before .before .before .before .before .before .before .before .before .before .before .before .before .before .before .before .before .args .table .now) (s .result .served) (s .result .arrivals) (s .last .1 .1 .1 .0) (c .before .before .before .before .before .before .before .before .usable-of .ensures) (s .ensures) in
+    omega (arith, h .size, length-append (s .last .1 .1 .1 .0) (drop (c .before .before .before .before .before .before .before .before .usable-of .result) (c .before .before .before .before .before .before .before .before .before .before .before .before .before .before .before .before .before .before .args .table .now)))
+
+same-length : tie.Need-same-length
+same-length c = search needs
+
+returns-2 : tie.Need-returns-2
+returns-2 c = 
+    let s = c .before .before .before .before .before .before .before .before .search in
+    let r = read-as _ _ (c .before .before .before .before .before .before .before .before .before .before .before .before .before .before .before .before .before .before .before .before .read .ensures) (c .before .before .before .before .before .before .before .before .before .before .before .before .before .before .before .before .before .before .if1 .left) in
+    let h = searched _ _ r (c .before .before .before .before .before .before .before .before .before .before .before .before .before .usable-of .result) (c .before .before .before .before .before .before .before .before .before .before .before .before .before .before .before .before .before .before .before .before .before .before .before .args .table .now) (s .result .served) (s .result .arrivals) (s .last .1 .1 .1 .0) (c .before .before .before .before .before .before .before .before .before .before .before .before .before .usable-of .ensures) (s .ensures) in
+    let f = h .when-full (not-true _ (c .if2 .taken)) in
+    full (r .sheet) (r .reads) (f .0) (record { number-is = refl; line-is = refl; table-is = c .before .before .before .before .clear-from .ensures ∙ f .1 })
+
+same-length-2 : tie.Need-same-length-2
+same-length-2 c = search needs
+
+returns-3 : tie.Need-returns-3
+returns-3 c = 
+    let s = c .before .before .before .before .before .before .before .before .search in
+    let r = read-as _ _ (c .before .before .before .before .before .before .before .before .before .before .before .before .before .before .before .before .before .before .before .before .read .ensures) (c .before .before .before .before .before .before .before .before .before .before .before .before .before .before .before .before .before .before .if1 .left) in
+    let h = searched _ _ r (c .before .before .before .before .before .before .before .before .before .before .before .before .before .usable-of .result) (c .before .before .before .before .before .before .before .before .before .before .before .before .before .before .before .before .before .before .before .before .before .before .before .args .table .now) (s .result .served) (s .result .arrivals) (s .last .1 .1 .1 .0) (c .before .before .before .before .before .before .before .before .before .before .before .before .before .usable-of .ensures) (s .ensures) in
+    let f = h .when-served (not-false _ (c .if2 .left)) in
+    ready (r .sheet) (r .reads) (f .0) (record { served = refl; filled-table = c .before .before .before .before .clear-from .ensures ∙ f .2; counted = f .1; read-sheet = r .answer })
+
+pub prepare-spec : {M : Type 1} → statement M
+prepare-spec =
+    tie.close
+    (tie.spec
+    read-requires
+    returns
+    array-read-c
+    cast-c
+    mul-c
+    array-read-o
+    cast-o
+    mul-o
+    usable-of-requires
+    slice-aggregate-search
+    array-share-prefix-corridors
+    slice-aggregate-search-2
+    array-share-prefix-occupancies
+    slice-aggregate-search-3
+    slice-relend-prefix-search
+    slice-aggregate-search-4
+    search-requires
+    clear-from-requires
+    same-length
+    returns-2
+    same-length-2
+    returns-3)
