@@ -1,9 +1,8 @@
 -- What the functions of the search promise each other.
 use mathlib.Core.List.{List}
 use Prim.Native.Nat.{ℕ}
-use Rattle.arrivals.specs.Arrivals.{SearchEnd}
+use Rattle.arrivals.specs.Table.{SearchEnd}
 use Rattle.arrivals.specs.declared.Searched.{Searched}
-
 pub mod Facts
 pub mod Rows
 pub mod Search

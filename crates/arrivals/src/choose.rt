@@ -1,12 +1,12 @@
 // The rows of a place and step one after another, each by a scan of all rows: slower, and no cost is held that is not a row.
-use costs::at_most;
-use costs::before;
-use costs::multiple;
-use costs::sum;
 use crate::cells::push_row;
 use crate::cells::row_cost;
 use crate::entries::reach_cost;
 use crate::offers::Outcome;
+use costs::at_most;
+use costs::before;
+use costs::multiple;
+use costs::sum;
 ghost use mathlib.Core.Path.{_≡_};
 ghost use mathlib.Core.Bool.{true};
 ghost use Prim.Native.Nat.{_+_, _*_, _<_, _≤_};

@@ -1,6 +1,4 @@
 // Every cost at which a place can be entered at a step is offered.
-use costs::multiple;
-use costs::sum;
 use crate::cells::row_cost;
 use crate::notes::idle;
 use crate::notes::latest;
@@ -8,6 +6,8 @@ use crate::notes::next_link;
 use crate::notes::older;
 use crate::offers::Outcome;
 use crate::offers::offer;
+use costs::multiple;
+use costs::sum;
 ghost use mathlib.Core.Path.{_≡_};
 ghost use Prim.Native.Nat.{ℕ, _+_, _*_, _<_, _≤_};
 ghost use lib.ListN.{length};

@@ -108,7 +108,20 @@ pub fn fill_step(
 {
     let mut n = rows;
     for v in 0..places {
-        let r = visit(table, n, ix, links, m, ch, firsts, t, wait, v, places, start);
+        let r = visit(
+            table,
+            n,
+            ix,
+            links,
+            m,
+            ch,
+            firsts,
+            t,
+            wait,
+            v,
+            places,
+            start,
+        );
         let ok = r.ok;
         n = r.rows;
         if !ok {

@@ -4,12 +4,12 @@ ghost use Prim.Native.Nat.{ℕ, _%_};
 ghost use lib.ListN.{length};
 ghost use Rattle.sheet.specs.Calls.{sheetOfGroups};
 ghost use Rattle.sheet.specs.Valid.{Valid};
-ghost use Rattle.arrivals.specs.Arrivals.{searchOn};
+ghost use Rattle.arrivals.specs.Table.{searchOn};
 ghost use Rattle.arrivals.specs.Inner.{searchEnd};
+use crate::fill::fill;
 use costs::wait_at;
 use intervals::fill_since;
 use sheet::Place;
-use crate::fill::fill;
 
 pub mod cells; // cells.rt: the rows of the lent table
 pub mod notes; // notes.rt: where rows and corridors stand
@@ -33,7 +33,16 @@ pub fn search(head: &[u32], corridors: &[u32], occupancies: &[u32], table: &mut 
     let mut firsts = [0; 16384];
     fill_since(occupancies, &mut firsts);
     let wait = wait_at(head, Place(0));
-    let r = fill(table, corridors, corridors.len() / 5, &firsts, head[1], wait, head[0], head[2]);
+    let r = fill(
+        table,
+        corridors,
+        corridors.len() / 5,
+        &firsts,
+        head[1],
+        wait,
+        head[0],
+        head[2],
+    );
     let ok = r.ok;
     let rows = r.rows;
     Searched {

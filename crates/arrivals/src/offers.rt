@@ -1,11 +1,11 @@
 // Costs are offered to the rows of one place and step, which stand last in the table, in order.
-use costs::at_most;
-use costs::before;
-use costs::multiple;
 use crate::cells::move_row;
 use crate::cells::push_row;
 use crate::cells::row_cost;
 use crate::notes::older;
+use costs::at_most;
+use costs::before;
+use costs::multiple;
 ghost use mathlib.Core.Path.{_≡_};
 ghost use Prim.Native.Nat.{ℕ, _+_, _*_, _-_, _<_, _≤_};
 ghost use lib.ListN.{length, getD};

@@ -15,7 +15,8 @@ use Rattle.sheet.specs.Sheet.{Sheet, from, to}
 use Rattle.sheet.specs.Calls.{groupRows}
 use Rattle.sheet.specs.declared.Place.{Place}
 use Rattle.sheet.specs.declared.Step.{Step}
-use Rattle.costs.specs.Moves.{costOf, leaving, between, firstCost, crossingAt}
+use Rattle.costs.specs.Moves.{costOf}
+use Rattle.costs.specs.Computed.{leaving, between, firstCost, crossingAt}
 use Rattle.costs.specs.Laws.Rows.{row, row-number, filter-both, filter-none, filter-first}
 
 -- line k leads from u to v

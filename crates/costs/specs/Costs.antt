@@ -1,10 +1,8 @@
 -- Costs (document 01, "Lawful journeys": "A cost is three numbers, added and compared place by place as one value"; 001, definition 1).
 -- A cost is the list of its figures; what is said of a figure is said of the figure at any position, and a figure past the end is 0.
 -- Costs ascend by `Lex`: by first figure, then second, then third.
-use mathlib.Core.Bool.{Bool, true, false, not, _&&_}
 use mathlib.Core.List.{List, [], _∷_}
 use Prim.Native.Nat.{ℕ, _+_, _*_, _≤_, _<_}
-use lib.Dec.{leb, eqb}
 use lib.ListN.{getD, replicate}
 
 abbrev pub Cost : Type 0
@@ -45,18 +43,3 @@ pub record Dominates (a b : Cost) : Type 0 where
   pub at-most : AtMost a b
   pub at : ℕ
   pub smaller : fig a at < fig b at
-
--- the same, computed; and equality
-abbrev pub atMostb : Cost → Cost → Bool
-atMostb [] b = true
-atMostb (x ∷ a) [] = leb x 0 && atMostb a []
-atMostb (x ∷ a) (y ∷ b) = leb x y && atMostb a b
-
-abbrev pub dominatesb : Cost → Cost → Bool
-dominatesb a b = atMostb a b && not (atMostb b a)
-
-abbrev pub sameb : List ℕ → List ℕ → Bool
-sameb [] [] = true
-sameb [] (y ∷ b) = false
-sameb (x ∷ a) [] = false
-sameb (x ∷ a) (y ∷ b) = eqb x y && sameb a b

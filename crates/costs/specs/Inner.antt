@@ -10,7 +10,7 @@ use Rattle.sheet.specs.Calls.{groupRows}
 use Rattle.sheet.specs.declared.Place.{Place}
 use Rattle.sheet.specs.declared.Step.{Step}
 use Rattle.costs.specs.Costs.{Cost}
-use Rattle.costs.specs.Moves.{waitAt, crossingAt}
+use Rattle.costs.specs.Computed.{waitAt, crossingAt}
 use Rattle.costs.specs.declared.Crossing.{Crossing}
 
 abbrev pub asCrossing : Crossing → Option Cost

@@ -17,7 +17,8 @@ use Rattle.sheet.specs.Sheet.{Sheet}
 use Rattle.sheet.specs.Calls.{groupRows}
 use Rattle.sheet.specs.Laws.Order.{and-true, true-and}
 use Rattle.costs.specs.Laws.Rows.{row, row-number, mem-rows}
-use Rattle.intervals.specs.Intervals.{freeb, firstOf, sinceOf}
+use Rattle.intervals.specs.Intervals.{freeb}
+use Rattle.intervals.specs.Computed.{firstOf, sinceOf}
 use Rattle.intervals.specs.Inner.{coversb, entry, ValidGroup, Blank, MarkableLine, MarkedLine, Marked, runAt, foundAt, Turned, SinceTable}
 use Rattle.intervals.specs.Laws.Runs.{first-step}
 use Rattle.intervals.proofs.Covers.{free-uncovered, taken-covered}

@@ -11,7 +11,7 @@ use Rattle.sheet.specs.Sheet.{Sheet, placeOf, last}
 use Rattle.sheet.specs.Calls.{groupRows}
 use Rattle.sheet.specs.declared.Place.{Place}
 use Rattle.sheet.specs.declared.Step.{Step}
-use Rattle.intervals.specs.Intervals.{freeAt, sinceOf}
+use Rattle.intervals.specs.Computed.{freeAt, sinceOf}
 
 -- b tells whether v is free at t on every sheet with these occupancies
 pub record FreeIs (occupancies : List ℕ) (v : Place) (t : Step) (b : Bool) : Type 0 where

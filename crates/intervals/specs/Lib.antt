@@ -1,3 +1,4 @@
 pub mod Intervals
+pub mod Computed
 pub mod Inner
 pub mod Laws

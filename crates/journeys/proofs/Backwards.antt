@@ -15,7 +15,7 @@ use Rattle.arrivals.specs.Arrivals.{arrival, Arrives}
 use Rattle.arrivals.specs.Laws.Trails.{Begins, Trail}
 use Rattle.arrivals.specs.Laws.Leading.{arrives-free, arrives-came}
 use Rattle.arrivals.specs.Laws.Bounds.{move-once}
-use Rattle.journeys.specs.Journeys.{journeyOf}
+use Rattle.journeys.specs.Computed.{journeyOf}
 use Rattle.journeys.specs.Inner.{Walks, Walkable, WalkIs}
 use Rattle.journeys.specs.Inner.Walk.{Readable, LowestStep, BeforeIs, CameTo, Walked}
 use Rattle.journeys.specs.declared.walk.Back.{Back}

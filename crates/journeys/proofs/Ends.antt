@@ -2,23 +2,25 @@
 -- Assumes nothing.
 use mathlib.Core.Path.{_≡_, refl, sym, _∙_, ap, ap₂, subst}
 use mathlib.Core.Logic.{_≢_, inl, inr}
-use mathlib.Core.Bool.{Bool, true, false}
+use mathlib.Core.Bool.{true, false}
 use mathlib.Core.List.{List, [], _∷_, _++_}
 use Prim.Native.Nat.{ℕ, zero, suc, _+_, _*_, _-_, _≤_, _<_, _/_}
 use native.Mathlib.Omega.{arith}
 use native.Mathlib.Nat.{div-add-mod'}
 use lib.ListN.{length, getD, take, replicate}
 use borrow.Author.Tests.{lt-ltb, le-ltb, lt-leb, le-leb}
-use Rattle.sheet.specs.Lists.{_∈_, pick, number, filled, bind}
-use Rattle.sheet.specs.Sheet.{Sheet, Outcome, refused, loaded, readOf, goal, steps}
+use Rattle.sheet.specs.Lists.{_∈_, number, filled, bind}
+use Rattle.sheet.specs.Sheet.{Sheet, refused, loaded, readOf, goal, steps}
 use Rattle.sheet.specs.Valid.{Valid}
 use Rattle.sheet.specs.Calls.{sheetOfGroups}
 use Rattle.sheet.specs.Laws.RoundTrip.{read-refused, read-valid}
 use Rattle.costs.specs.Costs.{Cost}
-use Rattle.arrivals.specs.Arrivals.{Arrival, arrivalRow, leading, arrivalTable, crowded}
-use Rattle.journeys.specs.Journeys.{journeyOf, arrivalOf}
-use Rattle.journeys.specs.Front.{OnFront, front, frontOf}
-use Rattle.journeys.specs.Calls.{usable, mostRows, noRoom, cleared, frontRow, frontRoom, overfull, FrontEnd, frontEnd, frontRefused, frontServed, frontOn, frontCall, JourneyEnd, journeyEnd, journeyRefused, tooShort, journeyServed, journeyOn, journeyCall}
+use Rattle.arrivals.specs.Arrivals.{Arrival}
+use Rattle.arrivals.specs.Table.{arrivalRow, arrivalTable}
+use Rattle.arrivals.specs.Computed.{leading}
+use Rattle.journeys.specs.Computed.{journeyOf, arrivalOf, front, frontOf}
+use Rattle.journeys.specs.Front.{OnFront}
+use Rattle.journeys.specs.Calls.{usable, mostRows, noRoom, cleared, frontRow, frontRoom, overfull, frontEnd, frontRefused, frontServed, frontOn, frontCall, journeyEnd, journeyRefused, tooShort, journeyServed, journeyOn, journeyCall}
 use Rattle.journeys.specs.Inner.{goalRows, costsOf, firstStep, offeredRows, NumberIs, Holds, Layable, ReadyOn, RefusedAs, PreparedIs, unread, full, ready}
 use Rattle.journeys.specs.declared.FrontAnswer.{FrontAnswer}
 use Rattle.journeys.specs.declared.JourneyAnswer.{JourneyAnswer}

@@ -1,21 +1,19 @@
 -- The path buffer of a journey: what the table of free runs and the walk back need of the groups of a valid sheet, and the buffer with zeros past the path.
 -- Assumes nothing.
-use mathlib.Core.Path.{_≡_, refl, sym, _∙_, ap, ap₂}
-use mathlib.Core.List.{List, [], _∷_, _++_}
-use Prim.Native.Nat.{ℕ, suc, _+_, _-_, _≤_, _<_, _/_, _%_}
+use mathlib.Core.Path.{_≡_, refl, _∙_, ap, ap₂}
+use mathlib.Core.List.{List, _++_}
+use Prim.Native.Nat.{ℕ, _+_, _-_, _≤_, _/_, _%_}
 use native.Mathlib.Omega.{arith}
 use native.Mathlib.Nat.{div-add-mod'}
 use lib.ListN.{length, take, drop, replicate}
 use lib.Seq.{sets, sets-eq, length-sets, take-at}
-use Rattle.sheet.specs.Lists.{_∈_, filled}
-use Rattle.sheet.specs.Kinds.{kindO}
-use Rattle.sheet.specs.Sheet.{Sheet, placeOf}
+use Rattle.sheet.specs.Lists.{filled}
 use Rattle.sheet.specs.Valid.{Valid}
-use Rattle.sheet.specs.Calls.{groupRows, sheetOfGroups}
+use Rattle.sheet.specs.Calls.{sheetOfGroups}
 use Rattle.sheet.specs.Laws.Rows.{rows-count}
 use Rattle.costs.specs.Costs.{Cost}
 use Rattle.intervals.specs.Inner.{ValidGroup, SinceTable}
-use Rattle.journeys.specs.Journeys.{journeyOf}
+use Rattle.journeys.specs.Computed.{journeyOf}
 use Rattle.journeys.specs.Inner.{Walks, WalkIs, Layable}
 use Rattle.journeys.specs.Laws.Page.{journey-length}
 
@@ -29,7 +27,7 @@ valid-group h cs os e v =
     }
 
 module _ (h cs os : List ℕ) (n : ℕ) (table : List ℕ) (A : ℕ) (f : Cost) (path : List ℕ) (whole : length cs % 5 ≡ 0) (l : Layable (sheetOfGroups h cs os) n table A f path)
-  (since : List ℕ) (t : SinceTable os since) where
+    (since : List ℕ) (t : SinceTable os since) where
   pub walks-of : Walks h cs n table since A f (sheetOfGroups h cs os)
   walks-of =
       record {

@@ -4,7 +4,7 @@
 use mathlib.Core.Path.{_≡_, refl, sym, _∙_, ap, ap₂, subst}
 use mathlib.Core.Logic.{_≢_}
 use mathlib.Core.Bool.{Bool, true, false, true≢false}
-use mathlib.Core.List.{List, [], _∷_, _++_, map, append-assoc}
+use mathlib.Core.List.{List, [], _++_, map, append-assoc}
 use Prim.Native.Nat.{ℕ, suc, _+_, _*_, _-_, _≤_, _/_, _%_}
 use native.Mathlib.Omega.{arith}
 use native.Mathlib.Nat.{div-add-mod'}
@@ -12,7 +12,7 @@ use lib.Dec.{ltb}
 use lib.ListN.{length, take, drop, replicate, length-append, length-map, length-drop, length-replicate, replicate-append-replicate}
 use lib.Seq.{take-at, length-take-le}
 use borrow.Author.Tests.{ltb-true, ltb-false}
-use Rattle.sheet.specs.Lists.{_∈_, pick, number, filled, bind, flat}
+use Rattle.sheet.specs.Lists.{pick, number, filled, bind, flat}
 use Rattle.sheet.specs.Kinds.{kindC, kindO}
 use Rattle.sheet.specs.Sheet.{Sheet, Outcome, refused, loaded, readOf}
 use Rattle.sheet.specs.Valid.{Valid}
@@ -21,7 +21,8 @@ use Rattle.sheet.specs.declared.SheetRead.{SheetRead}
 use Rattle.sheet.specs.Laws.Members.{map-mem}
 use Rattle.sheet.specs.Laws.Rows.{Wide, flat-length, rows-flat, flat-whole, filled-full, bind-flat}
 use Rattle.sheet.specs.Laws.RoundTrip.{read-loaded, read-valid}
-use Rattle.arrivals.specs.Arrivals.{Arrival, leading, crowded, arrivalRow, arrivalTable, SearchEnd, searchOn}
+use Rattle.arrivals.specs.Computed.{leading}
+use Rattle.arrivals.specs.Table.{crowded, arrivalRow, arrivalTable, SearchEnd, searchOn}
 use Rattle.arrivals.specs.Laws.Leading.{leading-is, arrives-three}
 use Rattle.journeys.specs.Calls.{usable, mostRows, noRoom, cleared}
 

@@ -17,9 +17,10 @@ use Rattle.costs.specs.Costs.{Cost, figures, fig, add, times, AtMost}
 use Rattle.costs.specs.Moves.{waitOf}
 use Rattle.costs.specs.Laws.Figures.{fig-add, fig-times, length-add, length-times, Stored, is-same}
 use Rattle.costs.specs.Laws.Rows.{row, row-number, mem-rows, rows-mem}
-use Rattle.intervals.specs.Intervals.{sinceOf}
+use Rattle.intervals.specs.Computed.{sinceOf}
 use Rattle.intervals.specs.Laws.Runs.{since-run}
-use Rattle.arrivals.specs.Arrivals.{Arrival, arrival, Leading, waited, leading}
+use Rattle.arrivals.specs.Arrivals.{Arrival, arrival, Leading, waited}
+use Rattle.arrivals.specs.Computed.{leading}
 use Rattle.arrivals.specs.Laws.Leading.{arrival-path, leading-is, is-leading}
 use Rattle.journeys.specs.Inner.{rowOf, Holds}
 use Rattle.journeys.specs.Inner.Walk.{Decided, holds, fails, costAt, Waits, Becomes, BecomesIn}

@@ -18,13 +18,14 @@ use Rattle.sheet.specs.Valid.{Valid}
 use Rattle.sheet.specs.Laws.Rows.{rows-count}
 use Rattle.sheet.specs.declared.Place.{Place}
 use Rattle.sheet.specs.declared.Step.{Step}
-use Rattle.costs.specs.Costs.{Cost, figures, fig, add, Within, AtMost, atMostb}
-use Rattle.costs.specs.Moves.{waitOf, waitAt, crossingAt}
+use Rattle.costs.specs.Costs.{Cost, figures, fig, add, Within, AtMost}
+use Rattle.costs.specs.Computed.{atMostb, waitAt, crossingAt}
+use Rattle.costs.specs.Moves.{waitOf}
 use Rattle.costs.specs.Inner.{asCrossing, WaitIs}
 use Rattle.costs.specs.declared.Crossing as crossing
 use Rattle.costs.specs.Laws.Figures.{fig-add, cancel-right, at-most-atMostb}
 use Rattle.costs.specs.Laws.Moves.{wait-bounded, crossing-at, at-crossing}
-use Rattle.intervals.specs.Intervals.{sinceOf}
+use Rattle.intervals.specs.Computed.{sinceOf}
 use Rattle.arrivals.specs.Ways.{Move, waits, crosses}
 use Rattle.arrivals.specs.Arrivals.{arrival}
 use Rattle.arrivals.specs.Laws.Leading.{arrives-free, arrives-three}

@@ -8,9 +8,9 @@ use lib.ListN.{length, getD}
 use Rattle.sheet.specs.Lists.{pick, filled, bind}
 use Rattle.sheet.specs.Sheet.{Sheet, Outcome, refused, loaded, readOf}
 use Rattle.costs.specs.Costs.{Cost, zeroCost}
-use Rattle.arrivals.specs.Arrivals.{leading, crowded, arrivalTable}
-use Rattle.journeys.specs.Journeys.{journeyOf, arrivalOf}
-use Rattle.journeys.specs.Front.{front}
+use Rattle.arrivals.specs.Computed.{leading}
+use Rattle.arrivals.specs.Table.{crowded, arrivalTable}
+use Rattle.journeys.specs.Computed.{journeyOf, arrivalOf, front}
 use Rattle.journeys.specs.declared.FrontAnswer.{FrontAnswer}
 use Rattle.journeys.specs.declared.JourneyAnswer.{JourneyAnswer}
 

@@ -3,24 +3,26 @@ use mathlib.Core.Path.{_≡_}
 use mathlib.Core.Bool.{Bool, true, false, _&&_}
 use mathlib.Core.List.{List, [], _∷_, _++_, map}
 use mathlib.Core.Option.{Option, some, none}
-use Prim.Native.Nat.{ℕ, zero, suc, _*_, _+_, _≤_, _<_, _%_}
+use Prim.Native.Nat.{ℕ, suc, _*_, _+_, _≤_, _<_, _%_}
 use lib.Dec.{eqb, leb}
 use lib.ListN.{length, getD}
 use lib.Seq.{sets}
 use Rattle.sheet.specs.Lists.{_∈_, pick, number, numbersFrom, rows, filter, bind, lexb}
-use Rattle.sheet.specs.Sheet.{Sheet, Outcome, refused, loaded, readOf}
+use Rattle.sheet.specs.Sheet.{Sheet, refused, loaded, readOf}
 use Rattle.sheet.specs.Valid.{Valid}
 use Rattle.sheet.specs.Kinds.{kindC}
 use Rattle.sheet.specs.Calls.{groupRows, readAnswer}
-use Rattle.costs.specs.Costs.{Cost, figures, sameb}
-use Rattle.intervals.specs.Intervals.{sinceOf}
-use Rattle.arrivals.specs.Arrivals.{Arrival, arrival, leading, arrivalTable}
-use Rattle.journeys.specs.Journeys.{journeyOf, arrivalOf}
-use Rattle.journeys.specs.Front.{OnFront, undominatedb, frontOf}
+use Rattle.costs.specs.Costs.{Cost, figures}
+use Rattle.costs.specs.Computed.{sameb}
+use Rattle.intervals.specs.Computed.{sinceOf}
+use Rattle.arrivals.specs.Arrivals.{Arrival, arrival}
+use Rattle.arrivals.specs.Computed.{leading}
+use Rattle.arrivals.specs.Table.{arrivalTable}
+use Rattle.journeys.specs.Computed.{journeyOf, arrivalOf, undominatedb, frontOf}
+use Rattle.journeys.specs.Front.{OnFront}
 use Rattle.journeys.specs.Calls.{noRoom, cleared}
 use Rattle.journeys.specs.declared.offered.Offered.{Offered}
 use Rattle.journeys.specs.declared.prepare.Prepared.{Prepared}
-
 pub mod Walk
 
 -- the arrival that a row of five numbers stands for

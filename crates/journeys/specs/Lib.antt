@@ -1,5 +1,6 @@
 pub mod Journeys
 pub mod Front
+pub mod Computed
 pub mod Calls
 pub mod Page
 pub mod Demand3

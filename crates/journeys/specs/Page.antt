@@ -7,9 +7,8 @@ use Rattle.sheet.specs.Lists.{pick, bind}
 use Rattle.sheet.specs.Decimal.{digitsOf}
 use Rattle.sheet.specs.Sheet.{Sheet, Outcome, refused, loaded, readOf}
 use Rattle.costs.specs.Costs.{Cost}
-use Rattle.arrivals.specs.Arrivals.{leading}
-use Rattle.journeys.specs.Journeys.{journeyOf, arrivalOf}
-use Rattle.journeys.specs.Front.{front}
+use Rattle.arrivals.specs.Computed.{leading}
+use Rattle.journeys.specs.Computed.{journeyOf, arrivalOf, front}
 use Rattle.journeys.specs.Calls.{frontRow, overfull, noRoom}
 
 -- the most digits of a printed number

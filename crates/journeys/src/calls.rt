@@ -5,20 +5,29 @@ ghost use Prim.Native.Nat.{ℕ, _%_};
 ghost use lib.ListN.{length};
 ghost use Rattle.sheet.specs.Lists.{filled};
 ghost use Rattle.sheet.specs.Calls.{sheetOfGroups};
-ghost use Rattle.journeys.specs.Journeys.{journeyOf};
+ghost use Rattle.journeys.specs.Computed.{journeyOf};
 ghost use Rattle.journeys.specs.Inner.{Layable};
 ghost use Rattle.journeys.specs.Calls.{frontEnd, frontRefused, frontCall, journeyEnd, journeyRefused, journeyCall};
 use crate::FrontAnswer;
 use crate::JourneyAnswer;
-use crate::offered::{clear_from, count_costs, list_costs, nth_cost};
-use crate::prepare::{prepare, usable_of};
+use crate::offered::clear_from;
+use crate::offered::count_costs;
+use crate::offered::list_costs;
+use crate::offered::nth_cost;
+use crate::prepare::prepare;
+use crate::prepare::usable_of;
 use crate::walk::walk_back;
 use intervals::fill_since;
 
 fn refuse_front(number: u32, line: u32) -> FrontAnswer
     ensures { λ r. ⌜ r ≡ frontRefused number line [] [] .answer ⌝ }
 {
-    FrontAnswer { refusal: number, line, costs: 0, arrivals: 0 }
+    FrontAnswer {
+        refusal: number,
+        line,
+        costs: 0,
+        arrivals: 0,
+    }
 }
 
 // The front of the sheet: the arrivals table and the front list filled, zeros to their ends; or a refusal, 1 to 9. The front is counted before
@@ -39,13 +48,23 @@ pub fn front(sheet: &[u8], table: &mut [u32], list: &mut [u32]) -> FrontAnswer
         return refuse_front(9, 0);
     }
     list_costs(table, n, head[3], head[1], list);
-    FrontAnswer { refusal: 0, line: 0, costs: costs as u32, arrivals: n as u32 }
+    FrontAnswer {
+        refusal: 0,
+        line: 0,
+        costs: costs as u32,
+        arrivals: n as u32,
+    }
 }
 
 fn refuse_journey(number: u32, line: u32) -> JourneyAnswer
     ensures { λ r. ⌜ r ≡ journeyRefused number line [] [] .answer ⌝ }
 {
-    JourneyAnswer { refusal: number, line, cost: [0; 3], arrival: 0 }
+    JourneyAnswer {
+        refusal: number,
+        line,
+        cost: [0; 3],
+        arrival: 0,
+    }
 }
 
 // Writes the places of the journey of the front cost `cost`, which arrives at step `arrival`, for each step from 0 on, then zeros.
@@ -96,6 +115,20 @@ pub fn journey(sheet: &[u8], number: u32, table: &mut [u32], path: &mut [u32]) -
     let lines = s.lines;
     let c = lines[1] as usize * 5;
     let q = lines[2] as usize * 3;
-    lay_path(&head, &corridors[..c], &occupancies[..q], table, n, arrival, cost, path);
-    JourneyAnswer { refusal: 0, line: 0, cost, arrival }
+    lay_path(
+        &head,
+        &corridors[..c],
+        &occupancies[..q],
+        table,
+        n,
+        arrival,
+        cost,
+        path,
+    );
+    JourneyAnswer {
+        refusal: 0,
+        line: 0,
+        cost,
+        arrival,
+    }
 }

@@ -6,7 +6,7 @@ ghost use lib.ListN.{length, take, replicate};
 ghost use lib.Seq.{sets};
 ghost use Rattle.sheet.specs.Lists.{numbersFrom, rows, filled};
 ghost use Rattle.costs.specs.Costs.{figures};
-ghost use Rattle.journeys.specs.Front.{undominatedb, frontOf};
+ghost use Rattle.journeys.specs.Computed.{undominatedb, frontOf};
 ghost use Rattle.journeys.specs.Inner.{isGoalRow, rowOf, goalRows, costsOf, asOffered, above, below, BestUpTo, NextIs, NumberIs, offeredRows};
 use costs::before;
 use costs::dominates;
@@ -52,7 +52,11 @@ pub fn next_cost(table: &[u32], n: usize, v: u32, last: u32, after: Offered) -> 
     requires { ⌜ (n ≤ 1000000000000000000) × (n * 5 ≤ length (now table)) ⌝ }
     ensures { λ r. ⌜ NextIs (goalRows v last n (now (table .entry))) (asOffered after) r ⌝ }
 {
-    let mut best = Offered { found: false, cost: [0; 3], step: 0 };
+    let mut best = Offered {
+        found: false,
+        cost: [0; 3],
+        step: 0,
+    };
     let mut k = 0;
     while k < n {
         best = better_row(table, n, v, last, after, best, k);
@@ -84,7 +88,15 @@ fn is_below(g: [u32; 3], best: Offered) -> bool
 }
 
 // The better of `best` and row k: a cost above `after` and below `best` that is on the front.
-fn better_row(table: &[u32], n: usize, v: u32, last: u32, after: Offered, best: Offered, k: usize) -> Offered
+fn better_row(
+    table: &[u32],
+    n: usize,
+    v: u32,
+    last: u32,
+    after: Offered,
+    best: Offered,
+    k: usize,
+) -> Offered
     requires { ⌜ (n ≤ 1000000000000000000) × (n * 5 ≤ length (now table)) × (k < n) × (BestUpTo (goalRows v last n (now table)) (asOffered after) (goalRows v last k (now table)) best) ⌝ }
     ensures { λ r. ⌜ BestUpTo (goalRows v last n (now (table .entry))) (asOffered after) (goalRows v last (k + 1) (now (table .entry))) r ⌝ }
 {
@@ -101,7 +113,11 @@ fn better_row(table: &[u32], n: usize, v: u32, last: u32, after: Offered, best: 
     if !is_undominated(table, n, v, last, g) {
         return best;
     }
-    Offered { found: true, cost: g, step: table[k * 5 + 1] }
+    Offered {
+        found: true,
+        cost: g,
+        step: table[k * 5 + 1],
+    }
 }
 
 // The count of front costs.
@@ -109,7 +125,17 @@ pub fn count_costs(table: &[u32], n: usize, v: u32, last: u32) -> usize
     requires { ⌜ (n ≤ 1000000000000000000) × (n * 5 ≤ length (now table)) ⌝ }
     ensures { λ r. ⌜ r ≡ length (frontOf (costsOf (goalRows v last n (now (table .entry))))) ⌝ }
 {
-    let mut at = next_cost(table, n, v, last, Offered { found: false, cost: [0; 3], step: 0 });
+    let mut at = next_cost(
+        table,
+        n,
+        v,
+        last,
+        Offered {
+            found: false,
+            cost: [0; 3],
+            step: 0,
+        },
+    );
     let mut count = 0;
     while at.found {
         count += 1;
@@ -123,7 +149,17 @@ pub fn nth_cost(table: &[u32], n: usize, v: u32, last: u32, number: usize) -> Of
     requires { ⌜ (n ≤ 1000000000000000000) × (n * 5 ≤ length (now table)) ⌝ }
     ensures { λ r. ⌜ NumberIs (goalRows v last n (now (table .entry))) number r ⌝ }
 {
-    let mut at = next_cost(table, n, v, last, Offered { found: false, cost: [0; 3], step: 0 });
+    let mut at = next_cost(
+        table,
+        n,
+        v,
+        last,
+        Offered {
+            found: false,
+            cost: [0; 3],
+            step: 0,
+        },
+    );
     let mut i = 0;
     while i < number {
         if !at.found {
@@ -151,7 +187,17 @@ pub fn list_costs(table: &[u32], n: usize, v: u32, last: u32, list: &mut [u32])
     requires { ⌜ (n ≤ 1000000000000000000) × (n * 5 ≤ length (now table)) × (length (frontOf (costsOf (goalRows v last n (now table)))) * 4 ≤ length (now list)) ⌝ }
     ensures { λ _. ⌜ now (list .exit) ≡ filled (length (now (list .entry))) (offeredRows (goalRows v last n (now (table .entry)))) ⌝ }
 {
-    let mut at = next_cost(table, n, v, last, Offered { found: false, cost: [0; 3], step: 0 });
+    let mut at = next_cost(
+        table,
+        n,
+        v,
+        last,
+        Offered {
+            found: false,
+            cost: [0; 3],
+            step: 0,
+        },
+    );
     let mut i = 0;
     while at.found {
         let cost = at.cost;

@@ -51,8 +51,18 @@ pub fn prepare(src: &[u8], table: &mut [u32]) -> Prepared
     let r = search(&head, &corridors[..c], &occupancies[..o], &mut table[..m]);
     clear_from(table, m);
     if !r.served {
-        return Prepared { refusal: 8, line: 0, arrivals: 0, sheet };
+        return Prepared {
+            refusal: 8,
+            line: 0,
+            arrivals: 0,
+            sheet,
+        };
     }
     let arrivals = r.arrivals;
-    Prepared { refusal: 0, line: 0, arrivals, sheet }
+    Prepared {
+        refusal: 0,
+        line: 0,
+        arrivals,
+        sheet,
+    }
 }

@@ -1,6 +1,5 @@
 -- What the functions of the reader and the writer promise each other. The contracts of `read` and `write` cite nothing of this file.
 use mathlib.Core.Path.{_≡_}
-use mathlib.Core.Bool.{Bool, true, false}
 use mathlib.Core.List.{List, [], _∷_, _++_, map}
 use mathlib.Core.Option.{Option, some, none}
 use Prim.Native.Nat.{ℕ, zero, suc, _+_, _/_, _≤_, _<_}
@@ -10,7 +9,7 @@ use Rattle.sheet.specs.Lists.{pick, _∈_, filter, filled, rows, bind, f
 use Rattle.sheet.specs.Bytes.{kindOf, split}
 use Rattle.sheet.specs.Kinds.{Limit, between, place, Kind, kindS, kindC, kindO}
 use Rattle.sheet.specs.Lines.{Line, line, textLines}
-use Rattle.sheet.specs.Sheet.{isKind, group, placesIn, latest, fault, Outcome, refused, judge}
+use Rattle.sheet.specs.Sheet.{isKind, group, placesIn, latest, fault, refused, judge}
 use Rattle.sheet.specs.Text.{lineText}
 use Rattle.sheet.specs.Calls.{width}
 use Rattle.sheet.specs.Laws.Shape.{AllShaped}

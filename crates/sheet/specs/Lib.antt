@@ -1,4 +1,5 @@
 pub mod Lists
+pub mod Sorting
 pub mod Bytes
 pub mod Decimal
 pub mod Kinds

@@ -6,21 +6,21 @@ use mathlib.Core.List.{List, [], _∷_, _++_, reverse, reverse-cons, append-nil,
 use mathlib.Core.Logic.{_⊎_, inl, inr, ⊎-elim}
 use Prim.Native.Nat.{ℕ, zero, suc, _+_, _*_, _-_, _≤_, _<_, _/_}
 use native.Mathlib.Omega.{arith}
-use native.Mathlib.Numerals.{add-one}
-use lib.Dec.{ltb}
 use lib.ListN.{length, getD, take, replicate, length-append, length-reverse, length-replicate}
 use lib.Seq.{ext-getD, take-suc, length-take-le}
 use borrow.Author.Tests.{lt-ltb, le-ltb}
-use Rattle.sheet.specs.Lists.{_∈_, numbersFrom, number, bind, Lex, Ascending, filled}
+use Rattle.sheet.specs.Lists.{_∈_, numbersFrom, number, bind, Lex, Ascending}
 use Rattle.sheet.specs.Sheet.{Sheet, steps}
 use Rattle.sheet.specs.Laws.Order.{Lex-irrefl, Lex-trans}
 use Rattle.sheet.specs.Laws.Members.{mem-left, mem-right, mem-append}
 use Rattle.sheet.specs.Laws.Ascending.{before-all, ascending-append, ascending-unique}
-use Rattle.arrivals.specs.Arrivals.{Arrival, keyOf, leading, arrivalRow, crowded, arrivalTable, SearchEnd, searchOn}
+use Rattle.arrivals.specs.Arrivals.{Arrival, keyOf}
+use Rattle.arrivals.specs.Computed.{leading}
+use Rattle.arrivals.specs.Table.{arrivalRow, crowded, arrivalTable, SearchEnd, searchOn}
 use Rattle.arrivals.specs.Laws.Leading.{is-leading, leading-is, leading-ascending}
 use Rattle.arrivals.specs.Inner.Facts.{lt-or-le}
-use Rattle.arrivals.specs.Inner.Rows.{Row, rowAt, rowsOf, Any, here, there}
-use Rattle.arrivals.specs.Inner.Table.{Case, RowBefore, Falling, none-falling, more-falling, Filled, Crowded, Search, cut-below, cut-past, any-all, count-rows, zeros-at}
+use Rattle.arrivals.specs.Inner.Rows.{Row, rowAt, rowsOf, here, there}
+use Rattle.arrivals.specs.Inner.Table.{Case, RowBefore, Falling, none-falling, more-falling, Filled, Crowded, Search, cut-below, cut-past, count-rows}
 use Rattle.arrivals.specs.Inner.Meaning.{In, Fits, in-all, rows-lead, leads-rows, filling-lead}
 
 -- members

@@ -11,7 +11,8 @@ use lib.ListN.{length, getD, set, List·getD-eq-default}
 use lib.Seq.{getD-set-same, getD-set-other}
 use Rattle.sheet.specs.Lists.{number, numbersFrom, Lex, lexb}
 use Rattle.sheet.specs.Laws.Order.{Lex-trans, lexb-true, Lex-lexb}
-use Rattle.costs.specs.Costs.{Cost, fig, Within, AtMost, atMostb}
+use Rattle.costs.specs.Costs.{Cost, fig, Within, AtMost}
+use Rattle.costs.specs.Computed.{atMostb}
 use Rattle.costs.specs.Laws.Figures.{atMostb-true, at-most-atMostb, Lex-compared}
 
 -- a flag that decides a claim: true where the claim holds, false where it does not

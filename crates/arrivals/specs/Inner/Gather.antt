@@ -1,20 +1,19 @@
 -- Once every cost of entering a place at a step has been offered, the group is what the search has to add.
-use mathlib.Core.Path.{_≡_, refl, sym, ap, ap₂, _∙_, subst}
+use mathlib.Core.Path.{_≡_, refl, sym, ap, _∙_, subst}
 use mathlib.Core.List.{List, [], _∷_, _++_}
-use mathlib.Core.Bool.{Bool, true, false}
+use mathlib.Core.Bool.{true}
 use mathlib.Core.Logic.{_⊎_, inl, inr, ⊎-elim}
 use Prim.Native.Nat.{ℕ, zero, suc, _+_, _*_, _-_, _≤_, _<_}
 use native.Mathlib.Omega.{arith}
-use native.Mathlib.Numerals.{add-one}
-use lib.ListN.{length, getD}
+use lib.ListN.{getD}
 use Rattle.sheet.specs.Lists.{Lex}
 use Rattle.sheet.specs.Laws.Order.{Lex-trans}
-use Rattle.costs.specs.Costs.{figures, fig, add, times, Within, AtMost}
-use Rattle.costs.specs.Laws.Figures.{fig-add, fig-times, at-most-refl, at-most-trans, Lex-compared}
+use Rattle.costs.specs.Costs.{add, times, AtMost}
+use Rattle.costs.specs.Laws.Figures.{fig-add, at-most-refl, at-most-trans, Lex-compared}
 use Rattle.arrivals.specs.Inner.Facts.{lt-or-le}
 use Rattle.arrivals.specs.Inner.Rows.{Row, rowAt, rowsOf, row-path, Any, All, here, there, none, more, any-cons, any-nil, all-head, all-tail, all-at, rows-kept, Bounded, RowLeads}
-use Rattle.arrivals.specs.Inner.Search.{Joins, Enters, Led}
-use Rattle.arrivals.specs.Inner.Table.{Case, Legal, since, Vacant, Cand, Lead, Open, Less, Sound, entered, Falling, none-falling, more-falling, Filled, startRow, self-leads, all-map, all-both, any-map, any-out, any-all, cand-down, cand-bounded, row-after, filling-of, filled-as, Result, result-done}
+use Rattle.arrivals.specs.Inner.Search.{Enters, Led}
+use Rattle.arrivals.specs.Inner.Table.{Case, Legal, since, Vacant, Cand, Lead, Open, Less, Sound, entered, Falling, more-falling, Filled, startRow, self-leads, all-map, all-both, any-map, any-all, cand-down, cand-bounded, row-after, filling-of, filled-as, Result, result-done}
 use Rattle.arrivals.specs.Inner.Index.{Indexed, indexed-more, indexed-kept, Grown, grown-none, grown-more, NotedAs}
 use Rattle.arrivals.specs.Inner.Group.{Put, tailOf, tail-zero, rows-tail, Swept, Beaten, Thin, thin-none, thin-drop, thin-keep, Stops, stops-none, stops-at, Insert, insert-here, insert-past, Offered, offered-not, offered-in, Offers, offers-none, offers-more}
 

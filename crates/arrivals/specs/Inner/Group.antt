@@ -10,11 +10,11 @@ use native.Mathlib.Nat.{not-suc-le-zero}
 use lib.ListN.{length, getD, set, length-set}
 use lib.Seq.{getD-set-same, getD-set-other}
 use Rattle.sheet.specs.Lists.{Lex}
-use Rattle.costs.specs.Costs.{figures, fig, add, times, Within, AtMost}
+use Rattle.costs.specs.Costs.{figures, fig, AtMost}
 use Rattle.costs.specs.Laws.Figures.{at-most-refl, at-most-trans}
 use Rattle.arrivals.specs.Inner.Facts.{lt-or-le, from-same, from-of}
-use Rattle.arrivals.specs.Inner.Rows.{Row, rowAt, rowsOf, rows-more, rows-kept, row-path, Any, All, here, there, none, more, any-cons, any-nil, all-head, all-tail, Bounded, RowLeads}
-use Rattle.arrivals.specs.Inner.Search.{Led, false-not-true}
+use Rattle.arrivals.specs.Inner.Rows.{Row, rowAt, rowsOf, rows-more, rows-kept, row-path, Any, here, there, any-cons, any-nil}
+use Rattle.arrivals.specs.Inner.Search.{false-not-true}
 
 -- row n of ys is r, and all else is as in xs
 pub record Put (xs ys : List ℕ) (n : ℕ) (r : Row) : Type 0 where

@@ -1,22 +1,21 @@
 -- Where the rows of each step and place stand: for step s and place v, at s * 64 + v, the first row; 16384 further, the row past the last;
 -- 32768 further, one more than the last step before s at which v has rows. At 49152 + v, one more than the last step at which v has rows.
-use mathlib.Core.Path.{_≡_, refl, sym, ap, ap₂, _∙_, subst}
-use mathlib.Core.List.{List, [], _∷_, _++_}
-use mathlib.Core.Bool.{Bool, true, false}
+use mathlib.Core.Path.{_≡_, refl, sym, ap, _∙_, subst}
+use mathlib.Core.List.{List}
+use mathlib.Core.Bool.{Bool, true}
 use mathlib.Core.Logic.{_⊎_, inl, inr, ⊎-elim}
 use Prim.Native.Nat.{ℕ, zero, suc, _+_, _*_, _-_, _≤_, _<_}
 use native.Mathlib.Omega.{arith}
-use native.Mathlib.Nat.{not-suc-le-zero}
 use native.Mathlib.Decide.{ℕ-discrete}
 use lib.ListN.{length, getD, set, length-set, replicate, length-replicate}
 use lib.Seq.{getD-set-same, getD-set-other}
-use Rattle.costs.specs.Costs.{fig, add, times, Within, AtMost}
+use Rattle.costs.specs.Costs.{fig, add, times, AtMost}
 use Rattle.costs.specs.Laws.Figures.{fig-add}
 use Rattle.arrivals.specs.Inner.Facts.{lt-or-le, Decided, decided-as}
-use Rattle.arrivals.specs.Inner.Rows.{Row, rowAt, rowsOf, rows-kept, Any, All, here, there, any-cons, any-nil, any-at, none-below, Bounded, RowLeads}
+use Rattle.arrivals.specs.Inner.Rows.{Row, rowAt, rowsOf, rows-kept, Any, All, any-cons, any-nil, any-at, none-below, Bounded, RowLeads}
 use Rattle.arrivals.specs.Inner.Table.{any-map, any-out, zeros-at}
-use Rattle.arrivals.specs.Inner.Search.{sinceIn, reach, Near, Joins, Enters, Led, Ready, Link}
-use Rattle.arrivals.specs.Inner.Group.{Put, tailOf, tail-any, row-kept, Beaten, Offered, Offers, offers-none, offers-more, offered-new, Swept, swept-then, swept-as}
+use Rattle.arrivals.specs.Inner.Search.{sinceIn, reach, Near, Enters, Led, Ready}
+use Rattle.arrivals.specs.Inner.Group.{Put, tailOf, tail-any, row-kept, Beaten, Offered, offers-none, offers-more, offered-new, Swept, swept-then, swept-as}
 
 abbrev pub lowOf : List ℕ → ℕ → ℕ → ℕ
 lowOf ix s v = getD ix (s * 64 + v) 0

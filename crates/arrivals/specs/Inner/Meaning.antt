@@ -8,21 +8,20 @@ use native.Mathlib.Omega.{arith}
 use native.Mathlib.Nat.{add-mul, one-mul}
 use native.Mathlib.Numerals.{add-one}
 use lib.ListN.{length}
-use Rattle.sheet.specs.Lists.{Lex}
 use Rattle.sheet.specs.Sheet.{Sheet, steps, start}
-use Rattle.costs.specs.Costs.{Cost, figures, fig, zeroCost, add, times, AtMost}
+use Rattle.costs.specs.Costs.{Cost, fig, zeroCost, add, times, AtMost}
 use Rattle.costs.specs.Laws.Figures.{fig-add, fig-times, at-most-trans, same?, at-most-not-Lex}
 use Rattle.costs.specs.Moves.{waitOf, Crossing}
 use Rattle.intervals.specs.Intervals.{Free, Run}
 use Rattle.arrivals.specs.Ways.{Move, waits, crosses}
 use Rattle.arrivals.specs.Arrivals.{Arrival, arrival, keyOf, Arrives, waited, Leads, Leading}
 use Rattle.arrivals.specs.Laws.Trails.{Begins, Trail}
-use Rattle.arrivals.specs.Laws.Leading.{arrival-path, key-inj, arrives-came, arrives-three, arrives-free, Covers, leads-covers, covers-trans, covers-antisym, covers-leads, came-arrives}
-use Rattle.arrivals.specs.Laws.Steps.{arrives-on, Back, arrives-back, arrives-until}
+use Rattle.arrivals.specs.Laws.Leading.{key-inj, arrives-came, arrives-three, Covers, leads-covers, covers-trans, covers-antisym, covers-leads, came-arrives}
+use Rattle.arrivals.specs.Laws.Steps.{arrives-on, arrives-back, arrives-until}
 use Rattle.arrivals.specs.Inner.Facts.{lt-or-le}
 use Rattle.arrivals.specs.Inner.Rows.{Row, Any, All, here, there, none, more, any-cons, any-nil, all-head, all-tail, RowLeads}
 use Rattle.arrivals.specs.Inner.Search.{sinceIn, reach, Joins, Enters, Near}
-use Rattle.arrivals.specs.Inner.Table.{Case, since, Vacant, Cand, Lead, Open, RowBefore, Falling, none-falling, more-falling, Sound, empty, first, entered, Filled, Filling, Complete, Less, startRow, lead-of, any-map, any-out, any-all, all-map, self-leads}
+use Rattle.arrivals.specs.Inner.Table.{Case, since, Vacant, Cand, Lead, RowBefore, Falling, more-falling, Sound, empty, first, entered, Filled, Filling, Complete, Less, startRow, lead-of, any-map, any-all, all-map, self-leads}
 
 abbrev pub In : Row → List Row → Type 0
 In r rs = Any (λ q. q ≡ r) rs

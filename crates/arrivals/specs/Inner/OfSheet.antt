@@ -1,29 +1,29 @@
 -- The case that the search of a sheet is given: its free runs from the table of first steps, its corridors from their group, its waiting cost.
 use mathlib.Core.Path.{_≡_, refl, sym, ap, _∙_, subst}
-use mathlib.Core.List.{List, [], _∷_}
+use mathlib.Core.List.{List}
 use Prim.Native.Nat.{ℕ, zero, suc, _+_, _*_, _≤_, _<_, _/_, _%_}
 use native.Mathlib.Omega.{arith}
 use lib.ListN.{length}
-use Rattle.sheet.specs.Lists.{_∈_, number, numbersFrom, rows}
-use Rattle.sheet.specs.Kinds.{kindC}
+use Rattle.sheet.specs.Lists.{_∈_, number}
 use Rattle.sheet.specs.Sheet.{Sheet, places, steps, start, from, to}
 use Rattle.sheet.specs.Calls.{sheetOfGroups}
-use Rattle.sheet.specs.Valid.{Valid, ValidCorridor}
+use Rattle.sheet.specs.Valid.{Valid}
 use Rattle.sheet.specs.Laws.Rows.{rows-count}
 use Rattle.sheet.specs.declared.Place.{Place}
 use Rattle.costs.specs.Costs.{Cost, figures, Within}
-use Rattle.costs.specs.Moves.{waitOf, costOf, waitAt, Crossing}
+use Rattle.costs.specs.Moves.{waitOf, costOf, Crossing}
+use Rattle.costs.specs.Computed.{waitAt}
 use Rattle.costs.specs.Inner.{WaitIs}
 use Rattle.costs.specs.Laws.Moves.{wait-three, crossing-three, wait-bounded, crossing-bounded}
 use Rattle.costs.specs.Laws.Rows.{row, row-number, mem-rows, rows-mem}
-use Rattle.intervals.specs.Intervals.{Free, Run, sinceOf}
+use Rattle.intervals.specs.Computed.{sinceOf}
 use Rattle.intervals.specs.Inner.{SinceTable, ValidGroup}
 use Rattle.intervals.specs.Laws.Runs.{since-free, since-run, since-same}
 use Rattle.arrivals.specs.Inner.Facts.{from-same}
 use Rattle.arrivals.specs.Inner.Rows.{Row, rowAt, rowsOf, All, none, more, row-path, any-at}
 use Rattle.arrivals.specs.Inner.Search.{sinceIn, Link}
 use Rattle.arrivals.specs.Inner.Table.{Case, caseOf, Given}
-use Rattle.arrivals.specs.Inner.Index.{Found, rows-find}
+use Rattle.arrivals.specs.Inner.Index.{rows-find}
 use Rattle.arrivals.specs.Inner.Meaning.{In, Fits}
 
 -- a corridor as a row is its line

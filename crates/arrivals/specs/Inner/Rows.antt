@@ -9,7 +9,7 @@ use native.Mathlib.Nat.{not-suc-le-zero}
 use lib.ListN.{length, getD, set, length-set}
 use lib.Seq.{getD-set-same, getD-set-other}
 use Rattle.sheet.specs.Lists.{numbersFrom}
-use Rattle.costs.specs.Costs.{Cost, figures, fig, add, times, Within, AtMost}
+use Rattle.costs.specs.Costs.{figures, fig, add, times, Within, AtMost}
 use Rattle.arrivals.specs.Arrivals.{Arrival}
 use Rattle.arrivals.specs.Inner.Facts.{lt-or-le, from-same, from-of}
 

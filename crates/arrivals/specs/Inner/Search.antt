@@ -1,17 +1,17 @@
 -- The costs at which a place can be entered at a step, from the rows so far, and the least of them that no row leads.
-use mathlib.Core.Path.{_≡_, refl, sym, ap, _∙_, subst}
-use mathlib.Core.List.{List, [], _∷_}
+use mathlib.Core.Path.{_≡_, refl, sym, _∙_, subst}
+use mathlib.Core.List.{List}
 use mathlib.Core.Bool.{Bool, true, false}
 use mathlib.Core.Logic.{_⊎_, inl, inr, ⊎-elim}
-use Prim.Native.Nat.{ℕ, zero, suc, _+_, _*_, _-_, _≤_, _<_}
+use Prim.Native.Nat.{ℕ, zero, _+_, _*_, _-_, _≤_, _<_}
 use native.Mathlib.Omega.{arith}
 use lib.ListN.{length, getD}
 use Rattle.sheet.specs.Lists.{Lex}
 use Rattle.sheet.specs.Laws.Order.{Lex-irrefl}
-use Rattle.costs.specs.Costs.{figures, fig, add, times, Within, AtMost}
+use Rattle.costs.specs.Costs.{figures, add, times, Within}
 use Rattle.costs.specs.Laws.Figures.{length-add, length-times, within-times, within-add, Lex-asym}
 use Rattle.arrivals.specs.Inner.Facts.{within-of, not-Lex-trans}
-use Rattle.arrivals.specs.Inner.Rows.{Row, rowAt, rowsOf, rows-more, Any, All, here, there, any-cons, any-nil, none-zero, Bounded, RowLeads}
+use Rattle.arrivals.specs.Inner.Rows.{Row, rowAt, rowsOf, rows-more, Any, All, here, there, any-cons, none-zero, Bounded, RowLeads}
 
 -- the first step of the safe interval of place v at step t; above t where v is occupied then
 abbrev pub sinceIn : List ℕ → ℕ → ℕ → ℕ
@@ -132,6 +132,6 @@ pub reach-bounded : (v t : ℕ) (wait c : List ℕ) (r : Row) → Within 60000 w
 reach-bounded v t wait c r w k b l lw lc =
     record {
       within = within-of (60000 * r .step + (t - 1 - r .step) * 60000 + 60000) (60000 * t) refl (omega arith)
-    (within-add _ _ _ _ (within-add _ _ _ _ (b .within) (within-times (t - 1 - r .step) 60000 wait w)) k);
+          (within-add _ _ _ _ (within-add _ _ _ _ (b .within) (within-times (t - 1 - r .step) 60000 wait w)) k);
       three = length-add (add (r .cost) (times (t - 1 - r .step) wait)) c figures (length-add (r .cost) (times (t - 1 - r .step) wait) figures (b .three) (length-times (t - 1 - r .step) wait ∙ lw)) lc;
     }

@@ -5,16 +5,16 @@ use mathlib.Core.Bool.{Bool, true, false}
 use mathlib.Core.Logic.{_⊎_, inl, inr, ⊎-elim}
 use Prim.Native.Nat.{ℕ, zero, suc, _+_, _*_, _-_, _≤_, _<_}
 use native.Mathlib.Omega.{arith}
-use native.Mathlib.Nat.{mul-comm}
-use native.Mathlib.Decide.{decLe, ℕ-discrete}
-use lib.ListN.{length, getD, take, replicate, length-replicate, getD-replicate, List·getD-eq-default, List·getD-append, length-append}
+use native.Mathlib.Decide.{ℕ-discrete}
+use lib.ListN.{length, getD, take, replicate, length-replicate, getD-replicate, List·getD-eq-default, List·getD-append}
 use lib.Seq.{getD-take, getD-append-add, length-take-le}
 use Rattle.sheet.specs.Lists.{Lex}
-use Rattle.costs.specs.Costs.{figures, zeroCost, fig, add, times, Within, AtMost, atMostb}
+use Rattle.costs.specs.Costs.{figures, zeroCost, fig, add, times, Within, AtMost}
+use Rattle.costs.specs.Computed.{atMostb}
 use Rattle.costs.specs.Laws.Figures.{fig-add, fig-times, fig-zero, Lex-compared}
 use Rattle.arrivals.specs.Inner.Facts.{lt-or-le, Decided, holds, fails, at-most-decided}
-use Rattle.arrivals.specs.Inner.Rows.{Row, rowAt, rowsOf, Any, All, here, there, none, more, any-cons, any-nil, rows-kept, rows-zero, all-head, all-tail, Bounded, RowLeads}
-use Rattle.arrivals.specs.Inner.Search.{sinceIn, reach, Joins, Enters, Led, Link, Least, false-not-true, reach-bounded}
+use Rattle.arrivals.specs.Inner.Rows.{Row, rowsOf, Any, All, here, there, none, more, any-cons, any-nil, rows-kept, rows-zero, all-head, all-tail, Bounded, RowLeads}
+use Rattle.arrivals.specs.Inner.Search.{sinceIn, Enters, Led, Link, Least, false-not-true, reach-bounded}
 
 -- what is searched: the safe intervals, the corridors, the cost of waiting, the number of places and the start
 pub record Case : Type 0 where

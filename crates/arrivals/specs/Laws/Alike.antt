@@ -14,7 +14,8 @@ use Rattle.costs.specs.Moves.{waitOf, Crossing}
 use Rattle.intervals.specs.Intervals.{freeb, Together}
 use Rattle.intervals.specs.Laws.Horizon.{SameWithin, same-back, same-interval, withinHorizon, past-horizon}
 use Rattle.arrivals.specs.Ways.{Move, waits, crosses, Way}
-use Rattle.arrivals.specs.Arrivals.{Arrival, keyOf, Arrives, Leads, Leading, leading}
+use Rattle.arrivals.specs.Arrivals.{Arrival, keyOf, Arrives, Leads, Leading}
+use Rattle.arrivals.specs.Computed.{leading}
 use Rattle.arrivals.specs.Laws.Leading.{leading-is, is-leading, leading-ascending}
 
 -- two sheets on which the same ways are lawful within the horizon

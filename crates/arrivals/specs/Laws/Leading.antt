@@ -14,13 +14,16 @@ use Rattle.sheet.specs.Sheet.{Sheet, steps}
 use Rattle.sheet.specs.Laws.Order.{and-true, true-and, decided}
 use Rattle.sheet.specs.Laws.Members.{mem-left, mem-right, mem-append, filter-mem, mem-filter, map-mem, mem-map, all-true, true-all, least-below, Least}
 use Rattle.sheet.specs.Laws.Ascending.{sortUnique-mem, mem-sortUnique, sortUnique-ascending, filter-ascending}
-use Rattle.costs.specs.Costs.{Cost, figures, fig, times, AtMost, atMostb, sameb}
+use Rattle.costs.specs.Costs.{Cost, figures, fig, times, AtMost}
+use Rattle.costs.specs.Computed.{atMostb, sameb}
 use Rattle.costs.specs.Laws.Figures.{fig-add, fig-times, atMostb-true, at-most-atMostb, sameb-true, sameb-refl, at-most-refl, at-most-antisym}
 use Rattle.costs.specs.Moves.{waitOf}
-use Rattle.intervals.specs.Intervals.{Free, Run, runb}
+use Rattle.intervals.specs.Intervals.{Free, Run}
+use Rattle.intervals.specs.Computed.{runb}
 use Rattle.intervals.specs.Laws.Runs.{run-one, run-join, together-run, run-together, together-within, runb-true, run-runb}
-use Rattle.arrivals.specs.Ways.{Way, walks}
-use Rattle.arrivals.specs.Arrivals.{Arrival, arrival, keyOf, Arrives, waited, Leads, Leading, leadsb, atStep, arrivalsTo, arrivals, unledb, leading}
+use Rattle.arrivals.specs.Ways.{Way}
+use Rattle.arrivals.specs.Computed.{walks, leadsb, atStep, arrivalsTo, arrivals, unledb, leading}
+use Rattle.arrivals.specs.Arrivals.{Arrival, arrival, keyOf, Arrives, waited, Leads, Leading}
 use Rattle.arrivals.specs.Laws.Trails.{Trail, walks-trail, trail-walks, trail-three, trail-way, way-trail}
 
 pub arrival-path : (a b : Arrival) → a .place ≡ b .place → a .step ≡ b .step → a .cost ≡ b .cost → a ≡ b

@@ -15,10 +15,12 @@ use Rattle.sheet.specs.Sheet.{Sheet, start, to}
 use Rattle.sheet.specs.Laws.Members.{mem-bind, bind-mem, mem-map, map-mem, mem-keep, keep-head, filter-mem, mem-filter}
 use Rattle.costs.specs.Costs.{Cost, figures, zeroCost, add}
 use Rattle.costs.specs.Laws.Figures.{length-add}
-use Rattle.costs.specs.Moves.{waitOf, costOf, leaving}
+use Rattle.costs.specs.Moves.{waitOf, costOf}
+use Rattle.costs.specs.Computed.{leaving}
 use Rattle.costs.specs.Laws.Moves.{wait-three, crossing-three, leaving-crossing, crossing-leaving}
 use Rattle.intervals.specs.Intervals.{Free, freeb}
-use Rattle.arrivals.specs.Ways.{Move, waits, crosses, total, Way, Walk, Target, across, targets, onward, grow, walks}
+use Rattle.arrivals.specs.Ways.{Move, waits, crosses, total, Way}
+use Rattle.arrivals.specs.Computed.{Walk, Target, across, targets, onward, grow, walks}
 
 -- a trail begins at v at step 0
 pub record Begins (s : Sheet) (v : ℕ) (g : Cost) : Type 0 where

@@ -6,7 +6,8 @@ use Prim.Native.Nat.{_+_, _-_, _≤_}
 use native.Mathlib.Omega.{arith}
 use borrow.Author.Needs.{needs}
 use Rattle.sheet.specs.Lists.{number, numbersFrom}
-use Rattle.costs.specs.Moves.{waitAt, waitOf}
+use Rattle.costs.specs.Computed.{waitAt}
+use Rattle.costs.specs.Moves.{waitOf}
 use Rattle.costs.specs.Laws.Figures.{Stored, stored-none, stored-more, stored-all, is-from}
 use Rattle.costs.proofs.wait_at.Statement.{statement}
 use Rattle.costs.proofs.wait_at.Tie as tie

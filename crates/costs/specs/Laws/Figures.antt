@@ -12,7 +12,8 @@ use lib.Seq.{ext-getD, getD-set-same, getD-set-other}
 use borrow.Author.Tests.{ltb-true, ltb-false, leb-true, leb-false, eqb-true, eqb-false, le-leb, eq-eqb, not-true}
 use Rattle.sheet.specs.Lists.{number, numbersFrom, Lex, lexb}
 use Rattle.sheet.specs.Laws.Order.{and-true, true-and, decided, Lex-irrefl, Lex-trans, lexb-true, lexb-false}
-use Rattle.costs.specs.Costs.{Cost, figures, fig, zeroCost, add, times, Within, AtMost, Dominates, atMostb, dominatesb, sameb}
+use Rattle.costs.specs.Costs.{Cost, figures, fig, zeroCost, add, times, Within, AtMost, Dominates}
+use Rattle.costs.specs.Computed.{atMostb, dominatesb, sameb}
 
 pub fig-add : (a b : Cost) (i : ℕ) → fig (add a b) i ≡ fig a i + fig b i
 fig-add [] b i = omega arith

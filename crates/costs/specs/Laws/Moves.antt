@@ -18,7 +18,8 @@ use Rattle.sheet.specs.Valid.{Valid}
 use Rattle.sheet.specs.declared.Place.{Place}
 use Rattle.sheet.specs.declared.Step.{Step}
 use Rattle.costs.specs.Costs.{Cost, figures, fig}
-use Rattle.costs.specs.Moves.{waitOf, costOf, Crossing, leaving, between, firstCost, crossingAt}
+use Rattle.costs.specs.Moves.{waitOf, costOf, Crossing}
+use Rattle.costs.specs.Computed.{leaving, between, firstCost, crossingAt}
 
 length-from : (n i : ℕ) (l : List ℕ) → length (numbersFrom n i l) ≡ n
 length-from zero i l = refl

@@ -7,7 +7,7 @@ use Prim.Native.Nat.{ℕ, _-_, _≤_, _<_}
 use native.Mathlib.Omega.{arith}
 use borrow.Author.Count.{below-none, below-more}
 use borrow.Author.Needs.{needs}
-use Rattle.intervals.specs.Intervals.{freeAt}
+use Rattle.intervals.specs.Computed.{freeAt}
 use Rattle.intervals.specs.Inner.{coversb}
 use Rattle.intervals.proofs.Covers.{covered-taken, uncovered-free}
 use Rattle.intervals.proofs.is_free.Statement.{statement}

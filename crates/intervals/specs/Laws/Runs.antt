@@ -17,7 +17,8 @@ use Rattle.sheet.specs.Laws.Order.{and-true, true-and}
 use Rattle.sheet.specs.Laws.Members.{mem-left, mem-right, mem-append, filter-mem, mem-filter, map-mem, mem-map}
 use Rattle.sheet.specs.declared.Place.{Place}
 use Rattle.sheet.specs.declared.Step.{Step}
-use Rattle.intervals.specs.Intervals.{freeb, Free, Run, runb, Interval, Together, firstOf, lastOf, Span, beginsb, stepsTo, intervalsOf, sinceOf, sinceAt}
+use Rattle.intervals.specs.Intervals.{freeb, Free, Run, Interval, Together}
+use Rattle.intervals.specs.Computed.{runb, firstOf, lastOf, Span, beginsb, stepsTo, intervalsOf, sinceOf, sinceAt}
 
 pub run-one : (s : Sheet) (v t : ℕ) → Free s v t → Run s v t t
 run-one s v t f i p q = let e : i ≡ t = omega arith in rw e f

@@ -6,7 +6,8 @@ use native.Mathlib.Omega.{arith}
 use borrow.Author.Tests.{leb-true, le-leb}
 use Rattle.sheet.specs.Sheet.{Sheet, steps, goal}
 use Rattle.intervals.specs.Intervals.{Run}
-use Rattle.journeys.specs.Journeys.{Counts, countsb}
+use Rattle.journeys.specs.Journeys.{Counts}
+use Rattle.journeys.specs.Computed.{countsb}
 
 pub countsb-true : (s : Sheet) (t : ℕ) → countsb s t ≡ true → Counts s t
 unfolding countsb

@@ -11,7 +11,7 @@ use Rattle.sheet.specs.Lists.{_∈_}
 use Rattle.sheet.specs.Sheet.{Sheet, Outcome, loaded, readOf}
 use Rattle.costs.specs.Costs.{Cost, figures, fig}
 use Rattle.journeys.specs.Journeys.{Meets}
-use Rattle.journeys.specs.Front.{front}
+use Rattle.journeys.specs.Computed.{front}
 use Rattle.journeys.specs.Calls.{FrontEnd, frontServed, frontCall}
 use Rattle.journeys.specs.Demand3.{figureAt, SameLists, MeetsRead, CanMeet}
 use Rattle.journeys.specs.Laws.Journeys.{has-three}

@@ -7,14 +7,17 @@ use mathlib.Core.Bool.{Bool, true, false, not, true≢false}
 use mathlib.Core.List.{List, [], _∷_}
 use lib.ListN.{length}
 use borrow.Author.Tests.{not-true}
-use Rattle.sheet.specs.Lists.{_∈_, sortUnique, Ascending}
+use Rattle.sheet.specs.Lists.{_∈_, Ascending}
+use Rattle.sheet.specs.Sorting.{sortUnique}
 use Rattle.sheet.specs.Sheet.{Sheet}
 use Rattle.sheet.specs.Laws.Members.{filter-mem, mem-filter, all-true, true-all, least-below, Least}
 use Rattle.sheet.specs.Laws.Ascending.{sortUnique-mem, mem-sortUnique, sortUnique-ascending, filter-ascending, ascending-unique}
-use Rattle.costs.specs.Costs.{Cost, figures, AtMost, Dominates, dominatesb}
+use Rattle.costs.specs.Costs.{Cost, figures, AtMost, Dominates}
+use Rattle.costs.specs.Computed.{dominatesb}
 use Rattle.costs.specs.Laws.Figures.{dominatesb-true, dominates-dominatesb, dominates?, dominates-trans, dominates-irrefl, at-most-dominates, at-most-refl, at-most-trans, at-most-antisym, undominated-same}
 use Rattle.journeys.specs.Journeys.{HasCost, Meets}
-use Rattle.journeys.specs.Front.{OnFront, self, undominatedb, frontOf, front}
+use Rattle.journeys.specs.Front.{OnFront}
+use Rattle.journeys.specs.Computed.{self, undominatedb, frontOf, front}
 use Rattle.journeys.specs.Laws.Journeys.{costs, costs-has, has-costs, has-three}
 
 -- the front of a list of costs: its members that no member dominates

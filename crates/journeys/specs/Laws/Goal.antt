@@ -17,10 +17,12 @@ use Rattle.sheet.specs.Laws.Members.{filter-mem, mem-filter, map-mem, mem-map}
 use Rattle.sheet.specs.Laws.Ascending.{ascending-unique}
 use Rattle.costs.specs.Costs.{Cost, AtMost, Dominates}
 use Rattle.costs.specs.Laws.Figures.{undominated-same, at-most-dominates}
-use Rattle.arrivals.specs.Arrivals.{Arrival, arrival, Arrives, Leading, leading}
+use Rattle.arrivals.specs.Arrivals.{Arrival, arrival, Arrives, Leading}
+use Rattle.arrivals.specs.Computed.{leading}
 use Rattle.arrivals.specs.Laws.Leading.{arrival-path, fig-waited, Led, led, leading-is, is-leading}
-use Rattle.journeys.specs.Journeys.{Counts, countsb, Journey, HasCost, rank, Selected, journeyOf, arrivalOf}
-use Rattle.journeys.specs.Front.{OnFront, self, frontOf, front}
+use Rattle.journeys.specs.Journeys.{Counts, Journey, HasCost, rank, Selected}
+use Rattle.journeys.specs.Computed.{countsb, journeyOf, arrivalOf, self, frontOf, front}
+use Rattle.journeys.specs.Front.{OnFront}
 use Rattle.journeys.specs.Laws.Counts.{countsb-true, counts-countsb, counts-within, counts-sooner}
 use Rattle.journeys.specs.Laws.Journeys.{has-three, journeyOf-selected}
 use Rattle.journeys.specs.Laws.Front.{Undominated, frontOf-is, is-frontOf, frontOf-ascending, front-on, on-front, FrontBelow, front-below, front-ascending}

@@ -7,7 +7,8 @@ use Rattle.costs.specs.Costs.{Cost}
 use Rattle.intervals.specs.Laws.Horizon.{withinHorizon}
 use Rattle.arrivals.specs.Laws.Alike.{Alike, alike-back, alike-way, horizon-alike}
 use Rattle.journeys.specs.Journeys.{Counts, HasCost}
-use Rattle.journeys.specs.Front.{OnFront, self, front}
+use Rattle.journeys.specs.Front.{OnFront}
+use Rattle.journeys.specs.Computed.{self, front}
 use Rattle.journeys.specs.Laws.Counts.{counts-within}
 use Rattle.journeys.specs.Laws.Front.{front-on, on-front, front-ascending}
 

@@ -9,7 +9,8 @@ use native.Mathlib.Omega.{arith}
 use lib.ListN.{length}
 use lib.Dec.{eqb, leb}
 use borrow.Author.Tests.{eqb-true, eq-eqb, leb-true, leb-false}
-use Rattle.sheet.specs.Lists.{_∈_, filter, Lex, sortUnique, Ascending}
+use Rattle.sheet.specs.Lists.{_∈_, filter, Lex, Ascending}
+use Rattle.sheet.specs.Sorting.{sortUnique}
 use Rattle.sheet.specs.Sheet.{Sheet, steps, goal}
 use Rattle.sheet.specs.Valid.{Valid}
 use Rattle.sheet.specs.Laws.Order.{and-true, true-and, Lex-irrefl, Lex-trans}
@@ -17,10 +18,11 @@ use Rattle.sheet.specs.Laws.Members.{mem-left, mem-right, mem-append, filter-me
 use Rattle.sheet.specs.Laws.Ascending.{before-all, sortUnique-mem, mem-sortUnique, sortUnique-ascending}
 use Rattle.costs.specs.Costs.{Cost, figures, fig}
 use Rattle.costs.specs.Laws.Figures.{sameb-true, sameb-refl}
-use Rattle.arrivals.specs.Ways.{Walk, walks}
+use Rattle.arrivals.specs.Computed.{Walk, walks}
 use Rattle.arrivals.specs.Laws.Trails.{Trail, walks-trail, trail-walks, trail-way, way-trail, way-three}
 use Rattle.arrivals.specs.Laws.Bounds.{way-bounded}
-use Rattle.journeys.specs.Journeys.{Counts, countsb, Journey, HasCost, rank, Selected, atGoal, journeysTo, journeys, pathOf, withCost, headOr, journeyOf}
+use Rattle.journeys.specs.Journeys.{Counts, Journey, HasCost, rank, Selected}
+use Rattle.journeys.specs.Computed.{countsb, atGoal, journeysTo, journeys, pathOf, withCost, headOr, journeyOf}
 use Rattle.journeys.specs.Laws.Counts.{countsb-true, counts-countsb, counts-within}
 
 -- a trail that ends at the goal, after the places `before` (the last step first), at a step that counts

@@ -3,7 +3,7 @@
 -- has its arrival step, since the rows ascend by step; and the arrivals table of a sheet holds its leading arrivals.
 use mathlib.Core.Path.{_≡_, refl, sym, _∙_, ap, subst}
 use mathlib.Core.Logic.{_⊎_, inl, inr, _≢_}
-use mathlib.Core.Bool.{Bool, true, false, not, _&&_, true≢false}
+use mathlib.Core.Bool.{Bool, true, false, not, true≢false}
 use mathlib.Core.List.{List, [], _∷_, _++_, map, append-nil, append-assoc}
 use mathlib.Core.Option.{Option, some, none}
 use Prim.Native.Nat.{ℕ, zero, suc, _+_, _*_, _-_, _/_, _≤_, _<_}
@@ -13,25 +13,29 @@ use native.Mathlib.Numerals.{add-one}
 use lib.Dec.{eqb, leb}
 use lib.ListN.{length, getD, getElem?, take, drop, replicate, length-append, length-map}
 use lib.Seq.{sets, sets-eq, take-at, drop-at, take-all, take-suc, length-take-le}
-use borrow.Author.Tests.{eqb-true, eqb-false, eq-eqb, leb-true, le-leb, not-true}
-use Rattle.sheet.specs.Lists.{_∈_, pick, number, numbersFrom, rows, flat, bind, filled, keep, filter, all, Lex, lexb, Before, Ascending, insert, put, sortUnique}
+use borrow.Author.Tests.{eqb-true, eqb-false, eq-eqb, not-true}
+use Rattle.sheet.specs.Lists.{_∈_, pick, number, numbersFrom, rows, flat, bind, filled, keep, filter, Lex, lexb, Ascending}
+use Rattle.sheet.specs.Sorting.{insert, put, sortUnique}
 use Rattle.sheet.specs.Sheet.{Sheet, steps, goal}
 use Rattle.sheet.specs.Laws.Order.{and-true, true-and, Lex-irrefl, Lex-trans, lexb-true, lexb-false, Lex-lexb}
-use Rattle.sheet.specs.Laws.Members.{filter-mem, mem-filter, map-mem, mem-map, mem-append, mem-left, mem-right, all-true, true-all}
+use Rattle.sheet.specs.Laws.Members.{filter-mem, mem-filter, map-mem, mem-map, mem-left, mem-right, all-true, true-all}
 use Rattle.sheet.specs.Laws.Ascending.{before-all, filter-ascending}
-use Rattle.sheet.specs.Laws.Rows.{Wide, rows-count, flat-length, bind-flat}
-use Rattle.costs.specs.Costs.{Cost, figures, Dominates, dominatesb, sameb}
+use Rattle.sheet.specs.Laws.Rows.{Wide, rows-count, bind-flat}
+use Rattle.costs.specs.Costs.{Cost, figures, Dominates}
+use Rattle.costs.specs.Computed.{dominatesb, sameb}
 use Rattle.costs.specs.Laws.Figures.{dominatesb-true, dominates-dominatesb, sameb-true, sameb-refl, Lex-asym, lexb-not}
 use Rattle.costs.specs.Laws.Rows.{row, row-number, row-later}
-use Rattle.arrivals.specs.Arrivals.{Arrival, arrival, keyOf, Arrives, Leading, leading, arrivalRow, arrivalTable}
+use Rattle.arrivals.specs.Arrivals.{Arrival, arrival, keyOf, Arrives}
+use Rattle.arrivals.specs.Computed.{leading}
+use Rattle.arrivals.specs.Table.{arrivalRow, arrivalTable}
 use Rattle.arrivals.specs.Laws.Leading.{arrival-path, leading-is, is-leading, leading-ascending, arrives-three}
-use Rattle.journeys.specs.Journeys.{Counts, countsb, arrivalOf}
-use Rattle.journeys.specs.Front.{OnFront, self, undominatedb, frontOf, front}
-use Rattle.journeys.specs.Inner.{rowOf, tableRows, isGoalRow, goalRows, costsOf, firstStep, nextIn, asOffered, above, below, Candidate, BestUpTo, NextIs, NumberIs, offeredRows, Holds}
+use Rattle.journeys.specs.Computed.{countsb, arrivalOf, self, undominatedb, frontOf, front}
+use Rattle.journeys.specs.Front.{OnFront}
+use Rattle.journeys.specs.Inner.{rowOf, tableRows, isGoalRow, goalRows, costsOf, firstStep, nextIn, asOffered, above, below, Candidate, BestUpTo, NextIs, NumberIs, Holds}
 use Rattle.journeys.specs.declared.offered.Offered.{Offered}
 use Rattle.journeys.specs.Laws.Counts.{countsb-true, counts-countsb}
-use Rattle.journeys.specs.Laws.Front.{Undominated, frontOf-is, is-frontOf, frontOf-ascending, front-on}
-use Rattle.journeys.specs.Laws.Goal.{AtGoal, goalCosts, front-by-leading, Earliest, arrivalOf-earliest, arrivalOf-leading}
+use Rattle.journeys.specs.Laws.Front.{frontOf-is, is-frontOf, frontOf-ascending, front-on}
+use Rattle.journeys.specs.Laws.Goal.{goalCosts, front-by-leading, Earliest, arrivalOf-earliest, arrivalOf-leading}
 
 -- the arrival in row k, by the table's numbers
 abbrev pub rowAt : List ℕ → ℕ → Arrival
@@ -387,13 +391,14 @@ front-length l = omega (arith, filter-length (undominatedb (sortUnique self l)) 
 
 pub front-within : (v last n : ℕ) (xs : List ℕ) → length (frontOf (costsOf (goalRows v last n xs))) ≤ n
 front-within v last n xs =
-    omega
-    (arith,
-    front-length (costsOf (goalRows v last n xs)),
-    length-map (goalRows v last n xs) (λ (a : Arrival). a .cost),
-    filter-length (isGoalRow v last) (tableRows n xs),
-    length-map (rows 5 n xs) rowOf,
-    rows-count 5 n xs)
+    omega (
+      arith,
+      front-length (costsOf (goalRows v last n xs)),
+      length-map (goalRows v last n xs) (λ (a : Arrival). a .cost),
+      filter-length (isGoalRow v last) (tableRows n xs),
+      length-map (rows 5 n xs) rowOf,
+      rows-count 5 n xs,
+    )
 
 -- its costs have three figures
 pub front-three : (v last n : ℕ) (xs : List ℕ) (g : Cost) → g ∈ frontOf (costsOf (goalRows v last n xs)) → length g ≡ figures

@@ -15,8 +15,8 @@ use Rattle.sheet.specs.Sheet.{Sheet, Outcome, refused, loaded, readOf}
 use Rattle.sheet.specs.Valid.{Valid}
 use Rattle.sheet.specs.Laws.RoundTrip.{read-refused, read-valid}
 use Rattle.costs.specs.Costs.{Cost}
-use Rattle.journeys.specs.Journeys.{HasCost, journeyOf, arrivalOf}
-use Rattle.journeys.specs.Front.{front}
+use Rattle.journeys.specs.Journeys.{HasCost}
+use Rattle.journeys.specs.Computed.{journeyOf, arrivalOf, front}
 use Rattle.journeys.specs.Calls.{noRoom, cleared, frontRow, overfull, FrontEnd, frontRefused, frontServed, frontOn, frontRead, frontCall, JourneyEnd, tooShort, journeyServed, journeyOn, journeyRead, journeyCall}
 use Rattle.journeys.specs.Page.{printed, refusalLine, frontLine, journeyLines, tableNumbers, listNumbers, pageOn, pageRead, page}
 use Rattle.journeys.specs.Laws.Counts.{counts-within}

@@ -15,9 +15,9 @@ use Rattle.sheet.specs.Laws.Members.{map-mem}
 use Rattle.sheet.specs.Laws.Rows.{flat-length, flat-at, bind-flat}
 use Rattle.sheet.specs.Laws.RoundTrip.{read-refused}
 use Rattle.costs.specs.Costs.{Cost, figures, fig}
-use Rattle.arrivals.specs.Arrivals.{leading, arrivalRoom, crowded}
-use Rattle.journeys.specs.Journeys.{arrivalOf}
-use Rattle.journeys.specs.Front.{front}
+use Rattle.arrivals.specs.Computed.{leading}
+use Rattle.arrivals.specs.Table.{arrivalRoom, crowded}
+use Rattle.journeys.specs.Computed.{arrivalOf, front}
 use Rattle.journeys.specs.Calls.{usable, noRoom, cleared, frontRow, frontRoom, overfull, FrontEnd, frontRefused, frontServed, frontOn, frontRead, frontCall}
 use Rattle.journeys.specs.Demand3.{figureAt}
 use Rattle.journeys.specs.Laws.Journeys.{has-three}

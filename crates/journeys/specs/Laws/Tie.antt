@@ -19,7 +19,8 @@ use Rattle.arrivals.specs.Ways.{Move}
 use Rattle.arrivals.specs.Arrivals.{arrival, Arrives}
 use Rattle.arrivals.specs.Laws.Trails.{Begins, Trail, trail-three}
 use Rattle.arrivals.specs.Laws.Leading.{came-arrives}
-use Rattle.journeys.specs.Journeys.{Counts, Journey, rank, Selected, journeyOf}
+use Rattle.journeys.specs.Journeys.{Counts, Journey, rank, Selected}
+use Rattle.journeys.specs.Computed.{journeyOf}
 use Rattle.journeys.specs.Laws.Journeys.{homeward-journey, Backward, journey-backward, backward-path, selected-unique, journeyOf-selected}
 use Rattle.journeys.specs.Laws.Goal.{AtGoal, journey-at}
 

@@ -59,7 +59,7 @@ same-length-2 c = search needs
 returns-2 : tie.Need-returns-2 Inv-loop μ-loop
 returns-2 c = (
   result-full _ _ _ _ _ (c .before .before .before .before .loop .inv .0)
-  (crowded-next _ _ _ _ _ _ _ (c .before .before .before .before .before .before .before .before .before .pre .1 .legal) (c .before .before .before .before .before .before .before .before .before .pre .2) (c .before .before .before .before .before .before .before .before .before .pre .4) (c .before .before .before .before .before .before .before .before .before .pre .6) (c .before .before .before .before .loop .inv .2) (c .before .before .next-label .ensures) (not-false _ (c .before .if1 .left)) (omega arith)),
+      (crowded-next _ _ _ _ _ _ _ (c .before .before .before .before .before .before .before .before .before .pre .1 .legal) (c .before .before .before .before .before .before .before .before .before .pre .2) (c .before .before .before .before .before .before .before .before .before .pre .4) (c .before .before .before .before .before .before .before .before .before .pre .6) (c .before .before .before .before .loop .inv .2) (c .before .before .next-label .ensures) (not-false _ (c .before .if1 .left)) (omega arith)),
   c .before .before .before .before .loop .inv .3,
 )
 

@@ -28,7 +28,7 @@ same-length : tie.Need-same-length
 same-length c = search needs
 
 returns : tie.Need-returns
-returns c = 
+returns c =
     let q = c .before .before .before .before .before .prepare in
     let a = c .before .before .before .before .before .before .before .before .before .before .args in
     front-refused (a .sheet .now) (a .table .now) (a .list .now) (q .last .1 .0) (q .result) (c .refuse-front .result) (c .refuse-front .ensures) (q .ensures) (c .before .if1 .taken)
@@ -40,7 +40,7 @@ array-read-count-costs-2 : tie.Need-array-read-count-costs-2
 array-read-count-costs-2 c = search needs
 
 count-costs-requires : tie.Need-count-costs-requires
-count-costs-requires c κs = 
+count-costs-requires c κs =
     let q = c .before .before .before .before .before .before .before .prepare in
     let a = c .before .before .before .before .before .before .before .before .before .before .before .before .args in
     let p = prepared-ready (a .sheet .now) (a .table .now) (q .last .1 .0) (q .result) (q .ensures) (c .before .before .before .if1 .left) in
@@ -59,7 +59,7 @@ same-length-2 : tie.Need-same-length-2
 same-length-2 c = search needs
 
 returns-2 : tie.Need-returns-2
-returns-2 c = 
+returns-2 c =
     let q = c .before .before .before .before .before .before .before .before .before .before .before .before .before .before .before .prepare in
     let a = c .before .before .before .before .before .before .before .before .before .before .before .before .before .before .before .before .before .before .before .before .args in
     let p = prepared-ready (a .sheet .now) (a .table .now) (q .last .1 .0) (q .result) (q .ensures) (c .before .before .before .before .before .before .before .before .before .before .before .if1 .left) in
@@ -73,7 +73,7 @@ array-read-list-costs-2 : tie.Need-array-read-list-costs-2
 array-read-list-costs-2 c = search needs
 
 list-costs-requires : tie.Need-list-costs-requires
-list-costs-requires c κs = 
+list-costs-requires c κs =
     let q = c .before .before .before .before .before .before .before .before .before .before .before .before .prepare in
     let a = c .before .before .before .before .before .before .before .before .before .before .before .before .before .before .before .before .before .args in
     let p = prepared-ready (a .sheet .now) (a .table .now) (q .last .1 .0) (q .result) (q .ensures) (c .before .before .before .before .before .before .before .before .if1 .left) in
@@ -81,13 +81,13 @@ list-costs-requires c κs =
     (omega (arith, p .few), p .holds .room, omega (arith, h, c .before .before .before .before .count-costs .ensures, front-room (length (a .list .now)) .1))
 
 cast-t19 : tie.Need-cast-t19
-cast-t19 c = 
+cast-t19 c =
     let a = c .before .before .before .before .before .before .before .before .before .before .before .before .before .before .before .before .before .before .before .before .args in
     let h = subst (λ (n : ℕ). c .before .before .before .before .before .before .before .count-costs .result ≤ n / 4) (c .before .before .before .before .before .before .usable-of .ensures) (c .before .before .before .before .before .if2 .left) in
     omega (arith, h, front-room (length (a .list .now)) .0)
 
 cast-t16 : tie.Need-cast-t16
-cast-t16 c = 
+cast-t16 c =
     let q = c .before .before .before .before .before .before .before .before .before .before .before .before .before .before .before .prepare in
     let a = c .before .before .before .before .before .before .before .before .before .before .before .before .before .before .before .before .before .before .before .before .args in
     let p = prepared-ready (a .sheet .now) (a .table .now) (q .last .1 .0) (q .result) (q .ensures) (c .before .before .before .before .before .before .before .before .before .before .before .if1 .left) in
@@ -100,7 +100,7 @@ same-length-4 : tie.Need-same-length-4
 same-length-4 c = search needs
 
 returns-3 : tie.Need-returns-3
-returns-3 c = 
+returns-3 c =
     let q = c .before .before .before .before .before .before .before .before .before .before .before .before .before .before .before .prepare in
     let a = c .before .before .before .before .before .before .before .before .before .before .before .before .before .before .before .before .before .before .before .before .args in
     let p = prepared-ready (a .sheet .now) (a .table .now) (q .last .1 .0) (q .result) (q .ensures) (c .before .before .before .before .before .before .before .before .before .before .before .if1 .left) in

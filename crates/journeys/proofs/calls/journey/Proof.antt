@@ -29,7 +29,7 @@ same-length : tie.Need-same-length
 same-length c = search needs
 
 returns : tie.Need-returns
-returns c = 
+returns c =
     let q = c .before .before .before .before .before .prepare in
     let a = c .before .before .before .before .before .before .before .before .before .before .args in
     journey-refused (a .sheet .now) (a .number) (a .table .now) (a .path .now) (q .last .1 .0) (q .result) (c .refuse-journey .result) (c .refuse-journey .ensures) (q .ensures) (c .before .if1 .taken)
@@ -41,7 +41,7 @@ array-read-nth-cost-2 : tie.Need-array-read-nth-cost-2
 array-read-nth-cost-2 c = search needs
 
 nth-cost-requires : tie.Need-nth-cost-requires
-nth-cost-requires c κs = 
+nth-cost-requires c κs =
     let q = c .before .before .before .before .before .before .before .prepare in
     let a = c .before .before .before .before .before .before .before .before .before .before .before .before .args in
     let p = prepared-ready (a .sheet .now) (a .table .now) (q .last .1 .0) (q .result) (q .ensures) (c .before .before .before .if1 .left) in
@@ -57,7 +57,7 @@ same-length-2 : tie.Need-same-length-2
 same-length-2 c = search needs
 
 returns-2 : tie.Need-returns-2
-returns-2 c = 
+returns-2 c =
     let q = c .before .before .before .before .before .before .before .before .before .before .before .before .before .before .before .prepare in
     let a = c .before .before .before .before .before .before .before .before .before .before .before .before .before .before .before .before .before .before .before .before .args in
     let p = prepared-ready (a .sheet .now) (a .table .now) (q .last .1 .0) (q .result) (q .ensures) (c .before .before .before .before .before .before .before .before .before .before .before .if1 .left) in
@@ -76,7 +76,7 @@ same-length-3 : tie.Need-same-length-3
 same-length-3 c = search needs
 
 returns-3 : tie.Need-returns-3
-returns-3 c = 
+returns-3 c =
     let q = c .before .before .before .before .before .before .before .before .before .before .before .before .before .before .before .before .prepare in
     let a = c .before .before .before .before .before .before .before .before .before .before .before .before .before .before .before .before .before .before .before .before .before .args in
     let p = prepared-ready (a .sheet .now) (a .table .now) (q .last .1 .0) (q .result) (q .ensures) (c .before .before .before .before .before .before .before .before .before .before .before .before .if1 .left) in
@@ -86,14 +86,14 @@ array-read-c : tie.Need-array-read-c
 array-read-c c = search needs
 
 cast-c : tie.Need-cast-c
-cast-c c = 
+cast-c c =
     let q = c .before .before .before .before .before .before .before .before .before .before .before .before .before .before .before .prepare in
     let a = c .before .before .before .before .before .before .before .before .before .before .before .before .before .before .before .before .before .before .before .before .args in
     let p = prepared-ready (a .sheet .now) (a .table .now) (q .last .1 .0) (q .result) (q .ensures) (c .before .before .before .before .before .before .before .before .before .before .before .if1 .left) in
     omega (arith, p .groups .corridors-of .few)
 
 mul-c : tie.Need-mul-c
-mul-c c = 
+mul-c c =
     let q = c .before .before .before .before .before .before .before .before .before .before .before .before .before .before .before .prepare in
     let a = c .before .before .before .before .before .before .before .before .before .before .before .before .before .before .before .before .before .before .before .before .args in
     let p = prepared-ready (a .sheet .now) (a .table .now) (q .last .1 .0) (q .result) (q .ensures) (c .before .before .before .before .before .before .before .before .before .before .before .if1 .left) in
@@ -103,56 +103,56 @@ array-read-q : tie.Need-array-read-q
 array-read-q c = search needs
 
 cast-q : tie.Need-cast-q
-cast-q c = 
+cast-q c =
     let q = c .before .before .before .before .before .before .before .before .before .before .before .before .before .before .before .prepare in
     let a = c .before .before .before .before .before .before .before .before .before .before .before .before .before .before .before .before .before .before .before .before .args in
     let p = prepared-ready (a .sheet .now) (a .table .now) (q .last .1 .0) (q .result) (q .ensures) (c .before .before .before .before .before .before .before .before .before .before .before .if1 .left) in
     omega (arith, p .groups .occupancies-of .few)
 
 mul-q : tie.Need-mul-q
-mul-q c = 
+mul-q c =
     let q = c .before .before .before .before .before .before .before .before .before .before .before .before .before .before .before .prepare in
     let a = c .before .before .before .before .before .before .before .before .before .before .before .before .before .before .before .before .before .before .before .before .args in
     let p = prepared-ready (a .sheet .now) (a .table .now) (q .last .1 .0) (q .result) (q .ensures) (c .before .before .before .before .before .before .before .before .before .before .before .if1 .left) in
     omega (arith, p .groups .occupancies-of .few)
 
 slice-aggregate-lay-path : tie.Need-slice-aggregate-lay-path
-slice-aggregate-lay-path c = 
+slice-aggregate-lay-path c =
     let q = c .before .before .before .before .before .before .before .before .before .before .before .before .before .before .before .before .prepare in
     let a = c .before .before .before .before .before .before .before .before .before .before .before .before .before .before .before .before .before .before .before .before .before .args in
     let p = prepared-ready (a .sheet .now) (a .table .now) (q .last .1 .0) (q .result) (q .ensures) (c .before .before .before .before .before .before .before .before .before .before .before .before .if1 .left) in
     sym (ap length (p .groups .head-is) ∙ p .valid .seven)
 
 array-share-prefix-corridors : tie.Need-array-share-prefix-corridors
-array-share-prefix-corridors c = 
+array-share-prefix-corridors c =
     let q = c .before .before .before .before .before .before .before .before .before .before .before .before .before .before .before .before .prepare in
     let a = c .before .before .before .before .before .before .before .before .before .before .before .before .before .before .before .before .before .before .before .before .before .args in
     let p = prepared-ready (a .sheet .now) (a .table .now) (q .last .1 .0) (q .result) (q .ensures) (c .before .before .before .before .before .before .before .before .before .before .before .before .if1 .left) in
     p .groups .corridors-of .within
 
 slice-aggregate-lay-path-2 : tie.Need-slice-aggregate-lay-path-2
-slice-aggregate-lay-path-2 c = 
+slice-aggregate-lay-path-2 c =
     let q = c .before .before .before .before .before .before .before .before .before .before .before .before .before .before .before .before .before .prepare in
     let a = c .before .before .before .before .before .before .before .before .before .before .before .before .before .before .before .before .before .before .before .before .before .before .args in
     let p = prepared-ready (a .sheet .now) (a .table .now) (q .last .1 .0) (q .result) (q .ensures) (c .before .before .before .before .before .before .before .before .before .before .before .before .before .if1 .left) in
     sym (length-take-le _ _ (p .groups .corridors-of .within))
 
 array-share-prefix-occupancies : tie.Need-array-share-prefix-occupancies
-array-share-prefix-occupancies c = 
+array-share-prefix-occupancies c =
     let q = c .before .before .before .before .before .before .before .before .before .before .before .before .before .before .before .before .before .prepare in
     let a = c .before .before .before .before .before .before .before .before .before .before .before .before .before .before .before .before .before .before .before .before .before .before .args in
     let p = prepared-ready (a .sheet .now) (a .table .now) (q .last .1 .0) (q .result) (q .ensures) (c .before .before .before .before .before .before .before .before .before .before .before .before .before .if1 .left) in
     p .groups .occupancies-of .within
 
 slice-aggregate-lay-path-3 : tie.Need-slice-aggregate-lay-path-3
-slice-aggregate-lay-path-3 c = 
+slice-aggregate-lay-path-3 c =
     let q = c .before .before .before .before .before .before .before .before .before .before .before .before .before .before .before .before .before .before .prepare in
     let a = c .before .before .before .before .before .before .before .before .before .before .before .before .before .before .before .before .before .before .before .before .before .before .before .args in
     let p = prepared-ready (a .sheet .now) (a .table .now) (q .last .1 .0) (q .result) (q .ensures) (c .before .before .before .before .before .before .before .before .before .before .before .before .before .before .if1 .left) in
     sym (length-take-le _ _ (p .groups .occupancies-of .within))
 
 lay-path-requires : tie.Need-lay-path-requires
-lay-path-requires c κs = 
+lay-path-requires c κs =
     let q = c .before .before .before .before .before .before .before .before .before .before .before .before .before .before .before .before .before .before .before .before .prepare in
     let a = c .before .before .before .before .before .before .before .before .before .before .before .before .before .before .before .before .before .before .before .before .before .before .before .before .before .args in
     let p = prepared-ready (a .sheet .now) (a .table .now) (q .last .1 .0) (q .result) (q .ensures) (c .before .before .before .before .before .before .before .before .before .before .before .before .before .before .before .before .if1 .left) in
@@ -166,7 +166,7 @@ same-length-5 : tie.Need-same-length-5
 same-length-5 c = search needs
 
 returns-4 : tie.Need-returns-4
-returns-4 c = 
+returns-4 c =
     let q = c .before .before .before .before .before .before .before .before .before .before .before .before .before .before .before .before .before .before .before .before .before .before .before .prepare in
     let a = c .before .before .before .before .before .before .before .before .before .before .before .before .before .before .before .before .before .before .before .before .before .before .before .before .before .before .before .before .args in
     let p = prepared-ready (a .sheet .now) (a .table .now) (q .last .1 .0) (q .result) (q .ensures) (c .before .before .before .before .before .before .before .before .before .before .before .before .before .before .before .before .before .before .before .if1 .left) in

@@ -1,7 +1,6 @@
 -- `journeys::offered::better_row` meets its contract: the row is no goal row, or its cost is no better candidate, or it is the best.
 -- Assumes nothing.
-use mathlib.Core.Path.{_≡_, refl, sym, _∙_}
-use mathlib.Core.Bool.{Bool, true, false, not}
+use mathlib.Core.Path.{refl, sym, _∙_}
 use borrow.Author.Tests.{not-true, not-false}
 use Rattle.journeys.specs.Inner.{asOffered}
 use Rattle.journeys.specs.Laws.Offered.{row-skipped, row-low, row-high, row-dominated, row-taken}
@@ -37,7 +36,7 @@ shared-slice-read-if1-2 : tie.Need-shared-slice-read-if1-2
 shared-slice-read-if1-2 c = search needs
 
 returns : tie.Need-returns
-returns c = 
+returns c =
     let a = c .before .before .before .before .args in
     row-skipped (a .v) (a .last) (a .n) (a .table .now) (asOffered (a .after)) (a .k) (a .best) (c .before .before .before .before .pre .3) (not-true _ (c .if1 .taken))
 
@@ -48,7 +47,7 @@ is-above-requires : tie.Need-is-above-requires
 is-above-requires c κs = search needs
 
 returns-2 : tie.Need-returns-2
-returns-2 c = 
+returns-2 c =
     let a = c .before .before .before .before .before .before .before .args in
     row-low (a .v) (a .last) (a .n) (a .table .now) (asOffered (a .after)) (a .k) (a .best) (c .before .before .before .before .before .before .before .pre .3) (c .before .before .row-cost .result) (c .before .before .row-cost .ensures) (not-false _ (c .before .before .before .if1 .left)) (sym (c .before .is-above .ensures) ∙ not-true _ (c .if2 .taken))
 
@@ -56,7 +55,7 @@ is-below-requires : tie.Need-is-below-requires
 is-below-requires c κs = search needs
 
 returns-3 : tie.Need-returns-3
-returns-3 c = 
+returns-3 c =
     let a = c .before .before .before .before .before .before .before .before .before .args in
     row-high (a .v) (a .last) (a .n) (a .table .now) (asOffered (a .after)) (a .k) (a .best) (c .before .before .before .before .before .before .before .before .before .pre .3) (c .before .before .before .before .row-cost .result) (c .before .before .before .before .row-cost .ensures) (not-false _ (c .before .before .before .before .before .if1 .left)) (sym (c .before .is-below .ensures) ∙ not-true _ (c .if3 .taken))
 
@@ -64,7 +63,7 @@ is-undominated-requires : tie.Need-is-undominated-requires
 is-undominated-requires c κs = search needs
 
 returns-4 : tie.Need-returns-4
-returns-4 c = 
+returns-4 c =
     let a = c .before .before .before .before .before .before .before .before .before .before .before .args in
     row-dominated (a .v) (a .last) (a .n) (a .table .now) (asOffered (a .after)) (a .k) (a .best) (c .before .before .before .before .before .before .before .before .before .before .before .pre .3) (c .before .before .before .before .before .before .row-cost .result) (c .before .before .before .before .before .before .row-cost .ensures) (not-false _ (c .before .before .before .before .before .before .before .if1 .left)) (sym (c .before .is-undominated .ensures) ∙ not-true _ (c .if4 .taken))
 
@@ -81,7 +80,7 @@ shared-slice-read-t12 : tie.Need-shared-slice-read-t12
 shared-slice-read-t12 c = search needs
 
 returns-5 : tie.Need-returns-5
-returns-5 c = 
+returns-5 c =
     let a = c .before .before .before .before .before .before .before .before .before .before .before .before .args in
     row-taken (a .v) (a .last) (a .n) (a .table .now) (asOffered (a .after)) (a .k) (a .best) (c .before .before .before .before .before .before .before .before .before .before .before .before .pre .3) (c .before .before .before .before .before .before .before .row-cost .result) (c .before .before .before .before .before .before .before .row-cost .ensures) (not-false _ (c .before .before .before .before .before .before .before .before .if1 .left)) _ (sym (c .before .before .before .before .before .before .is-above .ensures) ∙ not-false _ (c .before .before .before .before .before .if2 .left)) (sym (c .before .before .before .before .is-below .ensures) ∙ not-false _ (c .before .before .before .if3 .left)) (sym (c .before .before .is-undominated .ensures) ∙ not-false _ (c .before .if4 .left)) refl refl refl
 

@@ -2,12 +2,11 @@
 -- The measure is what is left of the list.
 -- Assumes nothing.
 use mathlib.Core.Path.{_≡_, refl, sym, _∙_, ap}
-use mathlib.Core.List.{List, [], _∷_, _++_, append-nil, append-assoc}
-use Prim.Native.Nat.{ℕ, _+_, _-_, _≤_, _<_}
+use mathlib.Core.List.{_++_, append-nil}
+use Prim.Native.Nat.{ℕ, _+_, _-_, _≤_}
 use native.Mathlib.Omega.{arith}
-use native.Mathlib.Numerals.{add-one}
-use lib.ListN.{length, take, replicate, set, length-set, replicate-append-replicate}
-use lib.Seq.{take-all, take-suc-set}
+use lib.ListN.{length, take, replicate, length-set}
+use lib.Seq.{take-all}
 use borrow.Author.Needs.{needs}
 use Rattle.journeys.proofs.offered.clear_from.Statement.{statement}
 use Rattle.journeys.proofs.offered.clear_from.Tie as tie
@@ -22,7 +21,7 @@ abbrev μ-loop : tie.MeasureT-loop
 μ-loop list₀ from i₀ list i = length list - i
 
 loop-holds : tie.Need-loop-holds Inv-loop μ-loop
-loop-holds c = 
+loop-holds c =
     let l = c .args .list .now in
     let z : c .args .from - c .args .from ≡ 0 = omega arith in
     (omega arith, c .pre, refl, sym (ap (λ (n : ℕ). take (c .args .from) l ++ replicate n 0) z ∙ append-nil (take (c .args .from) l)))
@@ -40,7 +39,7 @@ loop-less : tie.Need-loop-less Inv-loop μ-loop
 loop-less c = omega (arith, length-set (c .before .loop .list) (c .before .loop .i) 0)
 
 loop-again : tie.Need-loop-again Inv-loop μ-loop
-loop-again c = 
+loop-again c =
     let h = c .before .loop in
     let s = length-set (h .list) (h .i) 0 in
     (omega arith, omega (arith, s), s ∙ h .inv .2, clear-more (c .before .before .args .from) (h .i) (c .before .before .args .list .now) (h .list) (h .inv .0) (omega arith) (h .inv .3))
@@ -49,7 +48,7 @@ same-length : tie.Need-same-length Inv-loop μ-loop
 same-length c = search needs
 
 returns : tie.Need-returns Inv-loop μ-loop
-returns c = 
+returns c =
     let h = c .before .loop in
     let e : h .i ≡ length (c .before .before .args .list .now) = omega arith in
     sym (take-all (h .i) (h .list) (omega arith)) ∙ h .inv .3 ∙ ap (λ (n : ℕ). take (c .before .before .args .from) (c .before .before .args .list .now) ++ replicate (n - c .before .before .args .from) 0) e

@@ -1,12 +1,11 @@
 -- `journeys::offered::count_costs` meets its contract. The loop's invariant: `at` is the front cost with the number `count`, or there is none.
 -- The measure is what is left of the front.
 -- Assumes nothing.
-use mathlib.Core.Path.{_≡_, refl, sym, _∙_, ap}
-use Prim.Native.Nat.{ℕ, _+_, _*_, _-_, _≤_}
+use Prim.Native.Nat.{_-_, _≤_}
 use native.Mathlib.Omega.{arith}
 use lib.ListN.{length}
 use borrow.Author.Needs.{needs}
-use Rattle.journeys.specs.Front.{frontOf}
+use Rattle.journeys.specs.Computed.{frontOf}
 use Rattle.journeys.specs.Inner.{goalRows, costsOf, NumberIs}
 use Rattle.journeys.specs.Laws.Offered.{number-first, number-next, front-within}
 use Rattle.journeys.proofs.offered.count_costs.Statement.{statement}
@@ -28,7 +27,7 @@ loop-holds : tie.Need-loop-holds Inv-loop μ-loop
 loop-holds c = (omega arith, number-first _ _ (c .next-cost .ensures))
 
 add-count : tie.Need-add-count Inv-loop μ-loop
-add-count c = 
+add-count c =
     let a = c .before .before .before .before .args in
     omega (arith, c .before .loop .inv .1 .on (c .loop-test .taken) .0, front-within (a .v) (a .last) (a .n) (a .table .now))
 
@@ -39,7 +38,7 @@ loop-less : tie.Need-loop-less Inv-loop μ-loop
 loop-less c = omega (arith, c .before .before .loop .inv .1 .on (c .before .loop-test .taken) .0)
 
 loop-again : tie.Need-loop-again Inv-loop μ-loop
-loop-again c = 
+loop-again c =
     let h = c .before .before .loop in
     (omega (arith, h .inv .1 .on (c .before .loop-test .taken) .0), number-next _ (h .count) (h .at) _ (h .inv .1) (c .before .loop-test .taken) (c .next-cost2 .ensures))
 

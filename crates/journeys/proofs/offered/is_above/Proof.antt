@@ -16,7 +16,7 @@ before-requires : tie.Need-before-requires
 before-requires c κs = search needs
 
 returns : tie.Need-returns
-returns c = 
+returns c =
     let a = c .before .before .before .args in
     c .before2 .ensures ∙ sym (ap (λ (b : Bool). above (pick b (some (a .after .cost)) none) (a .g)) (c .before .if1 .taken))
 

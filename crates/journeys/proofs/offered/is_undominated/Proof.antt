@@ -1,16 +1,15 @@
 -- `journeys::offered::is_undominated` meets its contract. The loop's invariant: no goal row among the first k dominates g.
 -- The measure is what is left of the rows.
 -- Assumes nothing.
-use mathlib.Core.Path.{_≡_, refl, sym, _∙_, ap, subst}
+use mathlib.Core.Path.{_≡_, refl, sym, _∙_, ap}
 use mathlib.Core.Logic.{⊎-elim}
-use mathlib.Core.Bool.{true, false}
-use mathlib.Core.List.{List}
+use mathlib.Core.Bool.{true}
 use Prim.Native.Nat.{ℕ, _-_, _≤_}
 use native.Mathlib.Omega.{arith}
 use borrow.Author.Needs.{needs}
-use Rattle.costs.specs.Costs.{Cost, dominatesb}
-use Rattle.arrivals.specs.Arrivals.{Arrival}
-use Rattle.journeys.specs.Front.{undominatedb}
+use Rattle.costs.specs.Costs.{Cost}
+use Rattle.costs.specs.Computed.{dominatesb}
+use Rattle.journeys.specs.Computed.{undominatedb}
 use Rattle.journeys.specs.Inner.{goalRows, costsOf}
 use Rattle.journeys.specs.Laws.Offered.{rowAt, goal-row, dominated, undominated-kept, undominated-skipped}
 use Rattle.journeys.proofs.offered.is_undominated.Statement.{statement}
@@ -57,7 +56,7 @@ dominates-requires : tie.Need-dominates-requires Inv-loop μ-loop
 dominates-requires c κs = search needs
 
 returns : tie.Need-returns Inv-loop μ-loop
-returns c = 
+returns c =
     let a = c .before .before .before .before .before .before .before .before .before .args in
     let k = c .before .before .before .before .before .before .before .loop .k in
     let xs = a .table .now in
@@ -71,18 +70,19 @@ loop-less : tie.Need-loop-less Inv-loop μ-loop
 loop-less c = search needs
 
 loop-again : tie.Need-loop-again Inv-loop μ-loop
-loop-again c = 
+loop-again c =
     let a = c .before .before .before .before .before .before .args in
     let k = c .before .before .before .before .loop .k in
-    let u = c .before .before .before .before .loop .inv .1 in
-    (search needs,
-    ⊎-elim
-    (λ w. undominated-kept (a .v) (a .last) (a .table .now) k (a .g) u (w .0 .taken) (ap (λ (h : Cost). dominatesb h (a .g)) (sym (w .1 .ensures)) ∙ sym (w .2 .ensures) ∙ w .3 .left))
-    (λ w. undominated-skipped (a .v) (a .last) (a .table .now) k (a .g) u (w .left))
-    (c .if1 .came))
+    let u = c .before .before .before .before .loop .inv .1 in (
+      search needs,
+      ⊎-elim
+          (λ w. undominated-kept (a .v) (a .last) (a .table .now) k (a .g) u (w .0 .taken) (ap (λ (h : Cost). dominatesb h (a .g)) (sym (w .1 .ensures)) ∙ sym (w .2 .ensures) ∙ w .3 .left))
+          (λ w. undominated-skipped (a .v) (a .last) (a .table .now) k (a .g) u (w .left))
+          (c .if1 .came),
+    )
 
 returns-2 : tie.Need-returns-2 Inv-loop μ-loop
-returns-2 c = 
+returns-2 c =
     let a = c .before .before .before .args in
     let e : c .before .loop .k ≡ a .n = omega arith in
     sym (ap (λ (i : ℕ). undominatedb (costsOf (goalRows (a .v) (a .last) i (a .table .now))) (a .g)) (sym e) ∙ c .before .loop .inv .1)

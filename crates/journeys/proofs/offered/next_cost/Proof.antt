@@ -1,7 +1,7 @@
 -- `journeys::offered::next_cost` meets its contract. The loop's invariant: best is the least candidate of the first k rows. The measure is what is
 -- left of the rows.
 -- Assumes nothing.
-use mathlib.Core.Path.{_≡_, refl, sym, _∙_, ap, subst}
+use mathlib.Core.Path.{_≡_, refl, subst}
 use Prim.Native.Nat.{ℕ, _-_, _≤_}
 use native.Mathlib.Omega.{arith}
 use borrow.Author.Needs.{needs}
@@ -35,7 +35,7 @@ loop-again : tie.Need-loop-again Inv-loop μ-loop
 loop-again c = (search needs, c .better-row .ensures)
 
 returns : tie.Need-returns Inv-loop μ-loop
-returns c = 
+returns c =
     let a = c .before .before .before .args in
     let e : c .before .loop .k ≡ a .n = omega arith in
     let l = goalRows (a .v) (a .last) (a .n) (a .table .now) in

@@ -27,7 +27,7 @@ loop-holds : tie.Need-loop-holds Inv-loop μ-loop
 loop-holds c = (omega arith, number-first _ _ (c .next-cost .ensures))
 
 returns : tie.Need-returns Inv-loop μ-loop
-returns c = 
+returns c =
     let h = c .before .before .before .loop in
     number-past _ (h .i) _ (h .at) (h .inv .0) (not-true _ (c .if1 .taken)) (h .inv .1)
 
@@ -41,12 +41,12 @@ loop-less : tie.Need-loop-less Inv-loop μ-loop
 loop-less c = search needs
 
 loop-again : tie.Need-loop-again Inv-loop μ-loop
-loop-again c = 
+loop-again c =
     let h = c .before .before .before .before .loop in
     (search needs, number-next _ (h .i) (h .at) _ (h .inv .1) (not-false _ (c .before .if1 .left)) (c .next-cost2 .ensures))
 
 returns-2 : tie.Need-returns-2 Inv-loop μ-loop
-returns-2 c = 
+returns-2 c =
     let a = c .before .before .before .before .args in
     let h = c .before .loop in
     let e : h .i ≡ a .number = omega arith in

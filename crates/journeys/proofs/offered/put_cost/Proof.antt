@@ -54,7 +54,7 @@ loop-less : tie.Need-loop-less Inv-loop μ-loop
 loop-less c = search needs
 
 loop-again : tie.Need-loop-again Inv-loop μ-loop
-loop-again c = 
+loop-again c =
     let h = c .before .loop in
     let a = c .before .before .args in
     let l : h .j < length (a .t3) = omega arith in
@@ -76,7 +76,7 @@ same-length : tie.Need-same-length Inv-loop μ-loop
 same-length c = length-set (c .before .loop .list) (c .before .before .args .i * 4 + 3) (c .before .before .args .step) ∙ same-end c
 
 returns : tie.Need-returns Inv-loop μ-loop
-returns c = 
+returns c =
     let h = c .before .loop in
     let a = c .before .before .args in
     let e : h .list ≡ sets (a .list .now) (a .i * 4) (a .t3) = h .inv .2 ∙ ap (sets (a .list .now) (a .i * 4)) (take-all (h .j) (a .t3) (omega arith)) in

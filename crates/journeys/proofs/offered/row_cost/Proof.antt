@@ -1,7 +1,7 @@
 -- `journeys::offered::row_cost` meets its contract. The loop's invariant: the first i figures of r are the numbers of row k from 2 on.
 -- The measure is what is left of the three figures.
 -- Assumes nothing.
-use mathlib.Core.Path.{_≡_, refl}
+use mathlib.Core.Path.{refl}
 use Prim.Native.Nat.{_+_, _*_, _-_, _≤_}
 use native.Mathlib.Omega.{arith}
 use borrow.Author.Needs.{needs}
@@ -52,7 +52,7 @@ loop-again : tie.Need-loop-again Inv-loop μ-loop
 loop-again c = (search needs, stored-more 3 _ (c .before .before .loop .i) (c .before .before .loop .r) (search needs) (c .before .before .loop .inv .1))
 
 returns : tie.Need-returns Inv-loop μ-loop
-returns c = 
+returns c =
     let k = c .before .before .args .k in
     is-from 3 (k * 5 + 2) (c .before .loop .r) (c .before .before .args .table .now)
     (stored-all 3 _ (c .before .loop .i) _ (omega arith) (c .before .loop .inv .1))

@@ -1,7 +1,7 @@
 -- `journeys::prepare::prepare` meets its contract: what was read is a valid sheet, whose groups up to their last lines make it again, and the searched
 -- part of the table with zeros after it is the table of the sheet's leading arrivals.
 -- Assumes nothing.
-use mathlib.Core.Path.{refl, sym, _∙_, ap, subst}
+use mathlib.Core.Path.{refl, sym, _∙_, subst}
 use native.Mathlib.Omega.{arith}
 use lib.ListN.{length, drop, length-append}
 use lib.Seq.{length-take-le}
@@ -68,13 +68,13 @@ slice-aggregate-search-4 : tie.Need-slice-aggregate-search-4
 slice-aggregate-search-4 c = sym (length-take-le _ _ (omega (arith, usable-most 5 (length (c .before .before .before .before .before .before .before .before .before .before .before .before .before .before .args .table .now)) .0, c .before .before .before .before .usable-of .ensures)))
 
 search-requires : tie.Need-search-requires
-search-requires c κs = 
+search-requires c κs =
     let r = read-as _ _ (c .before .before .before .before .before .before .before .before .before .before .before .read .ensures) (c .before .before .before .before .before .before .before .before .before .if1 .left) in
     let g = r .groups in
     (subst Valid (sym (groups-sheet _ _ g)) (r .valid), corridors-whole _ _ g, occupancies-whole _ _ g)
 
 clear-from-requires : tie.Need-clear-from-requires
-clear-from-requires c κs = 
+clear-from-requires c κs =
     let s = c .before .before .before .search in
     let r = read-as _ _ (c .before .before .before .before .before .before .before .before .before .before .before .before .before .before .before .read .ensures) (c .before .before .before .before .before .before .before .before .before .before .before .before .before .if1 .left) in
     let h = searched _ _ r (c .before .before .before .before .before .before .before .before .usable-of .result) (c .before .before .before .before .before .before .before .before .before .before .before .before .before .before .before .before .before .before .args .table .now) (s .result .served) (s .result .arrivals) (s .last .1 .1 .1 .0) (c .before .before .before .before .before .before .before .before .usable-of .ensures) (s .ensures) in
@@ -84,7 +84,7 @@ same-length : tie.Need-same-length
 same-length c = search needs
 
 returns-2 : tie.Need-returns-2
-returns-2 c = 
+returns-2 c =
     let s = c .before .before .before .before .before .before .before .before .search in
     let r = read-as _ _ (c .before .before .before .before .before .before .before .before .before .before .before .before .before .before .before .before .before .before .before .before .read .ensures) (c .before .before .before .before .before .before .before .before .before .before .before .before .before .before .before .before .before .before .if1 .left) in
     let h = searched _ _ r (c .before .before .before .before .before .before .before .before .before .before .before .before .before .usable-of .result) (c .before .before .before .before .before .before .before .before .before .before .before .before .before .before .before .before .before .before .before .before .before .before .before .args .table .now) (s .result .served) (s .result .arrivals) (s .last .1 .1 .1 .0) (c .before .before .before .before .before .before .before .before .before .before .before .before .before .usable-of .ensures) (s .ensures) in
@@ -95,7 +95,7 @@ same-length-2 : tie.Need-same-length-2
 same-length-2 c = search needs
 
 returns-3 : tie.Need-returns-3
-returns-3 c = 
+returns-3 c =
     let s = c .before .before .before .before .before .before .before .before .search in
     let r = read-as _ _ (c .before .before .before .before .before .before .before .before .before .before .before .before .before .before .before .before .before .before .before .before .read .ensures) (c .before .before .before .before .before .before .before .before .before .before .before .before .before .before .before .before .before .before .if1 .left) in
     let h = searched _ _ r (c .before .before .before .before .before .before .before .before .before .before .before .before .before .usable-of .result) (c .before .before .before .before .before .before .before .before .before .before .before .before .before .before .before .before .before .before .before .before .before .before .before .args .table .now) (s .result .served) (s .result .arrivals) (s .last .1 .1 .1 .0) (c .before .before .before .before .before .before .before .before .before .before .before .before .before .usable-of .ensures) (s .ensures) in

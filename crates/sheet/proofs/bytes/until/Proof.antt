@@ -5,7 +5,6 @@ use mathlib.Core.Path.{_≡_, refl, sym, _∙_}
 use Prim.Native.Nat.{_≤_, _-_, _+_}
 use native.Mathlib.Omega.{arith}
 use lib.ListN.{length, drop}
-use borrow.Author.Needs.{needs}
 use Rattle.sheet.specs.Inner.{spanOf}
 use Rattle.sheet.proofs.Parts.{span-stop, span-more, span-end}
 use Rattle.sheet.proofs.bytes.until.Statement.{statement}

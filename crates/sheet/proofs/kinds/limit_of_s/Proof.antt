@@ -1,7 +1,7 @@
 -- `sheet::kinds::limit_of_s` meets its contract, number by number.
 -- Assumes nothing.
 use mathlib.Core.Path.{_≡_, refl, sym, ap}
-use Prim.Native.Nat.{ℕ, _+_, _≤_, _<_}
+use Prim.Native.Nat.{ℕ, _≤_, _<_}
 use native.Mathlib.Omega.{arith}
 use lib.ListN.{getD}
 use Rattle.sheet.specs.Kinds.{Limit, between, place, kindS}

@@ -8,7 +8,6 @@ use native.Mathlib.Nat.{pow-suc, pow-le-pow-right, lt-of-lt-of-le}
 use native.Mathlib.Numerals.{add-one}
 use lib.ListN.{length, drop, getD}
 use lib.Dec.{lit<}
-use borrow.Author.Needs.{needs}
 use Rattle.sheet.specs.Decimal.{digitsFrom}
 use Rattle.sheet.specs.Laws.Decimal.{digit-byte}
 use Rattle.sheet.proofs.Digits.{reads-on, reads-stop, reads-end}

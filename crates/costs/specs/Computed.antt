@@ -1,0 +1,51 @@
+-- The orders on costs and the crossings of a sheet, computed. Not to be believed: Laws.Figures and Laws.Moves say that they are `AtMost`, `Dominates`,
+-- equality and `Crossing`.
+use mathlib.Core.Bool.{Bool, true, false, not, _&&_}
+use mathlib.Core.List.{List, [], _∷_}
+use Prim.Native.Nat.{ℕ}
+use lib.Dec.{leb, eqb}
+use Rattle.costs.specs.Costs.{Cost}
+use mathlib.Core.Option.{Option, some, none}
+use Rattle.sheet.specs.Lists.{filter}
+use Rattle.sheet.specs.Sheet.{Sheet, from, to}
+use Rattle.sheet.specs.declared.Place.{Place}
+use Rattle.sheet.specs.declared.Step.{Step}
+use Rattle.costs.specs.Moves.{waitOf, costOf}
+
+-- the same, computed; and equality
+abbrev pub atMostb : Cost → Cost → Bool
+atMostb [] b = true
+atMostb (x ∷ a) [] = leb x 0 && atMostb a []
+atMostb (x ∷ a) (y ∷ b) = leb x y && atMostb a b
+
+abbrev pub dominatesb : Cost → Cost → Bool
+dominatesb a b = atMostb a b && not (atMostb b a)
+
+abbrev pub sameb : List ℕ → List ℕ → Bool
+sameb [] [] = true
+sameb [] (y ∷ b) = false
+sameb (x ∷ a) [] = false
+sameb (x ∷ a) (y ∷ b) = eqb x y && sameb a b
+
+-- the corridors that a cart at u can take at step t
+unfoldable pub leaving : Sheet → ℕ → ℕ → List (List ℕ)
+leaving s u t = filter (λ k. eqb (from k) u) (s .corridors)
+
+-- the corridors among them that enter v
+unfoldable pub between : Sheet → ℕ → ℕ → ℕ → List (List ℕ)
+unfolding leaving
+between s u v t = filter (λ k. eqb (to k) v) (leaving s u t)
+
+-- the cost of the first, if there is one; a valid sheet has at most one
+abbrev pub firstCost : List (List ℕ) → Option Cost
+firstCost [] = none
+firstCost (k ∷ ks) = some (costOf k)
+
+-- what the promises of the code cite
+unfoldable pub waitAt : Sheet → Place → Cost
+unfolding waitOf
+waitAt s v = waitOf s (v .0)
+
+unfoldable pub crossingAt : Sheet → Place → Place → Step → Option Cost
+unfolding between costOf
+crossingAt s u v t = firstCost (between s (u .0) (v .0) (t .0))
