@@ -12,14 +12,14 @@ ghost use mathlib.Core.Bool.{true};
 ghost use Prim.Native.Nat.{_+_, _*_, _<_, _≤_};
 ghost use lib.ListN.{length};
 ghost use Rattle.arrivals.specs.Inner.Rows.{rowsOf};
-ghost use Rattle.arrivals.specs.Inner.Index.{Indexed, Chained, Grown};
+ghost use Rattle.arrivals.specs.Inner.Index.{IndexedShort, Indexed, Chained, Grown};
 ghost use Rattle.arrivals.specs.Inner.Table.{caseOf, Vacant, Filled, Result, Given, Search};
 
 // Fills in place v at step t: every offer is judged once; where the room runs out on the way, as fill_place does.
 pub fn fill_fast(
     table: &mut [u32],
     rows: usize,
-    ix: &[usize],
+    ix: &[u32],
     links: &[u32],
     m: usize,
     ch: &[usize],
@@ -38,10 +38,8 @@ pub fn fill_fast(
     let ok = r.ok;
     let d = r.rows;
     if ok {
-        return Outcome {
-            ok: true,
-            rows: rows + d,
-        };
+        let n = rows + d;
+        return Outcome { ok: true, rows: n };
     }
     fill_place(table, rows, links, m, firsts, t, wait, v, places, start)
 }
@@ -50,7 +48,7 @@ pub fn fill_fast(
 pub fn visit(
     table: &mut [u32],
     rows: usize,
-    ix: &mut [usize],
+    ix: &mut [u32],
     links: &[u32],
     m: usize,
     ch: &[usize],
@@ -61,10 +59,13 @@ pub fn visit(
     places: u32,
     start: u32,
 ) -> Outcome
-    requires { ⌜ (rows * 5 ≤ length (now table)) × (Given (caseOf (now firsts) (now links) m wait places start) (now links) m (now firsts)) × (1 ≤ t) × (t ≤ 255) × (v < places) × (Filled (caseOf (now firsts) (now links) m wait places start) (rowsOf (now table) rows) t v) × (Indexed (now table) rows (now ix) t) × (Chained (now links) 1 m (now ch)) ⌝ }
-    ensures { λ r. ⌜ Result (caseOf (now (firsts .entry)) (now (links .entry)) m wait places start) (now (table .exit)) t (v + 1) (r .ok) (r .rows) × (r .ok ≡ true → Indexed (now (table .exit)) (r .rows) (now (ix .exit)) t) ⌝ }
+    requires { ⌜ (rows * 5 ≤ length (now table)) × (Given (caseOf (now firsts) (now links) m wait places start) (now links) m (now firsts)) × (1 ≤ t) × (t ≤ 255) × (v < places) × (Filled (caseOf (now firsts) (now links) m wait places start) (rowsOf (now table) rows) t v) × (IndexedShort (now table) rows (now ix) t) × (Chained (now links) 1 m (now ch)) ⌝ }
+    ensures { λ r. ⌜ Result (caseOf (now (firsts .entry)) (now (links .entry)) m wait places start) (now (table .exit)) t (v + 1) (r .ok) (r .rows) × (r .ok ≡ true → IndexedShort (now (table .exit)) (r .rows) (now (ix .exit)) t) ⌝ }
 {
     if firsts[v as usize * 256 + t as usize] as u32 <= t {
+        if 21474836475 < table.len() {
+            return fill_place(table, rows, links, m, firsts, t, wait, v, places, start);
+        }
         let r = fill_fast(
             table,
             rows,
@@ -93,7 +94,7 @@ pub fn visit(
 pub fn fill_step(
     table: &mut [u32],
     rows: usize,
-    ix: &mut [usize],
+    ix: &mut [u32],
     links: &[u32],
     m: usize,
     ch: &[usize],
@@ -103,8 +104,8 @@ pub fn fill_step(
     places: u32,
     start: u32,
 ) -> Outcome
-    requires { ⌜ (rows * 5 ≤ length (now table)) × (Given (caseOf (now firsts) (now links) m wait places start) (now links) m (now firsts)) × (1 ≤ t) × (t ≤ 255) × (Filled (caseOf (now firsts) (now links) m wait places start) (rowsOf (now table) rows) t 0) × (Indexed (now table) rows (now ix) t) × (Chained (now links) 1 m (now ch)) ⌝ }
-    ensures { λ r. ⌜ Result (caseOf (now (firsts .entry)) (now (links .entry)) m wait places start) (now (table .exit)) (t + 1) 0 (r .ok) (r .rows) × (r .ok ≡ true → Indexed (now (table .exit)) (r .rows) (now (ix .exit)) t) ⌝ }
+    requires { ⌜ (rows * 5 ≤ length (now table)) × (Given (caseOf (now firsts) (now links) m wait places start) (now links) m (now firsts)) × (1 ≤ t) × (t ≤ 255) × (Filled (caseOf (now firsts) (now links) m wait places start) (rowsOf (now table) rows) t 0) × (IndexedShort (now table) rows (now ix) t) × (Chained (now links) 1 m (now ch)) ⌝ }
+    ensures { λ r. ⌜ Result (caseOf (now (firsts .entry)) (now (links .entry)) m wait places start) (now (table .exit)) (t + 1) 0 (r .ok) (r .rows) × (r .ok ≡ true → IndexedShort (now (table .exit)) (r .rows) (now (ix .exit)) t) ⌝ }
 {
     let mut n = rows;
     for v in 0..places {
@@ -135,7 +136,7 @@ pub fn fill_step(
 pub fn fill_steps(
     table: &mut [u32],
     rows: usize,
-    ix: &mut [usize],
+    ix: &mut [u32],
     links: &[u32],
     m: usize,
     ch: &[usize],
@@ -145,7 +146,7 @@ pub fn fill_steps(
     places: u32,
     start: u32,
 ) -> Outcome
-    requires { ⌜ (rows * 5 ≤ length (now table)) × (Given (caseOf (now firsts) (now links) m wait places start) (now links) m (now firsts)) × (last ≤ 255) × (Filled (caseOf (now firsts) (now links) m wait places start) (rowsOf (now table) rows) 1 0) × (Indexed (now table) rows (now ix) 0) × (Chained (now links) 1 m (now ch)) ⌝ }
+    requires { ⌜ (rows * 5 ≤ length (now table)) × (Given (caseOf (now firsts) (now links) m wait places start) (now links) m (now firsts)) × (last ≤ 255) × (Filled (caseOf (now firsts) (now links) m wait places start) (rowsOf (now table) rows) 1 0) × (IndexedShort (now table) rows (now ix) 0) × (Chained (now links) 1 m (now ch)) ⌝ }
     ensures { λ r. ⌜ Result (caseOf (now (firsts .entry)) (now (links .entry)) m wait places start) (now (table .exit)) (last + 1) 0 (r .ok) (r .rows) ⌝ }
 {
     let mut n = rows;
@@ -165,7 +166,7 @@ pub fn fill_steps(
 // The row of the start, where that is free at step 0.
 pub fn first_row(
     table: &mut [u32],
-    ix: &mut [usize],
+    ix: &mut [u32],
     links: &[u32],
     m: usize,
     firsts: &[u16],

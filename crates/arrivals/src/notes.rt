@@ -7,22 +7,22 @@ ghost use lib.ListN.{length};
 ghost use Rattle.arrivals.specs.Inner.Index.{newestOf, Older, Chained, NextLink, NotedAs};
 
 // The step past the rows of place v before step s, as far as the index shows.
-pub fn older(ix: &[usize], s: usize, v: usize) -> usize
+pub fn older(ix: &[u32], s: usize, v: usize) -> usize
     requires { ⌜ (s ≤ 255) × (v < 64) × (49216 ≤ length (now ix)) ⌝ }
     ensures { λ r. ⌜ Older (now (ix .entry)) s v r ⌝ }
 {
     if ix[s * 64 + v] < ix[16384 + s * 64 + v] {
-        return ix[32768 + s * 64 + v];
+        return ix[32768 + s * 64 + v] as usize;
     }
     s
 }
 
 // The step past the rows of place u, or t where that is less.
-pub fn latest(ix: &[usize], u: usize, t: usize) -> usize
+pub fn latest(ix: &[u32], u: usize, t: usize) -> usize
     requires { ⌜ (u < 64) × (49216 ≤ length (now ix)) ⌝ }
     ensures { λ r. ⌜ (r ≤ t) × ((newestOf (now (ix .entry)) u ≤ r) ⊎ (r ≡ t)) ⌝ }
 {
-    let s = ix[49152 + u];
+    let s = ix[49152 + u] as usize;
     if s < t {
         return s;
     }
@@ -30,29 +30,29 @@ pub fn latest(ix: &[usize], u: usize, t: usize) -> usize
 }
 
 // Has place u no rows at step t - 1, where the safe interval that is entered began before t?
-pub fn idle(ix: &[usize], u: usize, t: usize, since: usize) -> bool
+pub fn idle(ix: &[u32], u: usize, t: usize, since: usize) -> bool
     requires { ⌜ (u < 64) × (49216 ≤ length (now ix)) ⌝ }
     ensures { λ r. ⌜ (r ≡ true → ((since ≡ t → ⊥) × (newestOf (now (ix .entry)) u < t))) ⌝ }
 {
     if since == t {
         return false;
     }
-    if ix[49152 + u] < t {
+    if (ix[49152 + u] as usize) < t {
         return true;
     }
     false
 }
 
 // Notes the rows from lo to hi as those of step s and place v.
-pub fn note(ix: &mut [usize], lo: usize, hi: usize, s: usize, v: usize)
-    requires { ⌜ (s ≤ 255) × (v < 64) × (49216 ≤ length (now ix)) ⌝ }
+pub fn note(ix: &mut [u32], lo: usize, hi: usize, s: usize, v: usize)
+    requires { ⌜ (s ≤ 255) × (v < 64) × (49216 ≤ length (now ix)) × (lo ≤ hi) × (hi ≤ 4294967295) ⌝ }
     ensures { λ _. ⌜ NotedAs (now (ix .entry)) (now (ix .exit)) lo hi s v ⌝ }
 {
     let b = latest(ix, v, s);
-    ix[32768 + s * 64 + v] = b;
-    ix[49152 + v] = s + 1;
-    ix[s * 64 + v] = lo;
-    ix[16384 + s * 64 + v] = hi;
+    ix[32768 + s * 64 + v] = b as u32;
+    ix[49152 + v] = (s + 1) as u32;
+    ix[s * 64 + v] = lo as u32;
+    ix[16384 + s * 64 + v] = hi as u32;
 }
 
 // One more than the last corridor into v before corridor j, as far as the chain shows.

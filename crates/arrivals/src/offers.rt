@@ -115,7 +115,7 @@ pub fn led_group(table: &[u32], lo: usize, hi: usize, lag: [u32; 3], g: [u32; 3]
 pub fn led_walk(
     table: &[u32],
     n: usize,
-    ix: &[usize],
+    ix: &[u32],
     v: usize,
     t: usize,
     since: u32,
@@ -125,11 +125,17 @@ pub fn led_walk(
     requires { ⌜ (n * 5 ≤ length (now table)) × (Within 60000 wait) × (v < 64) × (Indexed (now table) n (now ix) t) ⌝ }
     ensures { λ r. ⌜ Decided (Led (rowsOf (now (table .entry)) n) v t since wait g) r ⌝ }
 {
-    let mut s = ix[49152 + v];
+    let mut s = ix[49152 + v] as usize;
     while (since as usize) < s {
         s -= 1;
         let lag = multiple((t - s) as u32, wait);
-        if led_group(table, ix[s * 64 + v], ix[16384 + s * 64 + v], lag, g) {
+        if led_group(
+            table,
+            ix[s * 64 + v] as usize,
+            ix[16384 + s * 64 + v] as usize,
+            lag,
+            g,
+        ) {
             return true;
         }
         s = older(ix, s, v);
@@ -142,7 +148,7 @@ pub fn offer(
     table: &mut [u32],
     a: usize,
     d: usize,
-    ix: &[usize],
+    ix: &[u32],
     v: u32,
     t: u32,
     since: u32,

@@ -43,6 +43,10 @@ pub record Indexed (xs : List ℕ) (n : ℕ) (ix : List ℕ) (t : ℕ) : Type 0 
   pub back : (i j : ℕ) → i < n → j < n → rowAt xs i .place ≡ rowAt xs j .place → rowAt xs i .step < rowAt xs j .step → rowAt xs i .step < backOf ix (rowAt xs j .step) (rowAt xs j .place)
   pub down : (s v : ℕ) → s ≤ 255 → v < 64 → backOf ix s v ≤ s
 
+-- the index is kept for tables whose rows can be numbered with 32 bits
+abbrev pub IndexedShort : List ℕ → ℕ → List ℕ → ℕ → Type 0
+IndexedShort xs n ix t = length xs ≤ 21474836475 → Indexed xs n ix t
+
 -- the step past the rows of v before step s, as far as the index shows
 abbrev pub Older : List ℕ → ℕ → ℕ → ℕ → Type 0
 Older ix s v r = ((lowOf ix s v < highOf ix s v) × (r ≡ backOf ix s v)) ⊎ (r ≡ s)

@@ -1,4 +1,4 @@
--- `arrivals::cells::clear` meets its contract.
+-- `arrivals::cells::clear` meets its contract: zeros all through. The loop's invariant: the numbers below i are zero.
 -- Assumes nothing.
 use mathlib.Core.List.{_++_, append-nil}
 use mathlib.Core.Path.{_∙_, _≡_, ap}

@@ -1,4 +1,4 @@
--- `arrivals::cells::clear_from` meets its contract.
+-- `arrivals::cells::clear_from` meets its contract: the part from a number on is cleared, and the part before it is kept.
 -- Assumes nothing.
 use mathlib.Core.List.{List, _++_, append-nil}
 use mathlib.Core.Path.{_∙_, ap, ap₂}

@@ -1,4 +1,4 @@
--- `arrivals::cells::move_row` meets its contract.
+-- `arrivals::cells::move_row` meets its contract: what is read of row `from` is put as row k.
 -- Assumes nothing.
 use mathlib.Core.List.{List}
 use mathlib.Core.Path.{subst}

@@ -1,4 +1,5 @@
--- `arrivals::cells::push_row` meets its contract.
+-- `arrivals::cells::push_row` meets its contract: row n is the given row, and all else is kept. The loop's invariant: the row's head and the
+-- figures below i are stored, and the rest is kept.
 -- Assumes nothing.
 use mathlib.Core.Path.{_∙_, _≡_}
 use Prim.Native.Nat.{_*_, _+_, _-_, _<_, _≤_, ℕ}

@@ -1,4 +1,4 @@
--- `arrivals::cells::row_cost` meets its contract.
+-- `arrivals::cells::row_cost` meets its contract: the three figures of row k. The loop's invariant: the figures below i are stored.
 -- Assumes nothing.
 use mathlib.Core.Path.{_≡_, sym}
 use Prim.Native.Nat.{_*_, _+_, _-_, _<_, _≤_, ℕ}

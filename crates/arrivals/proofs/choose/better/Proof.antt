@@ -1,4 +1,4 @@
--- `arrivals::choose::better` meets its contract.
+-- `arrivals::choose::better` meets its contract: nothing found so far, or g comes before it.
 -- Assumes nothing.
 use borrow.Author.Needs.{needs}
 use Rattle.arrivals.specs.Inner.Facts.{decided-as, holds, lex-decided}

@@ -1,4 +1,5 @@
--- `arrivals::choose::fill_place` meets its contract.
+-- `arrivals::choose::fill_place` meets its contract: the open costs one after another, the least first, until none is left or no room. The
+-- loop's invariant: the rows so far fill in v at t up to the last cost pushed.
 -- Assumes nothing.
 use mathlib.Core.Path.{_≡_, refl}
 use Prim.Native.Nat.{_*_, _+_, _-_, _≤_}

@@ -1,4 +1,4 @@
--- `arrivals::choose::leads` meets its contract.
+-- `arrivals::choose::leads` meets its contract: the four tests of `RowLeads`, one after the other.
 -- Assumes nothing.
 use mathlib.Core.List.{List}
 use mathlib.Core.Path.{_∙_, _≡_, ap₂, subst, sym}

@@ -1,4 +1,4 @@
--- `arrivals::choose::led` meets its contract.
+-- `arrivals::choose::led` meets its contract: some row below n leads, or none does. The loop's invariant: none from row k on does.
 -- Assumes nothing.
 use Prim.Native.Nat.{_-_, _<_, _≤_, ℕ}
 use native.Mathlib.Omega.{arith}

@@ -1,4 +1,4 @@
--- `arrivals::choose::near` meets its contract.
+-- `arrivals::choose::near` meets its contract: the two cases of `Near`.
 -- Assumes nothing.
 use mathlib.Core.Logic.{inl, inr, ⊎-elim}
 use borrow.Author.Needs.{needs}

@@ -1,4 +1,5 @@
--- `arrivals::choose::next_label` meets its contract.
+-- `arrivals::choose::next_label` meets its contract: the least cost over all corridors. The loop's invariant: the best over the corridors
+-- below j.
 -- Assumes nothing.
 use mathlib.Core.Bool.{false}
 use Prim.Native.Nat.{_-_, _≤_}

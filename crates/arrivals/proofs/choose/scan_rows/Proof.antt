@@ -1,4 +1,4 @@
--- `arrivals::choose::scan_rows` meets its contract.
+-- `arrivals::choose::scan_rows` meets its contract: the best over the rows below n. The loop's invariant: the best over the rows below k.
 -- Assumes nothing.
 use Prim.Native.Nat.{_-_, _≤_}
 use native.Mathlib.Omega.{arith}

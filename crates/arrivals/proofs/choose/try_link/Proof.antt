@@ -1,4 +1,5 @@
--- `arrivals::choose::try_link` meets its contract.
+-- `arrivals::choose::try_link` meets its contract: the best over corridor j, from what the scan of the rows finds; a corridor to another place
+-- adds nothing.
 -- Assumes nothing.
 use mathlib.Core.Path.{sym}
 use Prim.Native.Nat.{_*_, _+_, _-_}

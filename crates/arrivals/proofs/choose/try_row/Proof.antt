@@ -1,4 +1,5 @@
--- `arrivals::choose::try_row` meets its contract.
+-- `arrivals::choose::try_row` meets its contract: the one cost of crossing from row k takes the place of the best, where it is better and no
+-- row leads it.
 -- Assumes nothing.
 use mathlib.Core.List.{List}
 use mathlib.Core.Path.{_∙_, subst, sym}

@@ -1,4 +1,4 @@
--- `arrivals::entries::floor_of` meets its contract.
+-- `arrivals::entries::floor_of` meets its contract: the first step from whose rows an offer is made, in the three cases.
 -- Assumes nothing.
 use mathlib.Core.Logic.{inl, inr, ⊎-elim}
 use native.Mathlib.Omega.{arith}

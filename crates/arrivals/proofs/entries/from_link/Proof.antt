@@ -1,4 +1,5 @@
--- `arrivals::entries::from_link` meets its contract.
+-- `arrivals::entries::from_link` meets its contract: what enters over corridor j is what its rows from the floor on arrive with; over a
+-- corridor to another place or from an idle place nothing does.
 -- Assumes nothing.
 use mathlib.Core.Path.{subst, sym}
 use Prim.Native.Nat.{_*_, _+_, _-_}

@@ -1,4 +1,5 @@
--- `arrivals::entries::from_links` meets its contract.
+-- `arrivals::entries::from_links` meets its contract: what enters over every corridor is offered. The loop's invariant: what enters over the
+-- corridors from j on has been.
 -- Assumes nothing.
 use mathlib.Core.Bool.{true}
 use mathlib.Core.Path.{_∙_, _≡_, refl, subst}

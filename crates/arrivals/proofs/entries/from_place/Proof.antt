@@ -1,8 +1,9 @@
--- `arrivals::entries::from_place` meets its contract.
+-- `arrivals::entries::from_place` meets its contract: the rows of u from the floor on are offered, group by group. The loop's invariant: those
+-- at step s or later have been.
 -- Assumes nothing.
 use mathlib.Core.Bool.{true}
 use mathlib.Core.Path.{_∙_, _≡_, refl}
-use Prim.Native.Nat.{_-_, _≤_}
+use Prim.Native.Nat.{_*_, _+_, _-_, _≤_}
 use native.Mathlib.Omega.{arith}
 use lib.ListN.{length}
 use borrow.Author.Needs.{needs}
@@ -42,6 +43,9 @@ mul-from-rows-2 c = search needs
 shared-slice-read-from-rows : tie.Need-shared-slice-read-from-rows Inv-loop μ-loop
 shared-slice-read-from-rows c = search needs
 
+cast-from-rows : tie.Need-cast-from-rows Inv-loop μ-loop
+cast-from-rows c = omega (arith, c .shared-slice-known2 .given ((c .before .before .before .loop .s - 1) * 64 + c .before .before .before .before .before .before .before .args .u))
+
 mul-from-rows-3 : tie.Need-mul-from-rows-3 Inv-loop μ-loop
 mul-from-rows-3 c = search needs
 
@@ -56,6 +60,9 @@ mul-from-rows-4 c = search needs
 
 shared-slice-read-from-rows-2 : tie.Need-shared-slice-read-from-rows-2 Inv-loop μ-loop
 shared-slice-read-from-rows-2 c = search needs
+
+cast-from-rows-2 : tie.Need-cast-from-rows-2 Inv-loop μ-loop
+cast-from-rows-2 c = omega (arith, c .shared-slice-known3 .given (16384 + (c .before .before .before .before .loop .s - 1) * 64 + c .before .before .before .before .before .before .before .before .args .u))
 
 from-rows-requires : tie.Need-from-rows-requires Inv-loop μ-loop
 from-rows-requires c κs = let inv = c .before .before .before .before .loop .inv in let r = ready-kept {ys = c .before .before .before .before .loop .table} (inv .3) (inv .4 .below) (c .before .before .before .before .before .before .before .before .pre .1) in let w = indexed-kept {ys = c .before .before .before .before .loop .table} (inv .4 .below) (c .before .before .before .before .before .before .before .before .pre .3) in let b = w .order (c .before .before .before .before .loop .s - 1) (c .before .before .before .before .before .before .before .before .args .u) (omega arith) (c .before .before .before .before .before .before .before .before .pre .5) in (inv .4 .room, r, c .before .before .before .before .before .before .before .before .pre .2, w, c .before .before .before .before .before .before .before .before .pre .4, b .0, b .1, λ i l m. let o = w .only (c .before .before .before .before .loop .s - 1) (c .before .before .before .before .before .before .before .before .args .u) i (omega arith) (c .before .before .before .before .before .before .before .before .pre .5) l m in omega (arith, o .1))
@@ -94,11 +101,13 @@ from-place-spec =
     add-from-rows
     mul-from-rows-2
     shared-slice-read-from-rows
+    cast-from-rows
     mul-from-rows-3
     add-from-rows-2
     add-from-rows-3
     mul-from-rows-4
     shared-slice-read-from-rows-2
+    cast-from-rows-2
     from-rows-requires
     same-length
     returns

@@ -1,4 +1,4 @@
--- `arrivals::entries::from_rows` meets its contract.
+-- `arrivals::entries::from_rows` meets its contract: every row from lo to hi is offered. The loop's invariant: the rows below i have been.
 -- Assumes nothing.
 use mathlib.Core.Bool.{true}
 use mathlib.Core.Path.{_∙_, _≡_, refl, subst, sym}

@@ -1,4 +1,4 @@
--- `arrivals::entries::reach_cost` meets its contract.
+-- `arrivals::entries::reach_cost` meets its contract: the row's cost, its waiting and the crossing, added up.
 -- Assumes nothing.
 use mathlib.Core.List.{List}
 use mathlib.Core.Path.{_∙_, ap, ap₂, refl}

@@ -1,4 +1,4 @@
--- `arrivals::fill::fill` meets its contract.
+-- `arrivals::fill::fill` meets its contract: the rows of the search and zeros after them, or zeros alone.
 -- Assumes nothing.
 use lib.ListN.{length}
 use borrow.Author.Needs.{needs}

@@ -1,4 +1,5 @@
--- `arrivals::fill::fill_fast` meets its contract.
+-- `arrivals::fill::fill_fast` meets its contract: the gathered group is what there is to add; where an offer found no room, the group is
+-- redone by selection.
 -- Assumes nothing.
 use native.Mathlib.Omega.{arith}
 use borrow.Author.Needs.{needs}
@@ -27,8 +28,8 @@ cast-since c = search needs
 from-links-requires : tie.Need-from-links-requires
 from-links-requires c κs = search needs
 
-add-t27 : tie.Need-add-t27
-add-t27 c = search needs
+add-n : tie.Need-add-n
+add-n c = search needs
 
 same-length : tie.Need-same-length
 same-length c = search needs
@@ -55,7 +56,7 @@ fill-fast-spec =
     shared-slice-read-since
     cast-since
     from-links-requires
-    add-t27
+    add-n
     same-length
     returns
     fill-place-requires

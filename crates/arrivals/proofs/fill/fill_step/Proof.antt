@@ -1,4 +1,5 @@
--- `arrivals::fill::fill_step` meets its contract.
+-- `arrivals::fill::fill_step` meets its contract: every place at step t. The loop's invariant: all is filled in before place v at t, and the
+-- index shows the rows.
 -- Assumes nothing.
 use mathlib.Core.Path.{_≡_, refl}
 use Prim.Native.Nat.{_*_, _-_, _≤_}
@@ -6,7 +7,7 @@ use native.Mathlib.Omega.{arith}
 use lib.ListN.{length}
 use borrow.Author.Needs.{needs}
 use borrow.Author.Tests.{not-false, not-true}
-use Rattle.arrivals.specs.Inner.Index.{Indexed}
+use Rattle.arrivals.specs.Inner.Index.{IndexedShort}
 use Rattle.arrivals.specs.Inner.Rows.{rowsOf}
 use Rattle.arrivals.specs.Inner.Search.{false-not-true}
 use Rattle.arrivals.specs.Inner.Table.{Filled, caseOf, crowded-step, filled-end, result-done, result-full}
@@ -14,7 +15,7 @@ use Rattle.arrivals.proofs.fill.fill_step.Statement.{statement}
 use Rattle.arrivals.proofs.fill.fill_step.Tie as tie
 
 abbrev Inv-loop : tie.InvT-loop
-Inv-loop table₀ rows ix₀ links m ch free t wait places start n₀ v₀ table ix n v = (v ≤ places) × (n * 5 ≤ length table) × (length table ≡ length table₀) × (length ix ≡ length ix₀) × Filled (caseOf free links m wait places start) (rowsOf table n) t v × Indexed table n ix t
+Inv-loop table₀ rows ix₀ links m ch free t wait places start n₀ v₀ table ix n v = (v ≤ places) × (n * 5 ≤ length table) × (length table ≡ length table₀) × (length ix ≡ length ix₀) × Filled (caseOf free links m wait places start) (rowsOf table n) t v × IndexedShort table n ix t
 
 abbrev μ-loop : tie.MeasureT-loop
 μ-loop table₀ rows ix₀ links m ch free t wait places start n₀ v₀ table ix n v = places - v

@@ -1,4 +1,5 @@
--- `arrivals::fill::fill_steps` meets its contract.
+-- `arrivals::fill::fill_steps` meets its contract: every step to the last. The loop's invariant: all is filled in before step t, and the index
+-- shows the rows.
 -- Assumes nothing.
 use mathlib.Core.Path.{_≡_, refl}
 use Prim.Native.Nat.{_*_, _+_, _-_, _≤_}
@@ -6,14 +7,14 @@ use native.Mathlib.Omega.{arith}
 use lib.ListN.{length}
 use borrow.Author.Needs.{needs}
 use borrow.Author.Tests.{not-false, not-true}
-use Rattle.arrivals.specs.Inner.Index.{Indexed, indexed-step}
+use Rattle.arrivals.specs.Inner.Index.{IndexedShort, indexed-step}
 use Rattle.arrivals.specs.Inner.Rows.{rowsOf}
 use Rattle.arrivals.specs.Inner.Table.{Filled, caseOf, crowded-last, filled-last, result-done, result-full}
 use Rattle.arrivals.proofs.fill.fill_steps.Statement.{statement}
 use Rattle.arrivals.proofs.fill.fill_steps.Tie as tie
 
 abbrev Inv-loop : tie.InvT-loop
-Inv-loop table₀ rows ix₀ links m ch free last wait places start n₀ t₀ table ix n t = (1 ≤ t) × (t ≤ last + 1) × (n * 5 ≤ length table) × (length table ≡ length table₀) × (length ix ≡ length ix₀) × Filled (caseOf free links m wait places start) (rowsOf table n) t 0 × Indexed table n ix (t - 1)
+Inv-loop table₀ rows ix₀ links m ch free last wait places start n₀ t₀ table ix n t = (1 ≤ t) × (t ≤ last + 1) × (n * 5 ≤ length table) × (length table ≡ length table₀) × (length ix ≡ length ix₀) × Filled (caseOf free links m wait places start) (rowsOf table n) t 0 × IndexedShort table n ix (t - 1)
 
 abbrev μ-loop : tie.MeasureT-loop
 μ-loop table₀ rows ix₀ links m ch free last wait places start n₀ t₀ table ix n t = last + 1 - t
@@ -22,7 +23,7 @@ loop-holds : tie.Need-loop-holds Inv-loop μ-loop
 loop-holds c = (omega arith, omega arith, c .before .before .before .before .before .pre .0, refl, refl, c .before .before .before .before .before .pre .3, c .before .before .before .before .before .pre .4)
 
 fill-step-requires : tie.Need-fill-step-requires Inv-loop μ-loop
-fill-step-requires c κs = let inv = c .before .before .before .loop .inv in (inv .2, c .before .before .before .before .before .before .before .before .before .pre .1, inv .0, omega arith, inv .5, indexed-step _ (omega arith) (omega arith) (inv .6), c .before .before .before .before .before .before .before .before .before .pre .5)
+fill-step-requires c κs = let inv = c .before .before .before .loop .inv in (inv .2, c .before .before .before .before .before .before .before .before .before .pre .1, inv .0, omega arith, inv .5, λ b. indexed-step _ (omega arith) (omega arith) (inv .6 b), c .before .before .before .before .before .before .before .before .before .pre .5)
 
 same-length : tie.Need-same-length Inv-loop μ-loop
 same-length c = search needs
@@ -40,7 +41,7 @@ loop-less : tie.Need-loop-less Inv-loop μ-loop
 loop-less c = search needs
 
 loop-again : tie.Need-loop-again Inv-loop μ-loop
-loop-again c = let r = c .before .before .before .before .before .fill-step .ensures in let e : c .before .before .before .before .before .before .before .before .before .loop .t ≡ c .before .before .before .before .before .before .before .before .before .loop .t + 1 - 1 = omega arith in (omega arith, omega arith, r .0 .room, search needs, search needs, r .0 .done (not-false _ (c .if1 .left)), indexed-step _ (omega arith) (omega arith) (r .1 (not-false _ (c .if1 .left))))
+loop-again c = let r = c .before .before .before .before .before .fill-step .ensures in let e : c .before .before .before .before .before .before .before .before .before .loop .t ≡ c .before .before .before .before .before .before .before .before .before .loop .t + 1 - 1 = omega arith in (omega arith, omega arith, r .0 .room, search needs, search needs, r .0 .done (not-false _ (c .if1 .left)), λ b. indexed-step _ (omega arith) (omega arith) (r .1 (not-false _ (c .if1 .left)) b))
 
 same-length-3 : tie.Need-same-length-3 Inv-loop μ-loop
 same-length-3 c = search needs

@@ -1,4 +1,4 @@
--- `arrivals::fill::first_row` meets its contract.
+-- `arrivals::fill::first_row` meets its contract: the start's row, where it is free at step 0 and there is room.
 -- Assumes nothing.
 use mathlib.Core.Path.{refl}
 use Prim.Native.Nat.{_*_, _+_}

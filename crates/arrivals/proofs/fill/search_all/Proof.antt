@@ -1,4 +1,4 @@
--- `arrivals::fill::search_all` meets its contract.
+-- `arrivals::fill::search_all` meets its contract: the first row, then every step; what the first row lacks room for is the answer.
 -- Assumes nothing.
 use native.Mathlib.Omega.{arith}
 use borrow.Author.Needs.{needs}
@@ -26,7 +26,7 @@ slice-aggregate-fill-steps-2 : tie.Need-slice-aggregate-fill-steps-2
 slice-aggregate-fill-steps-2 c = search needs
 
 fill-steps-requires : tie.Need-fill-steps-requires
-fill-steps-requires c κs = let r = c .before .before .before .before .before .before .before .first-row .ensures in (r .0 .room, c .before .before .before .before .before .before .before .before .before .before .before .before .before .before .before .before .pre .0, c .before .before .before .before .before .before .before .before .before .before .before .before .before .before .before .before .pre .1, r .0 .done (c .before .before .before .if1 .taken), r .1 (c .before .before .before .if1 .taken), c .before .before .before .before .before .before .before .before .before .before .before .chain .ensures)
+fill-steps-requires c κs = let r = c .before .before .before .before .before .before .before .first-row .ensures in (r .0 .room, c .before .before .before .before .before .before .before .before .before .before .before .before .before .before .before .before .pre .0, c .before .before .before .before .before .before .before .before .before .before .before .before .before .before .before .before .pre .1, r .0 .done (c .before .before .before .if1 .taken), λ b. r .1 (c .before .before .before .if1 .taken), c .before .before .before .before .before .before .before .before .before .before .before .chain .ensures)
 
 same-length : tie.Need-same-length
 same-length c = search needs

@@ -1,4 +1,4 @@
--- `arrivals::notes::chain` meets its contract.
+-- `arrivals::notes::chain` meets its contract: the chain of all corridors. The loop's invariant: the corridors below j are chained.
 -- Assumes nothing.
 use mathlib.Core.Path.{_≡_, refl, subst}
 use Prim.Native.Nat.{_-_, _≤_, ℕ}

@@ -1,4 +1,4 @@
--- `arrivals::notes::chain_link` meets its contract.
+-- `arrivals::notes::chain_link` meets its contract: one corridor more in the chain of its place.
 -- Assumes nothing.
 use mathlib.Core.Logic.{inl, inr}
 use mathlib.Core.Path.{refl}

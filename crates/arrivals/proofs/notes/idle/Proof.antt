@@ -1,6 +1,8 @@
 -- `arrivals::notes::idle` meets its contract.
 -- Assumes nothing.
 use mathlib.Core.Path.{refl}
+use Prim.Native.Nat.{_+_}
+use native.Mathlib.Omega.{arith}
 use borrow.Author.Needs.{needs}
 use Rattle.arrivals.specs.Inner.Search.{false-not-true}
 use Rattle.arrivals.proofs.notes.idle.Statement.{statement}
@@ -18,11 +20,15 @@ mul-if2 c = search needs
 shared-slice-read-if2 : tie.Need-shared-slice-read-if2
 shared-slice-read-if2 c = search needs
 
+cast-if2 : tie.Need-cast-if2
+cast-if2 c = omega (arith, c .shared-slice-known .given (49152 + c .before .before .args .u))
+
 returns-2 : tie.Need-returns-2
-returns-2 c = λ e. (c .before .before .if1 .left, c .if2 .taken)
+returns-2 c = search needs
 
 returns-3 : tie.Need-returns-3
 returns-3 c = λ e. absurd (false-not-true refl e)
 
 pub idle-spec : {M : Type 1} → statement M
-idle-spec = tie.close (tie.spec returns add-if2 mul-if2 shared-slice-read-if2 returns-2 returns-3)
+idle-spec =
+    tie.close (tie.spec returns add-if2 mul-if2 shared-slice-read-if2 cast-if2 returns-2 returns-3)

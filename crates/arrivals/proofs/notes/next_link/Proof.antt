@@ -1,4 +1,4 @@
--- `arrivals::notes::next_link` meets its contract.
+-- `arrivals::notes::next_link` meets its contract: the chain's entry for a corridor into v, and else the corridor itself.
 -- Assumes nothing.
 use mathlib.Core.Path.{_∙_, sym}
 use native.Mathlib.Omega.{arith}

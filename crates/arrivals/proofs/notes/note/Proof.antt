@@ -10,6 +10,9 @@ use Rattle.arrivals.proofs.notes.note.Tie as tie
 latest-requires : tie.Need-latest-requires
 latest-requires c κs = search needs
 
+cast-ix : tie.Need-cast-ix
+cast-ix c = search needs
+
 mul-ix : tie.Need-mul-ix
 mul-ix c = search needs
 
@@ -28,6 +31,9 @@ slice-write-ix c = search needs
 add-ix-3 : tie.Need-add-ix-3
 add-ix-3 c = search needs
 
+cast-ix-2 : tie.Need-cast-ix-2
+cast-ix-2 c = search needs
+
 add-ix-4 : tie.Need-add-ix-4
 add-ix-4 c = search needs
 
@@ -36,6 +42,9 @@ mul-ix-3 c = search needs
 
 slice-write-ix-2 : tie.Need-slice-write-ix-2
 slice-write-ix-2 c = simp length-set (omega arith)
+
+cast-ix-3 : tie.Need-cast-ix-3
+cast-ix-3 c = search needs
 
 mul-ix-4 : tie.Need-mul-ix-4
 mul-ix-4 c = search needs
@@ -48,6 +57,9 @@ mul-ix-5 c = search needs
 
 slice-write-ix-3 : tie.Need-slice-write-ix-3
 slice-write-ix-3 c = simp length-set (omega arith)
+
+cast-ix-4 : tie.Need-cast-ix-4
+cast-ix-4 c = search needs
 
 mul-ix-6 : tie.Need-mul-ix-6
 mul-ix-6 c = search needs
@@ -75,19 +87,23 @@ note-spec =
     tie.close
     (tie.spec
     latest-requires
+    cast-ix
     mul-ix
     add-ix
     add-ix-2
     mul-ix-2
     slice-write-ix
     add-ix-3
+    cast-ix-2
     add-ix-4
     mul-ix-3
     slice-write-ix-2
+    cast-ix-3
     mul-ix-4
     add-ix-5
     mul-ix-5
     slice-write-ix-3
+    cast-ix-4
     mul-ix-6
     add-ix-6
     add-ix-7

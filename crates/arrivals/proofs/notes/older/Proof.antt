@@ -2,6 +2,8 @@
 -- Assumes nothing.
 use mathlib.Core.Logic.{inl, inr}
 use mathlib.Core.Path.{refl}
+use Prim.Native.Nat.{_*_, _+_}
+use native.Mathlib.Omega.{arith}
 use borrow.Author.Needs.{needs}
 use Rattle.arrivals.proofs.notes.older.Statement.{statement}
 use Rattle.arrivals.proofs.notes.older.Tie as tie
@@ -48,6 +50,9 @@ mul-result-2 c = search needs
 shared-slice-read-result : tie.Need-shared-slice-read-result
 shared-slice-read-result c = search needs
 
+cast-result : tie.Need-cast-result
+cast-result c = omega (arith, c .shared-slice-known3 .given (32768 + c .before .before .before .before .args .s * 64 + c .before .before .before .before .args .v))
+
 returns : tie.Need-returns
 returns c = inl (c .before .if1 .taken, refl)
 
@@ -72,5 +77,6 @@ older-spec =
     add-result-2
     mul-result-2
     shared-slice-read-result
+    cast-result
     returns
     returns-2)

@@ -1,4 +1,5 @@
--- `arrivals::offers::beaten` meets its contract.
+-- `arrivals::offers::beaten` meets its contract: a row of the group is nowhere above g, or none is. The loop's invariant: none of the first i
+-- rows is.
 -- Assumes nothing.
 use mathlib.Core.List.{List}
 use mathlib.Core.Path.{subst, sym}

@@ -1,4 +1,5 @@
--- `arrivals::offers::insert` meets its contract.
+-- `arrivals::offers::insert` meets its contract: the row is put in, in order. The loop's invariant: the rows from k on have moved up by one,
+-- and g comes before each of them.
 -- Assumes nothing.
 use mathlib.Core.Path.{_∙_, _≡_, refl}
 use Prim.Native.Nat.{_*_, _+_, _<_, _≤_, ℕ}

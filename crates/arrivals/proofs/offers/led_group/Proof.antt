@@ -1,4 +1,5 @@
--- `arrivals::offers::led_group` meets its contract.
+-- `arrivals::offers::led_group` meets its contract: a row that leads after waiting is one that is nowhere above what is left of g without the
+-- waiting.
 -- Assumes nothing.
 use borrow.Author.Needs.{needs}
 use Rattle.arrivals.specs.Inner.Facts.{at-most-decided, fails, no-of, yes-of}

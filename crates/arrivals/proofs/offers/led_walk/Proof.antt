@@ -1,7 +1,7 @@
--- `arrivals::offers::led_walk` meets its contract.
+-- `arrivals::offers::led_walk` meets its contract: some row leads, or none does. The loop's invariant: no row of v at step s or later leads.
 -- Assumes nothing.
 use mathlib.Core.Path.{_≡_}
-use Prim.Native.Nat.{_+_, _-_, _<_, _≤_, ℕ}
+use Prim.Native.Nat.{_*_, _+_, _-_, _<_, _≤_, ℕ}
 use native.Mathlib.Omega.{arith}
 use lib.ListN.{length}
 use borrow.Author.Needs.{needs}
@@ -26,6 +26,9 @@ mul-s c = search needs
 
 shared-slice-read-s : tie.Need-shared-slice-read-s Inv-loop μ-loop
 shared-slice-read-s c = omega (arith, c .before .before .before .pre .3 .size)
+
+cast-s : tie.Need-cast-s Inv-loop μ-loop
+cast-s c = omega (arith, c .shared-slice-known3 .given (49152 + c .before .before .before .args .v))
 
 loop-holds : tie.Need-loop-holds Inv-loop μ-loop
 loop-holds c = (c .before .before .before .pre .3 .latest (c .before .before .before .args .v) (c .before .before .before .pre .2), c .before .before .before .pre .3 .now, c .before .before .before .pre .3 .size, λ i l p q d. let z = row-newest (c .before .before .before .pre .3) i (c .before .before .before .args .v) l p in omega arith)
@@ -54,6 +57,9 @@ mul-led-group-2 c = search needs
 shared-slice-read-led-group : tie.Need-shared-slice-read-led-group Inv-loop μ-loop
 shared-slice-read-led-group c = search needs
 
+cast-led-group : tie.Need-cast-led-group Inv-loop μ-loop
+cast-led-group c = omega (arith, c .shared-slice-known4 .given ((c .before .before .before .loop .s - 1) * 64 + c .before .before .before .before .before .before .before .args .v))
+
 mul-led-group-3 : tie.Need-mul-led-group-3 Inv-loop μ-loop
 mul-led-group-3 c = search needs
 
@@ -68,6 +74,9 @@ mul-led-group-4 c = search needs
 
 shared-slice-read-led-group-2 : tie.Need-shared-slice-read-led-group-2 Inv-loop μ-loop
 shared-slice-read-led-group-2 c = search needs
+
+cast-led-group-2 : tie.Need-cast-led-group-2 Inv-loop μ-loop
+cast-led-group-2 c = omega (arith, c .shared-slice-known5 .given (16384 + (c .before .before .before .before .loop .s - 1) * 64 + c .before .before .before .before .before .before .before .before .args .v))
 
 led-group-requires : tie.Need-led-group-requires Inv-loop μ-loop
 led-group-requires c κs = let b = c .before .before .before .before .before .before .before .before .pre .3 .order (c .before .before .before .before .loop .s - 1) (c .before .before .before .before .before .before .before .before .args .v) (omega arith) (c .before .before .before .before .before .before .before .before .pre .2) in (b .0, omega (arith, b .1))
@@ -96,6 +105,7 @@ led-walk-spec =
     add-s
     mul-s
     shared-slice-read-s
+    cast-s
     loop-holds
     sub-s
     sub-multiple
@@ -105,11 +115,13 @@ led-walk-spec =
     add-led-group
     mul-led-group-2
     shared-slice-read-led-group
+    cast-led-group
     mul-led-group-3
     add-led-group-2
     add-led-group-3
     mul-led-group-4
     shared-slice-read-led-group-2
+    cast-led-group-2
     led-group-requires
     returns
     older-requires

@@ -1,4 +1,4 @@
--- `arrivals::offers::minus` meets its contract.
+-- `arrivals::offers::minus` meets its contract: the differences, figure by figure. The loop's invariant: the differences below i are stored.
 -- Assumes nothing.
 use mathlib.Core.Path.{_≡_}
 use Prim.Native.Nat.{_-_, _<_, _≤_, ℕ}

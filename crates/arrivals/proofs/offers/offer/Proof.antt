@@ -1,4 +1,5 @@
--- `arrivals::offers::offer` meets its contract.
+-- `arrivals::offers::offer` meets its contract: an offer is refused for a row that is nowhere above it or leads it, and else put in when the
+-- rows that it beats are dropped; where there is no room the group is left as it is to be redone.
 -- Assumes nothing.
 use mathlib.Core.Logic.{inl, inr}
 use mathlib.Core.Path.{_∙_, refl}

@@ -1,4 +1,4 @@
--- `arrivals::offers::precedes` meets its contract.
+-- `arrivals::offers::precedes` meets its contract: the order of g and the last row's cost, where there is a row.
 -- Assumes nothing.
 use mathlib.Core.List.{List}
 use mathlib.Core.Path.{subst, sym}

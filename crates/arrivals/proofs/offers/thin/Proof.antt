@@ -1,4 +1,5 @@
--- `arrivals::offers::thin` meets its contract.
+-- `arrivals::offers::thin` meets its contract: the rows that g is nowhere above are dropped. The loop's invariant: of the first i rows k are
+-- kept, from row a on, and the rows past them are as they were.
 -- Assumes nothing.
 use mathlib.Core.Path.{_∙_, _≡_, refl}
 use Prim.Native.Nat.{_*_, _+_, _-_, _<_, _≤_, ℕ}

@@ -1,4 +1,4 @@
--- `arrivals::offers::thin_row` meets its contract.
+-- `arrivals::offers::thin_row` meets its contract: the row is dropped or kept, as the test says.
 -- Assumes nothing.
 use mathlib.Core.List.{List}
 use mathlib.Core.Path.{subst, sym}
