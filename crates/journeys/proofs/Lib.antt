@@ -5,3 +5,4 @@ pub mod Backwards
 pub mod Ready
 pub mod Ends
 pub mod Laid
+pub mod Sameness

@@ -1,13 +1,15 @@
 -- The words of demand 3 (documents 00 and 01, "What is handed back"): equal lists of costs, as two calls of the front handed them back, and
 -- the allowances that a sheet can meet. The theorem is `demand-3` of Laws.Demand3.
 use mathlib.Core.Path.{_≡_}
+use mathlib.Core.Logic.{_↔_}
+use mathlib.Core.Bool.{Bool, true}
 use mathlib.Core.List.{List, [], _∷_}
 use Prim.Native.Nat.{ℕ, _+_, _*_, _<_}
 use Rattle.sheet.specs.Lists.{number}
 use Rattle.sheet.specs.Sheet.{Outcome, refused, loaded, readOf}
 use Rattle.costs.specs.Costs.{figures}
 use Rattle.journeys.specs.Journeys.{Meets}
-use Rattle.journeys.specs.Calls.{FrontEnd}
+use Rattle.journeys.specs.Calls.{FrontEnd, frontCall}
 
 -- figure j of the cost with number i, in the list as the call returned it
 abbrev pub figureAt : FrontEnd → ℕ → ℕ → ℕ
@@ -26,3 +28,17 @@ MeetsRead (loaded s) x y z = Meets s (x ∷ y ∷ z ∷ [])
 -- the sheet with the bytes b can meet the allowance (x, y, z)
 abbrev pub CanMeet : List ℕ → ℕ → ℕ → ℕ → Type 0
 CanMeet b x y z = MeetsRead (readOf b) x y z
+
+-- neither call was refused, and the lists of costs are equal
+pub record BothSame (e f : FrontEnd) : Type 0 where
+  pub first-served : e .answer .refusal ≡ 0
+  pub second-served : f .answer .refusal ≡ 0
+  pub lists : SameLists e f
+
+-- the comparison of the fronts of the sheets with the bytes b and c: both calls end as `frontCall` says, refused or not; `same` is true exactly when
+-- neither is refused and the lists of costs are equal; and that is, where neither is refused, when the two sheets can meet the same allowances
+pub record ComparedIs (b table list c table′ list′ : List ℕ) (e f : FrontEnd) (same : Bool) : Type 0 where
+  pub first-call : e ≡ frontCall b table list
+  pub second-call : f ≡ frontCall c table′ list′
+  pub compares : (same ≡ true) ↔ BothSame e f
+  pub demand : e .answer .refusal ≡ 0 → f .answer .refusal ≡ 0 → (same ≡ true) ↔ ((x y z : ℕ) → CanMeet b x y z ↔ CanMeet c x y z)

@@ -145,3 +145,11 @@ pub data PreparedIs (b table table′ : List ℕ) (r : Prepared) : Type 0 where
   unread : (k n : ℕ) → readOf b ≡ refused k n → RefusedAs k n table r table′ → PreparedIs b table table′ r
   full : (s : Sheet) → readOf b ≡ loaded s → noRoom s (length table) ≡ true → RefusedAs 8 0 (cleared table) r table′ → PreparedIs b table table′ r
   ready : (s : Sheet) → readOf b ≡ loaded s → noRoom s (length table) ≡ false → ReadyOn s table table′ r → PreparedIs b table table′ r
+
+-- n numbers of two lists are equal, from position `at` on
+pub record SameFigures (n : ℕ) (a b : List ℕ) (at : ℕ) : Type 0 where
+  pub every : (j : ℕ) → j < n → number a (at + j) ≡ number b (at + j)
+
+-- the first n costs of two front lists are equal
+pub record SameRows (n : ℕ) (a b : List ℕ) : Type 0 where
+  pub every : (i : ℕ) → i < n → SameFigures figures a b (i * 4)

@@ -19,6 +19,7 @@ use crate::prepare::usable_of;
 use crate::walk::walk_back;
 use intervals::fill_since;
 
+// A refusal: its number, its line, and zeros.
 fn refuse_front(number: u32, line: u32) -> FrontAnswer
     ensures { λ r. ⌜ r ≡ frontRefused number line [] [] .answer ⌝ }
 {
@@ -56,6 +57,7 @@ pub fn front(sheet: &[u8], table: &mut [u32], list: &mut [u32]) -> FrontAnswer
     }
 }
 
+// A refusal: its number, its line, and zeros.
 fn refuse_journey(number: u32, line: u32) -> JourneyAnswer
     ensures { λ r. ⌜ r ≡ journeyRefused number line [] [] .answer ⌝ }
 {
@@ -110,21 +112,12 @@ pub fn journey(sheet: &[u8], number: u32, table: &mut [u32], path: &mut [u32]) -
         return refuse_journey(11, 0);
     }
     let cost = o.cost;
-    let corridors = s.corridors;
-    let occupancies = s.occupancies;
+    let cs = s.corridors;
+    let os = s.occupancies;
     let lines = s.lines;
     let c = lines[1] as usize * 5;
     let q = lines[2] as usize * 3;
-    lay_path(
-        &head,
-        &corridors[..c],
-        &occupancies[..q],
-        table,
-        n,
-        arrival,
-        cost,
-        path,
-    );
+    lay_path(&head, &cs[..c], &os[..q], table, n, arrival, cost, path);
     JourneyAnswer {
         refusal: 0,
         line: 0,

@@ -71,6 +71,16 @@ fits-served b table list f =
 pub served-exactly : (b table list : List ℕ) → (frontCall b table list .answer .refusal ≡ 0) ↔ Fits b table list
 served-exactly b table list = (λ z. served b table list z .fits, fits-served b table list)
 
+rows-wide : (s : Sheet) (l : List ℕ) → l ∈ map (frontRow s) (front s) → length l ≡ 4
+rows-wide s l m =
+    let r = map-mem (frontRow s) l (front s) m in
+    ap length (r .2) ∙ length-append (r .0) (arrivalOf s (r .0) ∷ []) ∙ ap (λ (n : ℕ). n + 1) (has-three s (r .0) (front-on s (r .0) (r .1) .has))
+
+-- four numbers a front cost
+pub list-length : (s : Sheet) → length (bind (front s) (frontRow s)) ≡ length (front s) * 4
+list-length s =
+    ap length (bind-flat (frontRow s) (front s)) ∙ flat-length 4 (map (frontRow s) (front s)) (rows-wide s) ∙ ap (λ (m : ℕ). m * 4) (length-map (front s) (frontRow s))
+
 -- the list as a served call returned it, figure by figure
 pub listed : (s : Sheet) (table list : List ℕ) (i j : ℕ) → i < length (front s) → j < figures → figureAt (frontServed s table list) i j ≡ fig (getD (front s) i []) j
 unfolding frontServed
@@ -78,17 +88,11 @@ listed s table list i j h k =
     let r = bind (front s) (frontRow s) in
     let e : r ≡ flat (map (frontRow s) (front s)) = bind-flat (frontRow s) (front s) in
     let c : length (map (frontRow s) (front s)) ≡ length (front s) = length-map (front s) (frontRow s) in
-    let n : length r ≡ length (front s) * 4 = ap length e ∙ flat-length 4 (map (frontRow s) (front s)) wide ∙ ap (λ (m : ℕ). m * 4) c in
-    List·getD-append r (replicate (length list - length r) 0) 0 (i * 4 + j) (omega (arith, h, k, n))
+    List·getD-append r (replicate (length list - length r) 0) 0 (i * 4 + j) (omega (arith, h, k, list-length s))
     ∙ ap (λ (l : List ℕ). number l (i * 4 + j)) e
-    ∙ flat-at 4 (map (frontRow s) (front s)) wide i j (omega (arith, h, c)) (omega (arith, k))
+    ∙ flat-at 4 (map (frontRow s) (front s)) (rows-wide s) i j (omega (arith, h, c)) (omega (arith, k))
     ∙ at (front s) i h (λ g m. has-three s g (front-on s g m .has))
   where
-    wide : (l : List ℕ) → l ∈ map (frontRow s) (front s) → length l ≡ 4
-    wide l m =
-        let r = map-mem (frontRow s) l (front s) m in
-        ap length (r .2) ∙ length-append (r .0) (arrivalOf s (r .0) ∷ []) ∙ ap (λ (n : ℕ). n + 1) (has-three s (r .0) (front-on s (r .0) (r .1) .has))
-
     at : (l : List Cost) (i : ℕ) → i < length l → ((g : Cost) → g ∈ l → length g ≡ figures) → number (getD (map (frontRow s) l) i []) j ≡ fig (getD l i []) j
     at [] i h f = absurd (omega arith)
     at (g ∷ l) zero h f = List·getD-append g (arrivalOf s g ∷ []) 0 j (omega (arith, k, f g (inl refl)))

@@ -9,14 +9,6 @@ use borrow.Author.Needs.{needs}
 use Rattle.journeys.proofs.Ends.{prepared-ready, front-room, front-refused, front-nine, front-end}
 use Rattle.journeys.proofs.calls.front.Statement.{statement}
 use Rattle.journeys.proofs.calls.front.Tie as tie
-use Rattle.journeys.proofs.calls.front.Reads as reads
-use Rattle.journeys.proofs.calls.front.Lts as lts
-use Rattle.journeys.proofs.calls.refuse_front.Reads as refuse-front-reads
-use Rattle.journeys.proofs.offered.clear_from.Reads as clear-from-reads
-use Rattle.journeys.proofs.offered.count_costs.Reads as count-costs-reads
-use Rattle.journeys.proofs.offered.list_costs.Reads as list-costs-reads
-use Rattle.journeys.proofs.prepare.prepare.Reads as prepare-reads
-use Rattle.journeys.proofs.prepare.usable_of.Reads as usable-of-reads
 
 prepare-requires : tie.Need-prepare-requires
 prepare-requires c κs = search needs

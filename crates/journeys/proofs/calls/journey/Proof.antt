@@ -11,13 +11,6 @@ use Rattle.journeys.proofs.Ready.{corridors-whole, occupancies-whole}
 use Rattle.journeys.proofs.Ends.{prepared-ready, journey-refused, journey-ten, journey-eleven, journey-end, layable}
 use Rattle.journeys.proofs.calls.journey.Statement.{statement}
 use Rattle.journeys.proofs.calls.journey.Tie as tie
-use Rattle.journeys.proofs.calls.journey.Reads as reads
-use Rattle.journeys.proofs.calls.journey.Lts as lts
-use Rattle.journeys.proofs.calls.lay_path.Reads as lay-path-reads
-use Rattle.journeys.proofs.calls.refuse_journey.Reads as refuse-journey-reads
-use Rattle.journeys.proofs.offered.clear_from.Reads as clear-from-reads
-use Rattle.journeys.proofs.offered.nth_cost.Reads as nth-cost-reads
-use Rattle.journeys.proofs.prepare.prepare.Reads as prepare-reads
 
 prepare-requires : tie.Need-prepare-requires
 prepare-requires c κs = search needs
@@ -123,8 +116,8 @@ slice-aggregate-lay-path c =
     let p = prepared-ready (a .sheet .now) (a .table .now) (q .last .1 .0) (q .result) (q .ensures) (c .before .before .before .before .before .before .before .before .before .before .before .before .if1 .left) in
     sym (ap length (p .groups .head-is) ∙ p .valid .seven)
 
-array-share-prefix-corridors : tie.Need-array-share-prefix-corridors
-array-share-prefix-corridors c =
+array-share-prefix-cs : tie.Need-array-share-prefix-cs
+array-share-prefix-cs c =
     let q = c .before .before .before .before .before .before .before .before .before .before .before .before .before .before .before .before .prepare in
     let a = c .before .before .before .before .before .before .before .before .before .before .before .before .before .before .before .before .before .before .before .before .before .args in
     let p = prepared-ready (a .sheet .now) (a .table .now) (q .last .1 .0) (q .result) (q .ensures) (c .before .before .before .before .before .before .before .before .before .before .before .before .if1 .left) in
@@ -137,8 +130,8 @@ slice-aggregate-lay-path-2 c =
     let p = prepared-ready (a .sheet .now) (a .table .now) (q .last .1 .0) (q .result) (q .ensures) (c .before .before .before .before .before .before .before .before .before .before .before .before .before .if1 .left) in
     sym (length-take-le _ _ (p .groups .corridors-of .within))
 
-array-share-prefix-occupancies : tie.Need-array-share-prefix-occupancies
-array-share-prefix-occupancies c =
+array-share-prefix-os : tie.Need-array-share-prefix-os
+array-share-prefix-os c =
     let q = c .before .before .before .before .before .before .before .before .before .before .before .before .before .before .before .before .before .prepare in
     let a = c .before .before .before .before .before .before .before .before .before .before .before .before .before .before .before .before .before .before .before .before .before .before .args in
     let p = prepared-ready (a .sheet .now) (a .table .now) (q .last .1 .0) (q .result) (q .ensures) (c .before .before .before .before .before .before .before .before .before .before .before .before .before .if1 .left) in
@@ -199,9 +192,9 @@ journey-spec =
     cast-q
     mul-q
     slice-aggregate-lay-path
-    array-share-prefix-corridors
+    array-share-prefix-cs
     slice-aggregate-lay-path-2
-    array-share-prefix-occupancies
+    array-share-prefix-os
     slice-aggregate-lay-path-3
     lay-path-requires
     same-length-4

@@ -6,11 +6,6 @@ use Rattle.sheet.specs.Calls.{sheetOfGroups}
 use Rattle.journeys.proofs.Laid.{valid-group, walks-of, laid}
 use Rattle.journeys.proofs.calls.lay_path.Statement.{statement}
 use Rattle.journeys.proofs.calls.lay_path.Tie as tie
-use Rattle.journeys.proofs.calls.lay_path.Reads as reads
-use Rattle.journeys.proofs.calls.lay_path.Lts as lts
-use Rattle.intervals.proofs.fill_since.Reads as fill-since-reads
-use Rattle.journeys.proofs.offered.clear_from.Reads as clear-from-reads
-use Rattle.journeys.proofs.walk.walk_back.Reads as walk-back-reads
 
 fill-since-requires : tie.Need-fill-since-requires
 fill-since-requires c κs =

@@ -12,12 +12,6 @@ use Rattle.journeys.specs.Inner.{unread, full, ready}
 use Rattle.journeys.proofs.Ready.{usable-most, groups-sheet, corridors-whole, occupancies-whole, searched, read-as, not-read}
 use Rattle.journeys.proofs.prepare.prepare.Statement.{statement}
 use Rattle.journeys.proofs.prepare.prepare.Tie as tie
-use Rattle.journeys.proofs.prepare.prepare.Reads as reads
-use Rattle.journeys.proofs.prepare.prepare.Lts as lts
-use Rattle.journeys.proofs.offered.clear_from.Reads as clear-from-reads
-use Rattle.journeys.proofs.prepare.usable_of.Reads as usable-of-reads
-use Rattle.arrivals.proofs.search.Reads as search-reads
-use Rattle.sheet.proofs.reader.read.Reads as read-reads
 
 read-requires : tie.Need-read-requires
 read-requires c κs = search needs
