@@ -1,13 +1,14 @@
 // The front read off the arrivals table: each front cost is the cost of a leading arrival at the goal that none of these dominates.
 ghost use mathlib.Core.Path.{_≡_};
+ghost use mathlib.Core.Bool.{false};
 ghost use mathlib.Core.List.{_∷_, [], _++_};
-ghost use Prim.Native.Nat.{ℕ, _+_, _*_, _-_, _≤_, _<_};
+ghost use Prim.Native.Nat.{_+_, _*_, _-_, _≤_, _<_};
 ghost use lib.ListN.{length, take, replicate};
 ghost use lib.Seq.{sets};
-ghost use Rattle.sheet.specs.Lists.{numbersFrom, rows, filled};
+ghost use Rattle.sheet.specs.Lists.{numbersFrom, filled};
 ghost use Rattle.costs.specs.Costs.{figures};
 ghost use Rattle.journeys.specs.Computed.{undominatedb, frontOf};
-ghost use Rattle.journeys.specs.Inner.{isGoalRow, rowOf, goalRows, costsOf, asOffered, above, below, BestUpTo, NextIs, NumberIs, offeredRows};
+ghost use Rattle.journeys.specs.Inner.{goalRows, costsOf, asOffered, above, below, BestUpTo, NextIs, NumberIs, offeredRows};
 use costs::before;
 use costs::dominates;
 
@@ -16,6 +17,17 @@ pub struct Offered {
     pub found: bool,
     pub cost: [u32; 3],
     pub step: u32,
+}
+
+// No cost: none was found yet.
+fn no_cost() -> Offered
+    ensures { λ r. ⌜ r .found ≡ false ⌝ }
+{
+    Offered {
+        found: false,
+        cost: [0; 3],
+        step: 0,
+    }
 }
 
 // The cost in row k.
@@ -52,11 +64,7 @@ pub fn next_cost(table: &[u32], n: usize, v: u32, last: u32, after: Offered) -> 
     requires { ⌜ (n ≤ 1000000000000000000) × (n * 5 ≤ length (now table)) ⌝ }
     ensures { λ r. ⌜ NextIs (goalRows v last n (now (table .entry))) (asOffered after) r ⌝ }
 {
-    let mut best = Offered {
-        found: false,
-        cost: [0; 3],
-        step: 0,
-    };
+    let mut best = no_cost();
     let mut k = 0;
     while k < n {
         best = better_row(table, n, v, last, after, best, k);
@@ -125,17 +133,7 @@ pub fn count_costs(table: &[u32], n: usize, v: u32, last: u32) -> usize
     requires { ⌜ (n ≤ 1000000000000000000) × (n * 5 ≤ length (now table)) ⌝ }
     ensures { λ r. ⌜ r ≡ length (frontOf (costsOf (goalRows v last n (now (table .entry))))) ⌝ }
 {
-    let mut at = next_cost(
-        table,
-        n,
-        v,
-        last,
-        Offered {
-            found: false,
-            cost: [0; 3],
-            step: 0,
-        },
-    );
+    let mut at = next_cost(table, n, v, last, no_cost());
     let mut count = 0;
     while at.found {
         count += 1;
@@ -149,17 +147,7 @@ pub fn nth_cost(table: &[u32], n: usize, v: u32, last: u32, number: usize) -> Of
     requires { ⌜ (n ≤ 1000000000000000000) × (n * 5 ≤ length (now table)) ⌝ }
     ensures { λ r. ⌜ NumberIs (goalRows v last n (now (table .entry))) number r ⌝ }
 {
-    let mut at = next_cost(
-        table,
-        n,
-        v,
-        last,
-        Offered {
-            found: false,
-            cost: [0; 3],
-            step: 0,
-        },
-    );
+    let mut at = next_cost(table, n, v, last, no_cost());
     let mut i = 0;
     while i < number {
         if !at.found {
@@ -187,17 +175,7 @@ pub fn list_costs(table: &[u32], n: usize, v: u32, last: u32, list: &mut [u32])
     requires { ⌜ (n ≤ 1000000000000000000) × (n * 5 ≤ length (now table)) × (length (frontOf (costsOf (goalRows v last n (now table)))) * 4 ≤ length (now list)) ⌝ }
     ensures { λ _. ⌜ now (list .exit) ≡ filled (length (now (list .entry))) (offeredRows (goalRows v last n (now (table .entry)))) ⌝ }
 {
-    let mut at = next_cost(
-        table,
-        n,
-        v,
-        last,
-        Offered {
-            found: false,
-            cost: [0; 3],
-            step: 0,
-        },
-    );
+    let mut at = next_cost(table, n, v, last, no_cost());
     let mut i = 0;
     while at.found {
         let cost = at.cost;

@@ -344,8 +344,9 @@ number-is l i r e f =
     let n = number-get (frontOf (costsOf l)) i (r .found) (r .cost) e in
     record { on = λ t. (n .on t .0, n .on t .1, f t); off = n .off }
 
-pub number-first : (l : List Arrival) (r : Offered) → NextIs l none r → NumberIs l 0 r
-number-first l r n = number-is l 0 r (n .next ∙ next-first (frontOf (costsOf l))) (n .step)
+pub number-first : (l : List Arrival) (last r : Offered) → last .found ≡ false → NextIs l (asOffered last) r → NumberIs l 0 r
+number-first l last r e n =
+    number-is l 0 r (n .next ∙ ap (λ (b : Bool). nextIn (frontOf (costsOf l)) (pick b (some (last .cost)) none)) e ∙ next-first (frontOf (costsOf l))) (n .step)
 
 pub number-next : (l : List Arrival) (i : ℕ) (last r : Offered) → NumberIs l i last → last .found ≡ true → NextIs l (asOffered last) r → NumberIs l (i + 1) r
 number-next l i last r m t n =

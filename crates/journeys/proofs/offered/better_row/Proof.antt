@@ -7,12 +7,6 @@ use Rattle.journeys.specs.Laws.Offered.{row-skipped, row-low, row-high, 
 use borrow.Author.Needs.{needs}
 use Rattle.journeys.proofs.offered.better_row.Statement.{statement}
 use Rattle.journeys.proofs.offered.better_row.Tie as tie
-use Rattle.journeys.proofs.offered.better_row.Reads as reads
-use Rattle.journeys.proofs.offered.better_row.Lts as lts
-use Rattle.journeys.proofs.offered.is_above.Reads as is-above-reads
-use Rattle.journeys.proofs.offered.is_below.Reads as is-below-reads
-use Rattle.journeys.proofs.offered.is_undominated.Reads as is-undominated-reads
-use Rattle.journeys.proofs.offered.row_cost.Reads as row-cost-reads
 
 mul-if1 : tie.Need-mul-if1
 mul-if1 c = search needs
@@ -37,8 +31,9 @@ shared-slice-read-if1-2 c = search needs
 
 returns : tie.Need-returns
 returns c =
-    let a = c .before .before .before .before .args in
-    row-skipped (a .v) (a .last) (a .n) (a .table .now) (asOffered (a .after)) (a .k) (a .best) (c .before .before .before .before .pre .3) (not-true _ (c .if1 .taken))
+    let s = c .before .before .before .before in
+    let a = s .args in
+    row-skipped (a .v) (a .last) (a .n) (a .table .now) (asOffered (a .after)) (a .k) (a .best) (s .pre .3) (not-true _ (c .if1 .taken))
 
 row-cost-requires : tie.Need-row-cost-requires
 row-cost-requires c κs = search needs
@@ -48,24 +43,33 @@ is-above-requires c κs = search needs
 
 returns-2 : tie.Need-returns-2
 returns-2 c =
-    let a = c .before .before .before .before .before .before .before .args in
-    row-low (a .v) (a .last) (a .n) (a .table .now) (asOffered (a .after)) (a .k) (a .best) (c .before .before .before .before .before .before .before .pre .3) (c .before .before .row-cost .result) (c .before .before .row-cost .ensures) (not-false _ (c .before .before .before .if1 .left)) (sym (c .before .is-above .ensures) ∙ not-true _ (c .if2 .taken))
+    let s = c .before .before .before .before .before .before .before in
+    let a = s .args in
+    let w = c .before .before in
+    row-low (a .v) (a .last) (a .n) (a .table .now) (asOffered (a .after)) (a .k) (a .best) (s .pre .3) (w .row-cost .result) (w .row-cost .ensures) (not-false _ (w .before .if1 .left))
+    (sym (c .before .is-above .ensures) ∙ not-true _ (c .if2 .taken))
 
 is-below-requires : tie.Need-is-below-requires
 is-below-requires c κs = search needs
 
 returns-3 : tie.Need-returns-3
 returns-3 c =
-    let a = c .before .before .before .before .before .before .before .before .before .args in
-    row-high (a .v) (a .last) (a .n) (a .table .now) (asOffered (a .after)) (a .k) (a .best) (c .before .before .before .before .before .before .before .before .before .pre .3) (c .before .before .before .before .row-cost .result) (c .before .before .before .before .row-cost .ensures) (not-false _ (c .before .before .before .before .before .if1 .left)) (sym (c .before .is-below .ensures) ∙ not-true _ (c .if3 .taken))
+    let s = c .before .before .before .before .before .before .before .before .before in
+    let a = s .args in
+    let w = c .before .before .before .before in
+    row-high (a .v) (a .last) (a .n) (a .table .now) (asOffered (a .after)) (a .k) (a .best) (s .pre .3) (w .row-cost .result) (w .row-cost .ensures) (not-false _ (w .before .if1 .left))
+    (sym (c .before .is-below .ensures) ∙ not-true _ (c .if3 .taken))
 
 is-undominated-requires : tie.Need-is-undominated-requires
 is-undominated-requires c κs = search needs
 
 returns-4 : tie.Need-returns-4
 returns-4 c =
-    let a = c .before .before .before .before .before .before .before .before .before .before .before .args in
-    row-dominated (a .v) (a .last) (a .n) (a .table .now) (asOffered (a .after)) (a .k) (a .best) (c .before .before .before .before .before .before .before .before .before .before .before .pre .3) (c .before .before .before .before .before .before .row-cost .result) (c .before .before .before .before .before .before .row-cost .ensures) (not-false _ (c .before .before .before .before .before .before .before .if1 .left)) (sym (c .before .is-undominated .ensures) ∙ not-true _ (c .if4 .taken))
+    let s = c .before .before .before .before .before .before .before .before .before .before .before in
+    let a = s .args in
+    let w = c .before .before .before .before .before .before in
+    row-dominated (a .v) (a .last) (a .n) (a .table .now) (asOffered (a .after)) (a .k) (a .best) (s .pre .3) (w .row-cost .result) (w .row-cost .ensures) (not-false _ (w .before .if1 .left))
+    (sym (c .before .is-undominated .ensures) ∙ not-true _ (c .if4 .taken))
 
 mul-t9 : tie.Need-mul-t9
 mul-t9 c = search needs
@@ -81,8 +85,15 @@ shared-slice-read-t12 c = search needs
 
 returns-5 : tie.Need-returns-5
 returns-5 c =
-    let a = c .before .before .before .before .before .before .before .before .before .before .before .before .args in
-    row-taken (a .v) (a .last) (a .n) (a .table .now) (asOffered (a .after)) (a .k) (a .best) (c .before .before .before .before .before .before .before .before .before .before .before .before .pre .3) (c .before .before .before .before .before .before .before .row-cost .result) (c .before .before .before .before .before .before .before .row-cost .ensures) (not-false _ (c .before .before .before .before .before .before .before .before .if1 .left)) _ (sym (c .before .before .before .before .before .before .is-above .ensures) ∙ not-false _ (c .before .before .before .before .before .if2 .left)) (sym (c .before .before .before .before .is-below .ensures) ∙ not-false _ (c .before .before .before .if3 .left)) (sym (c .before .before .is-undominated .ensures) ∙ not-false _ (c .before .if4 .left)) refl refl refl
+    let s = c .before .before .before .before .before .before .before .before .before .before .before .before in
+    let a = s .args in
+    let w = c .before .before .before .before .before .before .before in
+    row-taken (a .v) (a .last) (a .n) (a .table .now) (asOffered (a .after)) (a .k) (a .best) (s .pre .3) (w .row-cost .result) (w .row-cost .ensures) (not-false _ (w .before .if1 .left))
+    _
+    (sym (c .before .before .before .before .before .before .is-above .ensures) ∙ not-false _ (c .before .before .before .before .before .if2 .left))
+    (sym (c .before .before .before .before .is-below .ensures) ∙ not-false _ (c .before .before .before .if3 .left))
+    (sym (c .before .before .is-undominated .ensures) ∙ not-false _ (c .before .if4 .left))
+    refl refl refl
 
 pub better-row-spec : {M : Type 1} → statement M
 better-row-spec =

@@ -3,15 +3,13 @@
 -- Assumes nothing.
 use mathlib.Core.Path.{_≡_, refl, sym, _∙_, ap}
 use mathlib.Core.List.{_++_, append-nil}
-use Prim.Native.Nat.{ℕ, _+_, _-_, _≤_}
+use Prim.Native.Nat.{ℕ, _-_, _≤_}
 use native.Mathlib.Omega.{arith}
 use lib.ListN.{length, take, replicate, length-set}
 use lib.Seq.{take-all}
 use borrow.Author.Needs.{needs}
 use Rattle.journeys.proofs.offered.clear_from.Statement.{statement}
 use Rattle.journeys.proofs.offered.clear_from.Tie as tie
-use Rattle.journeys.proofs.offered.clear_from.Reads as reads
-use Rattle.journeys.proofs.offered.clear_from.Lts as lts
 use Rattle.journeys.proofs.Stores.{clear-more}
 
 abbrev Inv-loop : tie.InvT-loop

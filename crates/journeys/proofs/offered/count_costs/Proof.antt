@@ -10,9 +10,6 @@ use Rattle.journeys.specs.Inner.{goalRows, costsOf, NumberIs}
 use Rattle.journeys.specs.Laws.Offered.{number-first, number-next, front-within}
 use Rattle.journeys.proofs.offered.count_costs.Statement.{statement}
 use Rattle.journeys.proofs.offered.count_costs.Tie as tie
-use Rattle.journeys.proofs.offered.count_costs.Reads as reads
-use Rattle.journeys.proofs.offered.count_costs.Lts as lts
-use Rattle.journeys.proofs.offered.next_cost.Reads as next-cost-reads
 
 abbrev Inv-loop : tie.InvT-loop
 Inv-loop table n v last at₀ count₀ at count = (count ≤ length (frontOf (costsOf (goalRows v last n table)))) × NumberIs (goalRows v last n table) count at
@@ -20,15 +17,18 @@ Inv-loop table n v last at₀ count₀ at count = (count ≤ length (frontOf (co
 abbrev μ-loop : tie.MeasureT-loop
 μ-loop table n v last at₀ count₀ at count = length (frontOf (costsOf (goalRows v last n table))) - count
 
+no-cost-requires : tie.Need-no-cost-requires Inv-loop μ-loop
+no-cost-requires c κs = search needs
+
 next-cost-requires : tie.Need-next-cost-requires Inv-loop μ-loop
 next-cost-requires c κs = search needs
 
 loop-holds : tie.Need-loop-holds Inv-loop μ-loop
-loop-holds c = (omega arith, number-first _ _ (c .next-cost .ensures))
+loop-holds c = (omega arith, number-first _ (c .before .no-cost .result) _ (c .before .no-cost .ensures) (c .next-cost .ensures))
 
 add-count : tie.Need-add-count Inv-loop μ-loop
 add-count c =
-    let a = c .before .before .before .before .args in
+    let a = c .before .before .before .before .before .args in
     omega (arith, c .before .loop .inv .1 .on (c .loop-test .taken) .0, front-within (a .v) (a .last) (a .n) (a .table .now))
 
 next-cost-requires-2 : tie.Need-next-cost-requires-2 Inv-loop μ-loop
@@ -51,6 +51,7 @@ count-costs-spec =
     (tie.spec
     Inv-loop
     μ-loop
+    no-cost-requires
     next-cost-requires
     loop-holds
     add-count

@@ -8,9 +8,6 @@ use Rattle.journeys.specs.Inner.{above}
 use borrow.Author.Needs.{needs}
 use Rattle.journeys.proofs.offered.is_above.Statement.{statement}
 use Rattle.journeys.proofs.offered.is_above.Tie as tie
-use Rattle.journeys.proofs.offered.is_above.Reads as reads
-use Rattle.journeys.proofs.offered.is_above.Lts as lts
-use Rattle.costs.proofs.before.Reads as before-reads
 
 before-requires : tie.Need-before-requires
 before-requires c κs = search needs

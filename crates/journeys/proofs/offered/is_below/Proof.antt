@@ -8,9 +8,6 @@ use Rattle.journeys.specs.Inner.{below}
 use borrow.Author.Needs.{needs}
 use Rattle.journeys.proofs.offered.is_below.Statement.{statement}
 use Rattle.journeys.proofs.offered.is_below.Tie as tie
-use Rattle.journeys.proofs.offered.is_below.Reads as reads
-use Rattle.journeys.proofs.offered.is_below.Lts as lts
-use Rattle.costs.proofs.before.Reads as before-reads
 
 before-requires : tie.Need-before-requires
 before-requires c κs = search needs

@@ -14,10 +14,6 @@ use Rattle.journeys.specs.Inner.{goalRows, costsOf}
 use Rattle.journeys.specs.Laws.Offered.{rowAt, goal-row, dominated, undominated-kept, undominated-skipped}
 use Rattle.journeys.proofs.offered.is_undominated.Statement.{statement}
 use Rattle.journeys.proofs.offered.is_undominated.Tie as tie
-use Rattle.journeys.proofs.offered.is_undominated.Reads as reads
-use Rattle.journeys.proofs.offered.is_undominated.Lts as lts
-use Rattle.costs.proofs.dominates.Reads as dominates-reads
-use Rattle.journeys.proofs.offered.row_cost.Reads as row-cost-reads
 
 abbrev Inv-loop : tie.InvT-loop
 Inv-loop table n v last g k₀ k = (k ≤ n) × (undominatedb (costsOf (goalRows v last k table)) g ≡ true)

@@ -12,11 +12,6 @@ use Rattle.journeys.specs.Inner.{goalRows, costsOf, NumberIs}
 use Rattle.journeys.specs.Laws.Offered.{number-first, number-next, front-within, offeredRow, offered-wide, Listed, listed-none, listed-offered, listed-all}
 use Rattle.journeys.proofs.offered.list_costs.Statement.{statement}
 use Rattle.journeys.proofs.offered.list_costs.Tie as tie
-use Rattle.journeys.proofs.offered.list_costs.Reads as reads
-use Rattle.journeys.proofs.offered.list_costs.Lts as lts
-use Rattle.journeys.proofs.offered.clear_from.Reads as clear-from-reads
-use Rattle.journeys.proofs.offered.next_cost.Reads as next-cost-reads
-use Rattle.journeys.proofs.offered.put_cost.Reads as put-cost-reads
 
 abbrev Inv-loop : tie.InvT-loop
 Inv-loop table n v last list₀ at₀ i₀ list at i = (length list ≡ length list₀) × NumberIs (goalRows v last n table) i at × Listed (frontOf (costsOf (goalRows v last n table))) (offeredRow (goalRows v last n table)) 4 i list
@@ -24,17 +19,20 @@ Inv-loop table n v last list₀ at₀ i₀ list at i = (length list ≡ length l
 abbrev μ-loop : tie.MeasureT-loop
 μ-loop table n v last list₀ at₀ i₀ list at i = length (frontOf (costsOf (goalRows v last n table))) - i
 
+no-cost-requires : tie.Need-no-cost-requires Inv-loop μ-loop
+no-cost-requires c κs = search needs
+
 next-cost-requires : tie.Need-next-cost-requires Inv-loop μ-loop
 next-cost-requires c κs = search needs
 
 loop-holds : tie.Need-loop-holds Inv-loop μ-loop
 loop-holds c =
-    let a = c .before .before .before .args in
-    (refl, number-first _ _ (c .next-cost .ensures), listed-none _ _ 4 _ (offered-wide (a .v) (a .last) (a .n) (a .table .now) (goalRows (a .v) (a .last) (a .n) (a .table .now))))
+    let a = c .before .before .before .before .args in
+    (refl, number-first _ (c .before .no-cost .result) _ (c .before .no-cost .ensures) (c .next-cost .ensures), listed-none _ _ 4 _ (offered-wide (a .v) (a .last) (a .n) (a .table .now) (goalRows (a .v) (a .last) (a .n) (a .table .now))))
 
 put-cost-requires : tie.Need-put-cost-requires Inv-loop μ-loop
 put-cost-requires c κs =
-    let a = c .before .before .before .before .before .before .before .args in
+    let a = c .before .before .before .before .before .before .before .before .args in
     let h = c .before .before .before .loop in
     let b = h .inv .1 .on (c .before .before .loop-test .taken) .0 in
     (omega (arith, b, front-within (a .v) (a .last) (a .n) (a .table .now)), omega (arith, b))
@@ -44,7 +42,7 @@ next-cost-requires-2 c κs = search needs
 
 add-i : tie.Need-add-i Inv-loop μ-loop
 add-i c =
-    let a = c .before .before .before .before .before .before .before .before .before .before .before .args in
+    let a = c .before .before .before .before .before .before .before .before .before .before .before .before .args in
     omega (arith, c .before .before .before .before .before .before .before .loop .inv .1 .on (c .before .before .before .before .before .before .loop-test .taken) .0, front-within (a .v) (a .last) (a .n) (a .table .now))
 
 loop-less : tie.Need-loop-less Inv-loop μ-loop
@@ -80,6 +78,7 @@ list-costs-spec =
     (tie.spec
     Inv-loop
     μ-loop
+    no-cost-requires
     next-cost-requires
     loop-holds
     put-cost-requires

@@ -10,9 +10,6 @@ use Rattle.journeys.specs.Inner.{goalRows, NumberIs}
 use Rattle.journeys.specs.Laws.Offered.{number-first, number-next, number-past}
 use Rattle.journeys.proofs.offered.nth_cost.Statement.{statement}
 use Rattle.journeys.proofs.offered.nth_cost.Tie as tie
-use Rattle.journeys.proofs.offered.nth_cost.Reads as reads
-use Rattle.journeys.proofs.offered.nth_cost.Lts as lts
-use Rattle.journeys.proofs.offered.next_cost.Reads as next-cost-reads
 
 abbrev Inv-loop : tie.InvT-loop
 Inv-loop table n v last number at₀ i₀ at i = (i ≤ number) × NumberIs (goalRows v last n table) i at
@@ -20,11 +17,14 @@ Inv-loop table n v last number at₀ i₀ at i = (i ≤ number) × NumberIs (goa
 abbrev μ-loop : tie.MeasureT-loop
 μ-loop table n v last number at₀ i₀ at i = number - i
 
+no-cost-requires : tie.Need-no-cost-requires Inv-loop μ-loop
+no-cost-requires c κs = search needs
+
 next-cost-requires : tie.Need-next-cost-requires Inv-loop μ-loop
 next-cost-requires c κs = search needs
 
 loop-holds : tie.Need-loop-holds Inv-loop μ-loop
-loop-holds c = (omega arith, number-first _ _ (c .next-cost .ensures))
+loop-holds c = (omega arith, number-first _ (c .before .no-cost .result) _ (c .before .no-cost .ensures) (c .next-cost .ensures))
 
 returns : tie.Need-returns Inv-loop μ-loop
 returns c =
@@ -47,7 +47,7 @@ loop-again c =
 
 returns-2 : tie.Need-returns-2 Inv-loop μ-loop
 returns-2 c =
-    let a = c .before .before .before .before .args in
+    let a = c .before .before .before .before .before .args in
     let h = c .before .loop in
     let e : h .i ≡ a .number = omega arith in
     subst (λ (i : ℕ). NumberIs (goalRows (a .v) (a .last) (a .n) (a .table .now)) i (h .at)) e (h .inv .1)
@@ -58,6 +58,7 @@ nth-cost-spec =
     (tie.spec
     Inv-loop
     μ-loop
+    no-cost-requires
     next-cost-requires
     loop-holds
     returns

@@ -10,8 +10,6 @@ use borrow.Author.Needs.{needs}
 use Rattle.journeys.proofs.Stores.{sets-more, sets-append}
 use Rattle.journeys.proofs.offered.put_cost.Statement.{statement}
 use Rattle.journeys.proofs.offered.put_cost.Tie as tie
-use Rattle.journeys.proofs.offered.put_cost.Reads as reads
-use Rattle.journeys.proofs.offered.put_cost.Lts as lts
 
 abbrev Inv-loop : tie.InvT-loop
 Inv-loop list₀ i step cost j₀ list j = (j ≤ 3) × (length cost ≡ 3) × (list ≡ sets list₀ (i * 4) (take j cost))

@@ -9,8 +9,6 @@ use Rattle.sheet.specs.Lists.{number}
 use Rattle.costs.specs.Laws.Figures.{Stored, stored-none, stored-more, stored-all, is-from}
 use Rattle.journeys.proofs.offered.row_cost.Statement.{statement}
 use Rattle.journeys.proofs.offered.row_cost.Tie as tie
-use Rattle.journeys.proofs.offered.row_cost.Reads as reads
-use Rattle.journeys.proofs.offered.row_cost.Lts as lts
 
 abbrev Inv-loop : tie.InvT-loop
 Inv-loop table k r₀ i₀ r i = (i ≤ 3) × Stored 3 (λ j. number table (k * 5 + 2 + j)) i r
