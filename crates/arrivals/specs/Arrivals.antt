@@ -1,4 +1,4 @@
--- Arrivals and leading arrivals (document 01, "Safe intervals and leading arrivals"; 001: labels, definition 2), and the arrivals table.
+-- Arrivals and leading arrivals (document 01, "Safe intervals and leading arrivals"; 001: labels, definition 2).
 use mathlib.Core.Path.{_≡_}
 use mathlib.Core.Logic.{_≢_}
 use mathlib.Core.List.{List, _∷_}

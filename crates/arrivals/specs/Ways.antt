@@ -1,5 +1,4 @@
--- Lawful ways from the start (document 01, "Lawful journeys"; 001: a path on the time-expanded graph): a place for each step, read forwards;
--- and their enumeration.
+-- Lawful ways from the start (document 01, "Lawful journeys"; 001: a path on the time-expanded graph): a place for each step, read forwards.
 use mathlib.Core.Path.{_≡_}
 use mathlib.Core.List.{List}
 use Prim.Native.Nat.{ℕ, zero, suc, _≤_, _<_}

@@ -1,4 +1,4 @@
--- The orders on costs and the crossings of a sheet, computed. Not to be believed: Laws.Figures and Laws.Moves say that they are `AtMost`, `Dominates`,
+-- The orders on costs and the crossings of a sheet, computed. Need not be believed: Laws.Figures and Laws.Moves say that they are `AtMost`, `Dominates`,
 -- equality and `Crossing`.
 use mathlib.Core.Bool.{Bool, true, false, not, _&&_}
 use mathlib.Core.List.{List, [], _∷_}
@@ -12,7 +12,7 @@ use Rattle.sheet.specs.declared.Place.{Place}
 use Rattle.sheet.specs.declared.Step.{Step}
 use Rattle.costs.specs.Moves.{waitOf, costOf}
 
--- the same, computed; and equality
+-- the order figure by figure, dominance and equality
 abbrev pub atMostb : Cost → Cost → Bool
 atMostb [] b = true
 atMostb (x ∷ a) [] = leb x 0 && atMostb a []

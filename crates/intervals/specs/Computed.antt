@@ -1,4 +1,4 @@
--- Runs and safe intervals, computed, and what the promises of the code cite. Not to be believed: Laws.Runs says that they are `Run` and `Interval`
+-- Runs and safe intervals, computed, and what the promises of the code cite. Need not be believed: Laws.Runs says that they are `Run` and `Interval`
 -- (`runb-true`, `intervals-are`, `are-intervals`, `since-is`, `is-since`).
 use mathlib.Core.Bool.{Bool, _&&_}
 use mathlib.Core.List.{List, [], _∷_, _++_, map}

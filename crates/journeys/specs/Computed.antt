@@ -1,4 +1,4 @@
--- The lawful journeys and the front of a sheet, enumerated. Not to be believed: Laws.Journeys and Laws.Front say that the lists hold exactly the journeys
+-- The lawful journeys and the front of a sheet, enumerated. Need not be believed: Laws.Journeys and Laws.Front say that the lists hold exactly the journeys
 -- and the front costs, in order, and that `journeyOf` is the journey that the tie rule selects.
 use mathlib.Core.Bool.{Bool, _&&_, not}
 use mathlib.Core.List.{List, [], _∷_, _++_, map, reverse}

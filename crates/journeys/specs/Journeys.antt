@@ -1,4 +1,4 @@
--- Lawful journeys, their enumeration, the tie rule and allowances (document 01, "Lawful journeys" and "What is handed back").
+-- Lawful journeys, the tie rule and allowances (document 01, "Lawful journeys" and "What is handed back").
 -- A journey is what 001 calls a path from the start to the goal.
 use mathlib.Core.Path.{_≡_}
 use mathlib.Core.Logic.{_⊎_}

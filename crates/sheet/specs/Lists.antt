@@ -1,5 +1,5 @@
--- Words about lists that the definitions share: choice, members, tests, flat tables, the ascending order of document 01
--- ("by first figure, then second, then third"), and the ascending list of members, each once.
+-- Words about lists that the definitions share: choice, members, tests, flat tables, and the ascending order of document 01 ("by first figure,
+-- then second, then third").
 use mathlib.Core.Path.{_≡_}
 use mathlib.Core.Logic.{_⊎_}
 use mathlib.Core.Bool.{Bool, true, false, _&&_, _||_}

@@ -1,4 +1,4 @@
--- The ascending list of the members of a list, each once. Not to be believed: Laws.Ascending has what it holds (`mem-sortUnique`, `sortUnique-mem`,
+-- The ascending list of the members of a list, each once. Need not be believed: Laws.Ascending has what it holds (`mem-sortUnique`, `sortUnique-mem`,
 -- `sortUnique-ascending`), and that two ascending lists with the same members are one.
 use mathlib.Core.Bool.{Bool, true, false}
 use mathlib.Core.List.{List, [], _∷_}
