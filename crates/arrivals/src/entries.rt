@@ -1,6 +1,7 @@
 // Every cost at which a place can be entered at a step is offered.
 use crate::cells::row_cost;
 use crate::notes::idle;
+use crate::notes::last_link;
 use crate::notes::latest;
 use crate::notes::next_link;
 use crate::notes::older;
@@ -162,7 +163,7 @@ pub fn from_links(
     ensures { λ r. ⌜ Swept (λ h. Any (Enters (now (firsts .entry)) (rowsOf (now (table .entry)) a) v t since wait h) (rowsOf (now (links .entry)) m)) (Led (rowsOf (now (table .entry)) a) v t since wait) v t a (now (table .entry)) (now (table .exit)) 0 (r .ok) (r .rows) ⌝ }
 {
     let mut e = 0;
-    let mut j = ch[v as usize];
+    let mut j = last_link(ch, 1, v);
     while 0 < j {
         j -= 1;
         let r = from_link(table, a, e, ix, links, j, firsts, v, t, since, wait);
@@ -171,7 +172,7 @@ pub fn from_links(
         if !ok {
             return Outcome { ok: false, rows: 0 };
         }
-        j = next_link(ch, links, m, j, v);
+        j = next_link(ch, links, m, 1, j, v);
     }
     Outcome { ok: true, rows: e }
 }

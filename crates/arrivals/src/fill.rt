@@ -5,14 +5,16 @@ use crate::cells::push_row;
 use crate::choose::fill_place;
 use crate::entries::from_links;
 use crate::notes::chain;
+use crate::notes::mark_next;
 use crate::notes::note;
+use crate::notes::rests;
 use crate::offers::Outcome;
 ghost use mathlib.Core.Path.{_≡_};
 ghost use mathlib.Core.Bool.{true};
 ghost use Prim.Native.Nat.{_+_, _*_, _<_, _≤_};
 ghost use lib.ListN.{length};
 ghost use Rattle.arrivals.specs.Inner.Rows.{rowsOf};
-ghost use Rattle.arrivals.specs.Inner.Index.{IndexedShort, Indexed, Chained, Grown};
+ghost use Rattle.arrivals.specs.Inner.Index.{IndexedShort, Indexed, Due, Chained, Grown};
 ghost use Rattle.arrivals.specs.Inner.Table.{caseOf, Vacant, Filled, Result, Given, Search};
 
 // Fills in place v at step t: every offer is judged once; where the room runs out on the way, as fill_place does.
@@ -30,10 +32,13 @@ pub fn fill_fast(
     places: u32,
     start: u32,
 ) -> Outcome
-    requires { ⌜ (rows * 5 ≤ length (now table)) × (Given (caseOf (now firsts) (now links) m wait places start) (now links) m (now firsts)) × (1 ≤ t) × (t ≤ 255) × (v < places) × (Filled (caseOf (now firsts) (now links) m wait places start) (rowsOf (now table) rows) t v) × (Vacant (caseOf (now firsts) (now links) m wait places start) v t) × (Indexed (now table) rows (now ix) t) × (Chained (now links) 1 m (now ch)) ⌝ }
+    requires { ⌜ (rows * 5 ≤ length (now table)) × (Given (caseOf (now firsts) (now links) m wait places start) (now links) m (now firsts)) × (1 ≤ t) × (t ≤ 255) × (v < places) × (Filled (caseOf (now firsts) (now links) m wait places start) (rowsOf (now table) rows) t v) × (Vacant (caseOf (now firsts) (now links) m wait places start) v t) × (Indexed (now table) rows (now ix) t) × (Chained (now links) 1 m (now ch)) × (Due (now links) m (now ix)) ⌝ }
     ensures { λ r. ⌜ Result (caseOf (now (firsts .entry)) (now (links .entry)) m wait places start) (now (table .exit)) t (v + 1) (r .ok) (r .rows) × Grown (now (table .entry)) (now (table .exit)) rows (r .rows) v t ⌝ }
 {
     let since = firsts[v as usize * 256 + t as usize] as u32;
+    if rests(ix, v as usize, t as usize, since as usize) {
+        return Outcome { ok: true, rows };
+    }
     let r = from_links(table, rows, ix, links, m, ch, firsts, v, t, since, wait);
     let ok = r.ok;
     let d = r.rows;
@@ -59,35 +64,36 @@ pub fn visit(
     places: u32,
     start: u32,
 ) -> Outcome
-    requires { ⌜ (rows * 5 ≤ length (now table)) × (Given (caseOf (now firsts) (now links) m wait places start) (now links) m (now firsts)) × (1 ≤ t) × (t ≤ 255) × (v < places) × (Filled (caseOf (now firsts) (now links) m wait places start) (rowsOf (now table) rows) t v) × (IndexedShort (now table) rows (now ix) t) × (Chained (now links) 1 m (now ch)) ⌝ }
-    ensures { λ r. ⌜ Result (caseOf (now (firsts .entry)) (now (links .entry)) m wait places start) (now (table .exit)) t (v + 1) (r .ok) (r .rows) × (r .ok ≡ true → IndexedShort (now (table .exit)) (r .rows) (now (ix .exit)) t) ⌝ }
+    requires { ⌜ (rows * 5 ≤ length (now table)) × (Given (caseOf (now firsts) (now links) m wait places start) (now links) m (now firsts)) × (1 ≤ t) × (t ≤ 255) × (v < places) × (Filled (caseOf (now firsts) (now links) m wait places start) (rowsOf (now table) rows) t v) × (IndexedShort (now table) rows (now ix) t (now links) m) × (Chained (now links) 1 m (now ch)) × (Chained (now links) 0 m (now ch)) ⌝ }
+    ensures { λ r. ⌜ Result (caseOf (now (firsts .entry)) (now (links .entry)) m wait places start) (now (table .exit)) t (v + 1) (r .ok) (r .rows) × (r .ok ≡ true → IndexedShort (now (table .exit)) (r .rows) (now (ix .exit)) t (now (links .entry)) m) ⌝ }
 {
-    if firsts[v as usize * 256 + t as usize] as u32 <= t {
-        if 21474836475 < table.len() {
-            return fill_place(table, rows, links, m, firsts, t, wait, v, places, start);
-        }
-        let r = fill_fast(
-            table,
-            rows,
-            ix,
-            links,
-            m,
-            ch,
-            firsts,
-            t,
-            wait,
-            v,
-            places,
-            start,
-        );
-        let ok = r.ok;
-        let n = r.rows;
-        if rows < n {
-            note(ix, rows, n, t as usize, v as usize);
-        }
-        return Outcome { ok, rows: n };
+    if t < firsts[v as usize * 256 + t as usize] as u32 {
+        return Outcome { ok: true, rows };
     }
-    Outcome { ok: true, rows }
+    if 21474836475 < table.len() {
+        return fill_place(table, rows, links, m, firsts, t, wait, v, places, start);
+    }
+    let r = fill_fast(
+        table,
+        rows,
+        ix,
+        links,
+        m,
+        ch,
+        firsts,
+        t,
+        wait,
+        v,
+        places,
+        start,
+    );
+    let ok = r.ok;
+    let n = r.rows;
+    if rows < n {
+        note(ix, rows, n, t as usize, v as usize);
+        mark_next(ix, links, m, ch, v, t + 1);
+    }
+    Outcome { ok, rows: n }
 }
 
 // Fills in step t.
@@ -104,8 +110,8 @@ pub fn fill_step(
     places: u32,
     start: u32,
 ) -> Outcome
-    requires { ⌜ (rows * 5 ≤ length (now table)) × (Given (caseOf (now firsts) (now links) m wait places start) (now links) m (now firsts)) × (1 ≤ t) × (t ≤ 255) × (Filled (caseOf (now firsts) (now links) m wait places start) (rowsOf (now table) rows) t 0) × (IndexedShort (now table) rows (now ix) t) × (Chained (now links) 1 m (now ch)) ⌝ }
-    ensures { λ r. ⌜ Result (caseOf (now (firsts .entry)) (now (links .entry)) m wait places start) (now (table .exit)) (t + 1) 0 (r .ok) (r .rows) × (r .ok ≡ true → IndexedShort (now (table .exit)) (r .rows) (now (ix .exit)) t) ⌝ }
+    requires { ⌜ (rows * 5 ≤ length (now table)) × (Given (caseOf (now firsts) (now links) m wait places start) (now links) m (now firsts)) × (1 ≤ t) × (t ≤ 255) × (Filled (caseOf (now firsts) (now links) m wait places start) (rowsOf (now table) rows) t 0) × (IndexedShort (now table) rows (now ix) t (now links) m) × (Chained (now links) 1 m (now ch)) × (Chained (now links) 0 m (now ch)) ⌝ }
+    ensures { λ r. ⌜ Result (caseOf (now (firsts .entry)) (now (links .entry)) m wait places start) (now (table .exit)) (t + 1) 0 (r .ok) (r .rows) × (r .ok ≡ true → IndexedShort (now (table .exit)) (r .rows) (now (ix .exit)) t (now (links .entry)) m) ⌝ }
 {
     let mut n = rows;
     for v in 0..places {
@@ -146,7 +152,7 @@ pub fn fill_steps(
     places: u32,
     start: u32,
 ) -> Outcome
-    requires { ⌜ (rows * 5 ≤ length (now table)) × (Given (caseOf (now firsts) (now links) m wait places start) (now links) m (now firsts)) × (last ≤ 255) × (Filled (caseOf (now firsts) (now links) m wait places start) (rowsOf (now table) rows) 1 0) × (IndexedShort (now table) rows (now ix) 0) × (Chained (now links) 1 m (now ch)) ⌝ }
+    requires { ⌜ (rows * 5 ≤ length (now table)) × (Given (caseOf (now firsts) (now links) m wait places start) (now links) m (now firsts)) × (last ≤ 255) × (Filled (caseOf (now firsts) (now links) m wait places start) (rowsOf (now table) rows) 1 0) × (IndexedShort (now table) rows (now ix) 0 (now links) m) × (Chained (now links) 1 m (now ch)) × (Chained (now links) 0 m (now ch)) ⌝ }
     ensures { λ r. ⌜ Result (caseOf (now (firsts .entry)) (now (links .entry)) m wait places start) (now (table .exit)) (last + 1) 0 (r .ok) (r .rows) ⌝ }
 {
     let mut n = rows;
@@ -169,13 +175,14 @@ pub fn first_row(
     ix: &mut [u32],
     links: &[u32],
     m: usize,
+    ch: &[usize],
     firsts: &[u16],
     wait: [u32; 3],
     places: u32,
     start: u32,
 ) -> Outcome
-    requires { ⌜ (Given (caseOf (now firsts) (now links) m wait places start) (now links) m (now firsts)) × (start < places) × (Indexed (now table) 0 (now ix) 0) ⌝ }
-    ensures { λ r. ⌜ Result (caseOf (now (firsts .entry)) (now (links .entry)) m wait places start) (now (table .exit)) 1 0 (r .ok) (r .rows) × (r .ok ≡ true → Indexed (now (table .exit)) (r .rows) (now (ix .exit)) 0) ⌝ }
+    requires { ⌜ (Given (caseOf (now firsts) (now links) m wait places start) (now links) m (now firsts)) × (start < places) × (Indexed (now table) 0 (now ix) 0) × (Chained (now links) 0 m (now ch)) × (Due (now links) m (now ix)) ⌝ }
+    ensures { λ r. ⌜ Result (caseOf (now (firsts .entry)) (now (links .entry)) m wait places start) (now (table .exit)) 1 0 (r .ok) (r .rows) × (r .ok ≡ true → (Indexed (now (table .exit)) (r .rows) (now (ix .exit)) 0) × (Due (now (links .entry)) m (now (ix .exit)))) ⌝ }
 {
     if 0 < firsts[start as usize * 256 + 0] as u32 {
         return Outcome { ok: true, rows: 0 };
@@ -185,6 +192,7 @@ pub fn first_row(
     }
     push_row(table, 0, start, 0, [0; 3]);
     note(ix, 0, 1, 0, start as usize);
+    mark_next(ix, links, m, ch, start, 1);
     Outcome { ok: true, rows: 1 }
 }
 
@@ -201,10 +209,11 @@ pub fn search_all(
     requires { ⌜ (Given (caseOf (now firsts) (now links) m wait places start) (now links) m (now firsts)) × (last ≤ 255) × (start < places) ⌝ }
     ensures { λ r. ⌜ Result (caseOf (now (firsts .entry)) (now (links .entry)) m wait places start) (now (table .exit)) (last + 1) 0 (r .ok) (r .rows) ⌝ }
 {
-    let mut ch = [0; 320];
+    let mut ch = [0; 640];
+    chain(links, m, 0, &mut ch);
     chain(links, m, 1, &mut ch);
-    let mut ix = [0; 49216];
-    let r = first_row(table, &mut ix, links, m, firsts, wait, places, start);
+    let mut ix = [0; 49280];
+    let r = first_row(table, &mut ix, links, m, &ch, firsts, wait, places, start);
     let ok = r.ok;
     let rows = r.rows;
     if ok {

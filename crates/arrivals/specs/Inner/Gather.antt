@@ -5,17 +5,17 @@ use mathlib.Core.Bool.{true}
 use mathlib.Core.Logic.{_⊎_, inl, inr, ⊎-elim}
 use Prim.Native.Nat.{ℕ, zero, suc, _+_, _*_, _-_, _≤_, _<_}
 use native.Mathlib.Omega.{arith}
-use lib.ListN.{getD}
+use lib.ListN.{getD, length}
 use Rattle.sheet.specs.Lists.{Lex}
 use Rattle.sheet.specs.Laws.Order.{Lex-trans}
 use Rattle.costs.specs.Costs.{add, times, AtMost}
 use Rattle.costs.specs.Laws.Figures.{fig-add, at-most-refl, at-most-trans, Lex-compared}
 use Rattle.arrivals.specs.Inner.Facts.{lt-or-le}
 use Rattle.arrivals.specs.Inner.Rows.{Row, rowAt, rowsOf, row-path, Any, All, here, there, none, more, any-cons, any-nil, all-head, all-tail, all-at, rows-kept, Bounded, RowLeads}
-use Rattle.arrivals.specs.Inner.Search.{Enters, Led}
-use Rattle.arrivals.specs.Inner.Table.{Case, Legal, since, Vacant, Cand, Lead, Open, Less, Sound, entered, Falling, more-falling, Filled, startRow, self-leads, all-map, all-both, any-map, any-all, cand-down, cand-bounded, row-after, filling-of, filled-as, Result, result-done}
-use Rattle.arrivals.specs.Inner.Index.{Indexed, indexed-more, indexed-kept, Grown, grown-none, grown-more, NotedAs}
-use Rattle.arrivals.specs.Inner.Group.{Put, tailOf, tail-zero, rows-tail, Swept, Beaten, Thin, thin-none, thin-drop, thin-keep, Stops, stops-none, stops-at, Insert, insert-here, insert-past, Offered, offered-not, offered-in, Offers, offers-none, offers-more}
+use Rattle.arrivals.specs.Inner.Search.{sinceIn, Enters, Led}
+use Rattle.arrivals.specs.Inner.Table.{Case, caseOf, Given, Legal, since, Vacant, Cand, Lead, Open, Less, Sound, entered, Falling, more-falling, Filled, startRow, self-leads, all-map, all-both, any-map, any-all, cand-down, cand-bounded, row-after, filling-of, filled-as, Result, result-done}
+use Rattle.arrivals.specs.Inner.Index.{Indexed, Due, dueOf, due-rests, indexed-more, indexed-kept, Grown, grown-none, grown-more, NotedAs}
+use Rattle.arrivals.specs.Inner.Group.{Put, tailOf, tail-zero, rows-tail, Swept, swept-none, Beaten, Thin, thin-none, thin-drop, thin-keep, Stops, stops-none, stops-at, Insert, insert-here, insert-past, Offered, offered-not, offered-in, Offers, offers-none, offers-more}
 
 abbrev pub Apart : List ℕ → Row → Type 0
 Apart g q = Lex (q .cost) g × (AtMost (q .cost) g → ⊥)
@@ -192,6 +192,18 @@ swept-filled k xs ys rows d t v legal one inside free f s =
       result-done k ys t (v + 1) (rows + d) (s .room) (filled-as e (filled-group k rs t v legal one inside free f (g .0) (g .1) (λ h c. s .all refl h (c .over)))),
       record { more = omega arith; below = s .below; own = λ i l m. let q : rows + (i - rows) ≡ i = omega arith in let w = tail-all ys rows d (i - rows) (omega arith) (g .0) in subst (λ (j : ℕ). (rowAt ys j .place ≡ v) × (rowAt ys j .step ≡ t)) q (w .place, w .step) },
     )
+
+-- a place that rests adds nothing
+module _ (free links : List ℕ) (m : ℕ) (wait : List ℕ) (places start : ℕ) where
+  abbrev Rested : Case
+  Rested = caseOf free links m wait places start
+
+  pub rests-filled : (xs ix : List ℕ) (rows t v : ℕ) → Given (caseOf free links m wait places start) links m free → 1 ≤ t → v < places → Vacant (caseOf free links m wait places start) v t → Filled (caseOf free links m wait places start) (rowsOf xs rows) t v → rows * 5 ≤ length xs
+      → Indexed xs rows ix t → Due links m ix → (sinceIn free v t ≡ t → ⊥) → dueOf ix v < t → Result (caseOf free links m wait places start) xs t (v + 1) true rows × Grown xs xs rows rows v t
+  rests-filled xs ix rows t v given one inside vacant f room w d n l =
+      let e : rows + 0 ≡ rows = omega arith in
+      subst (λ (i : ℕ). Result Rested xs t (v + 1) true i × Grown xs xs rows i v t) e
+      (swept-filled Rested xs xs rows 0 t v (given .legal) one inside vacant f (swept-none (omega arith) (λ h z. absurd (due-rests xs rows ix t free links m v (sinceIn free v t) wait h w d (given .legal .links) (omega (arith, given .places)) n l z))))
 
 pub grown-base : (xs ys zs : List ℕ) (n m v t : ℕ) → ((j : ℕ) → j < n * 5 → getD ys j 0 ≡ getD xs j 0) → Grown ys zs n m v t → Grown xs zs n m v t
 grown-base xs ys zs n m v t same g = record { more = g .more; below = λ j l. g .below j l ∙ same j l; own = g .own }

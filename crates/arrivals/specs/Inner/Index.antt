@@ -12,9 +12,9 @@ use lib.Seq.{getD-set-same, getD-set-other}
 use Rattle.costs.specs.Costs.{fig, add, times, AtMost}
 use Rattle.costs.specs.Laws.Figures.{fig-add}
 use Rattle.arrivals.specs.Inner.Facts.{lt-or-le, Decided, decided-as}
-use Rattle.arrivals.specs.Inner.Rows.{Row, rowAt, rowsOf, rows-kept, Any, All, any-cons, any-nil, any-at, none-below, Bounded, RowLeads}
+use Rattle.arrivals.specs.Inner.Rows.{Row, rowAt, rowsOf, rows-kept, Any, All, all-at, any-cons, any-nil, any-at, none-below, Bounded, RowLeads}
 use Rattle.arrivals.specs.Inner.Table.{any-map, any-out, zeros-at}
-use Rattle.arrivals.specs.Inner.Search.{sinceIn, reach, Near, Enters, Led, Ready}
+use Rattle.arrivals.specs.Inner.Search.{sinceIn, reach, Near, Enters, Led, Ready, Link}
 use Rattle.arrivals.specs.Inner.Group.{Put, tailOf, tail-any, row-kept, Beaten, Offered, offers-none, offers-more, offered-new, Swept, swept-then, swept-as}
 
 abbrev pub lowOf : List ℕ → ℕ → ℕ → ℕ
@@ -43,9 +43,22 @@ pub record Indexed (xs : List ℕ) (n : ℕ) (ix : List ℕ) (t : ℕ) : Type 0 
   pub back : (i j : ℕ) → i < n → j < n → rowAt xs i .place ≡ rowAt xs j .place → rowAt xs i .step < rowAt xs j .step → rowAt xs i .step < backOf ix (rowAt xs j .step) (rowAt xs j .place)
   pub down : (s v : ℕ) → s ≤ 255 → v < 64 → backOf ix s v ≤ s
 
+-- place q of corridor j: 0 is where it comes from, 1 where it leads to
+abbrev pub linkOf : List ℕ → ℕ → ℕ → ℕ
+linkOf links q j = getD links (j * 5 + q) 0
+
+-- at 49216 + v, one more than the last step at which a place from which a corridor leads to v has rows, or more: where that is below t, v is not
+-- entered at step t from a row of step t - 1
+abbrev pub dueOf : List ℕ → ℕ → ℕ
+dueOf ix v = getD ix (49216 + v) 0
+
+pub record Due (links : List ℕ) (m : ℕ) (ix : List ℕ) : Type 0 where
+  pub size : 49280 ≤ length ix
+  pub due : (j : ℕ) → j < m → linkOf links 0 j < 64 → linkOf links 1 j < 64 → newestOf ix (linkOf links 0 j) ≤ dueOf ix (linkOf links 1 j)
+
 -- the index is kept for tables whose rows can be numbered with 32 bits
-abbrev pub IndexedShort : List ℕ → ℕ → List ℕ → ℕ → Type 0
-IndexedShort xs n ix t = length xs ≤ 21474836475 → Indexed xs n ix t
+abbrev pub IndexedShort : List ℕ → ℕ → List ℕ → ℕ → List ℕ → ℕ → Type 0
+IndexedShort xs n ix t links m = length xs ≤ 21474836475 → (Indexed xs n ix t) × (Due links m ix)
 
 -- the step past the rows of v before step s, as far as the index shows
 abbrev pub Older : List ℕ → ℕ → ℕ → ℕ → Type 0
@@ -141,17 +154,36 @@ pub swept-one : {H : List ℕ → Type 0} {v t a : ℕ} {g xs ys : List ℕ} {d 
 swept-one {H} {v} {t} {a} {g} {xs} {ys} {d} {e} b l o =
     record { below = b; room = l; done = λ _. offers-more offers-none refl o; all = λ _ h q. subst (λ (x : List ℕ). Beaten (tailOf ys a e) x ⊎ H x) (sym q) (offered-new o) }
 
--- corridors by one of their places: at v one more than the last corridor of v, at 64 + j one more than the last before j of the same place
-abbrev pub linkOf : List ℕ → ℕ → ℕ → ℕ
-linkOf links q j = getD links (j * 5 + q) 0
+-- corridors by one of their places, q of the line, from q * 320 on: at v one more than the last corridor of v, at 64 + j one more than the last
+-- before j of the same place
+abbrev pub lastOf : List ℕ → ℕ → ℕ → ℕ
+lastOf ch q v = getD ch (q * 320 + v) 0
+
+abbrev pub nextOf : List ℕ → ℕ → ℕ → ℕ
+nextOf ch q j = getD ch (q * 320 + 64 + j) 0
 
 pub record Chained (links : List ℕ) (q m : ℕ) (ch : List ℕ) : Type 0 where
-  pub size : 320 ≤ length ch
+  pub size : q * 320 + 320 ≤ length ch
   pub few : m ≤ 256
-  pub head : (v j : ℕ) → v < 64 → getD ch v 0 ≤ j → j < m → linkOf links q j ≡ v → ⊥
-  pub heads : (v : ℕ) → v < 64 → getD ch v 0 ≤ m
-  pub next : (i j : ℕ) → j < m → linkOf links q j < 64 → getD ch (64 + j) 0 ≤ i → i < j → linkOf links q i ≡ linkOf links q j → ⊥
-  pub nexts : (j : ℕ) → j < m → getD ch (64 + j) 0 ≤ j
+  pub head : (v j : ℕ) → v < 64 → lastOf ch q v ≤ j → j < m → linkOf links q j ≡ v → ⊥
+  pub heads : (v : ℕ) → v < 64 → lastOf ch q v ≤ m
+  pub next : (i j : ℕ) → j < m → linkOf links q j < 64 → nextOf ch q j ≤ i → i < j → linkOf links q i ≡ linkOf links q j → ⊥
+  pub nexts : (j : ℕ) → j < m → nextOf ch q j ≤ j
+
+-- what lies past the chain of q is kept
+abbrev pub Aside : ℕ → List ℕ → List ℕ → Type 0
+Aside q ch dh = (i : ℕ) → (i < q * 320) ⊎ (q * 320 + 320 ≤ i) → getD dh i 0 ≡ getD ch i 0
+
+pub chained-aside : (links : List ℕ) (q p m : ℕ) (ch dh : List ℕ) → p < q → length dh ≡ length ch → Aside q ch dh → Chained links p m ch → Chained links p m dh
+chained-aside links q p m ch dh l e same w =
+    record {
+      size = omega (arith, w .size);
+      few = w .few;
+      head = λ v j b x y z. w .head v j b (omega (arith, same (p * 320 + v) (inl (omega arith)))) y z;
+      heads = λ v b. omega (arith, same (p * 320 + v) (inl (omega arith)), w .heads v b);
+      next = λ i j b o x y z. w .next i j b o (omega (arith, same (p * 320 + 64 + j) (inl (omega (arith, w .few))))) y z;
+      nexts = λ j b. omega (arith, same (p * 320 + 64 + j) (inl (omega (arith, w .few))), w .nexts j b);
+    }
 
 -- a corridor from j on
 pub record Over (P : Row → Type 0) (links : List ℕ) (j m : ℕ) : Type 0 where
@@ -160,9 +192,9 @@ pub record Over (P : Row → Type 0) (links : List ℕ) (j m : ℕ) : Type 0 whe
   pub upto : at < m
   pub fits : P (rowAt links at)
 
-pub record NextLink (links : List ℕ) (v j r : ℕ) : Type 0 where
+pub record NextLink (links : List ℕ) (q v j r : ℕ) : Type 0 where
   pub most : r ≤ j
-  pub none : (i : ℕ) → r ≤ i → i < j → linkOf links 1 i ≡ v → ⊥
+  pub none : (i : ℕ) → r ≤ i → i < j → linkOf links q i ≡ v → ⊥
 
 -- rows that lead, group by group
 pub rest-led : (g lag rest : List ℕ) {qs : List Row} {b : Bool} → ((i : ℕ) → fig rest i + fig lag i ≡ fig g i) → Decided (Beaten qs rest) b → Decided (Any (λ q. AtMost (add (q .cost) lag) g) qs) b
@@ -275,7 +307,7 @@ module _ (v t since a : ℕ) (wait : List ℕ) where
   pub over-none : (xs free links : List ℕ) (j m : ℕ) (h : List ℕ) → ((i : ℕ) → j ≤ i → i < m → linkOf links 1 i ≡ v → ⊥) → Over (Entry free xs h) links j m → Rowled xs h
   over-none xs free links j m h n o = absurd (n (o .at) (o .from) (o .upto) (o .fits .into))
 
-  pub over-more : (xs ys zs free links : List ℕ) (j r m : ℕ) (d e : ℕ) (ok : Bool) (f : ℕ) → j < m → NextLink links v j r
+  pub over-more : (xs ys zs free links : List ℕ) (j r m : ℕ) (d e : ℕ) (ok : Bool) (f : ℕ) → j < m → NextLink links 1 v j r
       → Swept (λ h. Over (Entry free xs h) links (j + 1) m) (Rowled xs) v t a xs ys d true e → Swept (λ h. Entry free ys h (rowAt links j)) (Rowled ys) v t a ys zs e ok f → Swept (λ h. Over (Entry free xs h) links r m) (Rowled xs) v t a xs zs d ok f
   over-more xs ys zs free links j r m d e ok f l n x y =
       swept-then
@@ -299,7 +331,7 @@ module _ (v t since a : ℕ) (wait : List ℕ) where
       let q : p ≡ p - 1 + 1 = omega arith in
       via-more xs ys zs u floor (p - 1) r c d e ok f w inside (omega arith) (omega arith) o (subst (λ (n : ℕ). Swept (Via xs a u floor n t wait c) (Rowled xs) v t a xs ys d true e) q x) y
 
-  pub over-step : (xs ys zs free links : List ℕ) (j r m : ℕ) (d e : ℕ) (ok : Bool) (f : ℕ) → 0 < j → j ≤ m → NextLink links v (j - 1) r
+  pub over-step : (xs ys zs free links : List ℕ) (j r m : ℕ) (d e : ℕ) (ok : Bool) (f : ℕ) → 0 < j → j ≤ m → NextLink links 1 v (j - 1) r
       → Swept (λ h. Over (Entry free xs h) links j m) (Rowled xs) v t a xs ys d true e → Swept (λ h. Entry free ys h (rowAt links (j - 1))) (Rowled ys) v t a ys zs e ok f → Swept (λ h. Over (Entry free xs h) links r m) (Rowled xs) v t a xs zs d ok f
   over-step xs ys zs free links j r m d e ok f o l n x y =
       let q : j ≡ j - 1 + 1 = omega arith in
@@ -334,6 +366,7 @@ pub record Noted (ix iy : List ℕ) (lo hi s v b : ℕ) : Type 0 where
   pub highs : (r u : ℕ) → r ≤ 255 → u < 64 → (r ≡ s → u ≡ v → ⊥) → highOf iy r u ≡ highOf ix r u
   pub backs : (r u : ℕ) → r ≤ 255 → u < 64 → (r ≡ s → u ≡ v → ⊥) → backOf iy r u ≡ backOf ix r u
   pub newests : (u : ℕ) → u < 64 → (u ≡ v → ⊥) → newestOf iy u ≡ newestOf ix u
+  pub dues : (u : ℕ) → dueOf iy u ≡ dueOf ix u
 
 pub record NotedAs (ix iy : List ℕ) (lo hi s v : ℕ) : Type 0 where
   pub last : ℕ
@@ -352,6 +385,7 @@ noted ix lo hi s v b l m size =
       lows = λ r u a c n. skip4 (r * 64 + u) (λ e. omega arith) ∙ skip3 (r * 64 + u) (λ e. n (omega arith) (omega arith)) ∙ skip2 (r * 64 + u) (λ e. omega arith) ∙ skip1 (r * 64 + u) (λ e. omega arith);
       highs = λ r u a c n. skip4 (16384 + r * 64 + u) (λ e. n (omega arith) (omega arith)) ∙ skip3 (16384 + r * 64 + u) (λ e. omega arith) ∙ skip2 (16384 + r * 64 + u) (λ e. omega arith) ∙ skip1 (16384 + r * 64 + u) (λ e. omega arith);
       backs = λ r u a c n. skip4 (32768 + r * 64 + u) (λ e. omega arith) ∙ skip3 (32768 + r * 64 + u) (λ e. omega arith) ∙ skip2 (32768 + r * 64 + u) (λ e. omega arith) ∙ skip1 (32768 + r * 64 + u) (λ e. n (omega arith) (omega arith));
+      dues = λ u. skip4 (49216 + u) (λ e. omega arith) ∙ skip3 (49216 + u) (λ e. omega arith) ∙ skip2 (49216 + u) (λ e. omega arith) ∙ skip1 (49216 + u) (λ e. omega arith);
       newests = λ u c n. skip4 (49152 + u) (λ e. omega arith) ∙ skip3 (49152 + u) (λ e. omega arith) ∙ skip2 (49152 + u) (λ e. n (omega arith)) ∙ skip1 (49152 + u) (λ e. omega arith);
     }
   where
@@ -480,46 +514,50 @@ indexed-step u l m w =
     record { size = w .size; now = m; places = w .places; steps = λ i b. omega (arith, w .steps i b); low = w .low; high = w .high; order = w .order; only = w .only; newest = w .newest; latest = λ v b. omega (arith, w .latest v b); back = w .back; down = w .down }
 
 -- one corridor more in a chain
-pub chained-more : (links : List ℕ) (q m : ℕ) (ch : List ℕ) → m < 256 → Chained links q m ch → (linkOf links q m < 64 → ⊥) ⊎ (linkOf links q m < 64) → (dh : List ℕ)
-    → ((linkOf links q m < 64) × (dh ≡ set (set ch (64 + m) (getD ch (linkOf links q m) 0)) (linkOf links q m) (m + 1))) ⊎ ((linkOf links q m < 64 → ⊥) × (dh ≡ set ch (64 + m) 0)) → Chained links q (m + 1) dh
-chained-more links q m ch few w _ dh (inl e) = subst (Chained links q (m + 1)) (sym (e .1)) (new (e .0))
+pub chained-more : (links : List ℕ) (q m : ℕ) (ch : List ℕ) → m < 256 → Chained links q m ch → (dh : List ℕ)
+    → ((linkOf links q m < 64) × (dh ≡ set (set ch (q * 320 + 64 + m) (lastOf ch q (linkOf links q m))) (q * 320 + linkOf links q m) (m + 1))) ⊎ ((linkOf links q m < 64 → ⊥) × (dh ≡ set ch (q * 320 + 64 + m) 0)) → (Chained links q (m + 1) dh) × (Aside q ch dh)
+chained-more links q m ch few w dh (inl e) = subst (λ (xs : List ℕ). (Chained links q (m + 1) xs) × (Aside q ch xs)) (sym (e .1)) (new (e .0), aside (e .0))
   where
     p : ℕ
-    p = linkOf links q m
+    p = q * 320 + linkOf links q m
 
     c1 : List ℕ
-    c1 = set ch (64 + m) (getD ch (linkOf links q m) 0)
+    c1 = set ch (q * 320 + 64 + m) (lastOf ch q (linkOf links q m))
 
-    same1 : (j : ℕ) → (j ≡ 64 + m → ⊥) → getD c1 j 0 ≡ getD ch j 0
-    same1 j n = getD-set-other ch (64 + m) j _ 0 n
+    same1 : (j : ℕ) → (j ≡ q * 320 + 64 + m → ⊥) → getD c1 j 0 ≡ getD ch j 0
+    same1 j n = getD-set-other ch (q * 320 + 64 + m) j _ 0 n
 
-    same2 : (j : ℕ) → (j ≡ linkOf links q m → ⊥) → getD (set c1 (linkOf links q m) (m + 1)) j 0 ≡ getD c1 j 0
-    same2 j n = getD-set-other c1 (linkOf links q m) j (m + 1) 0 n
+    same2 : (j : ℕ) → (j ≡ q * 320 + linkOf links q m → ⊥) → getD (set c1 (q * 320 + linkOf links q m) (m + 1)) j 0 ≡ getD c1 j 0
+    same2 j n = getD-set-other c1 (q * 320 + linkOf links q m) j (m + 1) 0 n
 
-    new : linkOf links q m < 64 → Chained links q (m + 1) (set c1 (linkOf links q m) (m + 1))
+    aside : linkOf links q m < 64 → Aside q ch (set c1 (q * 320 + linkOf links q m) (m + 1))
+    aside l i (inl b) = same2 i (λ e. omega arith) ∙ same1 i (λ e. omega arith)
+    aside l i (inr b) = same2 i (λ e. omega arith) ∙ same1 i (λ e. omega arith)
+
+    new : linkOf links q m < 64 → Chained links q (m + 1) (set c1 (q * 320 + linkOf links q m) (m + 1))
     new l =
         record {
           size = simp length-set (w .size);
           few = omega arith;
           head = λ v j b x y z. ⊎-elim
-              (λ u. let h : getD (set c1 (linkOf links q m) (m + 1)) (linkOf links q m) 0 ≡ m + 1 = getD-set-same c1 (linkOf links q m) (m + 1) 0 (simp length-set (omega (arith, w .size))) in omega (arith, h, subst (λ (k : ℕ). getD (set c1 (linkOf links q m) (m + 1)) k 0 ≤ j) u x))
-              (λ u. ⊎-elim (λ lt. w .head v j b (omega (arith, same2 v u, same1 v (λ e. omega arith))) lt z) (λ ge. u (sym z ∙ ap (linkOf links q) (let e : j ≡ m = omega arith in e))) (lt-or-le j m))
+              (λ u. let h : lastOf (set c1 (q * 320 + linkOf links q m) (m + 1)) q (linkOf links q m) ≡ m + 1 = getD-set-same c1 (q * 320 + linkOf links q m) (m + 1) 0 (simp length-set (omega (arith, w .size))) in omega (arith, h, subst (λ (k : ℕ). lastOf (set c1 (q * 320 + linkOf links q m) (m + 1)) q k ≤ j) u x))
+              (λ u. ⊎-elim (λ lt. w .head v j b (omega (arith, same2 (q * 320 + v) (λ e. u (omega arith)), same1 (q * 320 + v) (λ e. omega arith))) lt z) (λ ge. u (sym z ∙ ap (linkOf links q) (let e : j ≡ m = omega arith in e))) (lt-or-le j m))
               (pick v);
           heads = λ v b. ⊎-elim
-              (λ u. let h : getD (set c1 (linkOf links q m) (m + 1)) (linkOf links q m) 0 ≡ m + 1 = getD-set-same c1 (linkOf links q m) (m + 1) 0 (simp length-set (omega (arith, w .size))) in subst (λ (k : ℕ). getD (set c1 (linkOf links q m) (m + 1)) k 0 ≤ m + 1) (sym u) (omega arith))
-              (λ u. omega (arith, same2 v u, same1 v (λ e. omega arith), w .heads v b))
+              (λ u. let h : lastOf (set c1 (q * 320 + linkOf links q m) (m + 1)) q (linkOf links q m) ≡ m + 1 = getD-set-same c1 (q * 320 + linkOf links q m) (m + 1) 0 (simp length-set (omega (arith, w .size))) in subst (λ (k : ℕ). lastOf (set c1 (q * 320 + linkOf links q m) (m + 1)) q k ≤ m + 1) (sym u) (omega arith))
+              (λ u. omega (arith, same2 (q * 320 + v) (λ e. u (omega arith)), same1 (q * 320 + v) (λ e. omega arith), w .heads v b))
               (pick v);
           next = λ i j b o x y z. ⊎-elim
-              (λ lt. w .next i j lt o (omega (arith, same2 (64 + j) (λ e. omega arith), same1 (64 + j) (λ e. omega arith))) y z)
+              (λ lt. w .next i j lt o (omega (arith, same2 (q * 320 + 64 + j) (λ e. omega arith), same1 (q * 320 + 64 + j) (λ e. omega arith))) y z)
               (λ ge. let e : j ≡ m = omega arith in
-              let h : getD c1 (64 + m) 0 ≡ getD ch (linkOf links q m) 0 = getD-set-same ch (64 + m) _ 0 (omega (arith, w .size)) in
-              w .head (linkOf links q m) i l (omega (arith, h, same2 (64 + m) (λ e. omega arith), subst (λ (k : ℕ). getD (set c1 (linkOf links q m) (m + 1)) (64 + k) 0 ≤ i) e x)) (omega arith) (z ∙ ap (linkOf links q) e))
+              let h : nextOf c1 q m ≡ lastOf ch q (linkOf links q m) = getD-set-same ch (q * 320 + 64 + m) _ 0 (omega (arith, w .size)) in
+              w .head (linkOf links q m) i l (omega (arith, h, same2 (q * 320 + 64 + m) (λ e. omega arith), subst (λ (k : ℕ). nextOf (set c1 (q * 320 + linkOf links q m) (m + 1)) q k ≤ i) e x)) (omega arith) (z ∙ ap (linkOf links q) e))
               (lt-or-le j m);
           nexts = λ j b. ⊎-elim
-              (λ lt. omega (arith, same2 (64 + j) (λ e. omega arith), same1 (64 + j) (λ e. omega arith), w .nexts j lt))
+              (λ lt. omega (arith, same2 (q * 320 + 64 + j) (λ e. omega arith), same1 (q * 320 + 64 + j) (λ e. omega arith), w .nexts j lt))
               (λ ge. let e : m ≡ j = omega arith in
-              let h : getD c1 (64 + m) 0 ≡ getD ch (linkOf links q m) 0 = getD-set-same ch (64 + m) _ 0 (omega (arith, w .size)) in
-              subst (λ (k : ℕ). getD (set c1 (linkOf links q m) (m + 1)) (64 + k) 0 ≤ k) e (omega (arith, h, same2 (64 + m) (λ e. omega arith), w .heads (linkOf links q m) l)))
+              let h : nextOf c1 q m ≡ lastOf ch q (linkOf links q m) = getD-set-same ch (q * 320 + 64 + m) _ 0 (omega (arith, w .size)) in
+              subst (λ (k : ℕ). nextOf (set c1 (q * 320 + linkOf links q m) (m + 1)) q k ≤ k) e (omega (arith, h, same2 (q * 320 + 64 + m) (λ e. omega arith), w .heads (linkOf links q m) l)))
               (lt-or-le j m);
         }
       where
@@ -529,25 +567,29 @@ chained-more links q m ch few w _ dh (inl e) = subst (Chained links q (m + 1)) (
             go : Dec (v ≡ linkOf links q m) → (v ≡ linkOf links q m) ⊎ (v ≡ linkOf links q m → ⊥)
             go (yes a) = inl a
             go (no a) = inr a
-chained-more links q m ch few w _ dh (inr e) = subst (Chained links q (m + 1)) (sym (e .1)) new
+chained-more links q m ch few w dh (inr e) = subst (λ (xs : List ℕ). (Chained links q (m + 1) xs) × (Aside q ch xs)) (sym (e .1)) (new, aside)
   where
-    same1 : (j : ℕ) → (j ≡ 64 + m → ⊥) → getD (set ch (64 + m) 0) j 0 ≡ getD ch j 0
-    same1 j n = getD-set-other ch (64 + m) j 0 0 n
+    same1 : (j : ℕ) → (j ≡ q * 320 + 64 + m → ⊥) → getD (set ch (q * 320 + 64 + m) 0) j 0 ≡ getD ch j 0
+    same1 j n = getD-set-other ch (q * 320 + 64 + m) j 0 0 n
 
-    new : Chained links q (m + 1) (set ch (64 + m) 0)
+    aside : Aside q ch (set ch (q * 320 + 64 + m) 0)
+    aside i (inl b) = same1 i (λ e. omega arith)
+    aside i (inr b) = same1 i (λ e. omega arith)
+
+    new : Chained links q (m + 1) (set ch (q * 320 + 64 + m) 0)
     new =
         record {
           size = simp length-set (w .size);
           few = omega arith;
-          head = λ v j b x y z. ⊎-elim (λ lt. w .head v j b (omega (arith, same1 v (λ e. omega arith))) lt z) (λ ge. e .0 (omega (arith, z, ap (linkOf links q) (let f : j ≡ m = omega arith in f)))) (lt-or-le j m);
-          heads = λ v b. omega (arith, same1 v (λ e. omega arith), w .heads v b);
-          next = λ i j b o x y z. ⊎-elim (λ lt. w .next i j lt o (omega (arith, same1 (64 + j) (λ e. omega arith))) y z) (λ ge. e .0 (omega (arith, o, ap (linkOf links q) (let f : j ≡ m = omega arith in f)))) (lt-or-le j m);
-          nexts = λ j b. ⊎-elim (λ lt. omega (arith, same1 (64 + j) (λ e. omega arith), w .nexts j lt)) (λ ge. let f : m ≡ j = omega arith in let h : getD (set ch (64 + m) 0) (64 + m) 0 ≡ 0 = getD-set-same ch (64 + m) 0 0 (omega (arith, w .size)) in subst (λ (k : ℕ). getD (set ch (64 + m) 0) (64 + k) 0 ≤ k) f (omega (arith, h))) (lt-or-le j m);
+          head = λ v j b x y z. ⊎-elim (λ lt. w .head v j b (omega (arith, same1 (q * 320 + v) (λ e. omega arith))) lt z) (λ ge. e .0 (omega (arith, z, ap (linkOf links q) (let f : j ≡ m = omega arith in f)))) (lt-or-le j m);
+          heads = λ v b. omega (arith, same1 (q * 320 + v) (λ e. omega arith), w .heads v b);
+          next = λ i j b o x y z. ⊎-elim (λ lt. w .next i j lt o (omega (arith, same1 (q * 320 + 64 + j) (λ e. omega arith))) y z) (λ ge. e .0 (omega (arith, o, ap (linkOf links q) (let f : j ≡ m = omega arith in f)))) (lt-or-le j m);
+          nexts = λ j b. ⊎-elim (λ lt. omega (arith, same1 (q * 320 + 64 + j) (λ e. omega arith), w .nexts j lt)) (λ ge. let f : m ≡ j = omega arith in let h : nextOf (set ch (q * 320 + 64 + m) 0) q m ≡ 0 = getD-set-same ch (q * 320 + 64 + m) 0 0 (omega (arith, w .size)) in subst (λ (k : ℕ). nextOf (set ch (q * 320 + 64 + m) 0) q k ≤ k) f (omega (arith, h))) (lt-or-le j m);
         }
 
-pub chained-none : (links : List ℕ) (q : ℕ) (n : ℕ) → 320 ≤ n → Chained links q 0 (replicate n 0)
-chained-none links q n l =
-    record { size = omega (arith, length-replicate {A = ℕ} n 0); few = omega arith; head = λ v j b x y z. omega arith; heads = λ v b. omega (arith, zeros-at n v); next = λ i j b o x y z. omega arith; nexts = λ j b. absurd (omega arith) }
+pub chained-none : (links : List ℕ) (q : ℕ) (ch : List ℕ) → q * 320 + 320 ≤ length ch → ((i : ℕ) → q * 320 ≤ i → getD ch i 0 ≡ 0) → Chained links q 0 ch
+chained-none links q ch l zeros =
+    record { size = l; few = omega arith; head = λ v j b x y z. omega arith; heads = λ v b. omega (arith, zeros (q * 320 + v) (omega arith)); next = λ i j b o x y z. omega arith; nexts = λ j b. absurd (omega arith) }
 
 pub indexed-none : (xs : List ℕ) (n t : ℕ) → 49216 ≤ n → t ≤ 255 → Indexed xs 0 (replicate n 0) t
 indexed-none xs n t l m =
@@ -573,3 +615,97 @@ idle-none xs a ix t free v since wait h l w n m z =
     let j = q .fits in
     let r = row-newest w (q .at) (l .place) (omega (arith, q .upto)) (j .place) in
     ⊎-elim (λ e. omega arith) (λ e. n e) (j .near)
+
+-- step s is noted for place p
+pub record MarkedOne (ix iy : List ℕ) (p s : ℕ) : Type 0 where
+  pub size : length iy ≡ length ix
+  pub others : (i : ℕ) → (i ≡ 49216 + p → ⊥) → getD iy i 0 ≡ getD ix i 0
+  pub own : p < 64 → dueOf iy p ≡ s
+  pub past : 64 ≤ p → dueOf iy p ≡ dueOf ix p
+
+pub marked-one : (ix : List ℕ) (p s : ℕ) → 49280 ≤ length ix → p < 64 → MarkedOne ix (set ix (49216 + p) s) p s
+marked-one ix p s l b =
+    record { size = length-set ix (49216 + p) s; others = λ i n. getD-set-other ix (49216 + p) i s 0 n; own = λ _. getD-set-same ix (49216 + p) s 0 (omega arith); past = λ c. absurd (omega arith) }
+
+-- step s is noted where the corridors of u from corridor j on lead to; nothing else is changed but entries that become s
+pub record Marked (ix iy links : List ℕ) (j m u s : ℕ) : Type 0 where
+  pub size : length iy ≡ length ix
+  pub index : (i : ℕ) → i < 49216 → getD iy i 0 ≡ getD ix i 0
+  pub dues : (v : ℕ) → (dueOf iy v ≡ s) ⊎ (dueOf iy v ≡ dueOf ix v)
+  pub marked : (i : ℕ) → j ≤ i → i < m → linkOf links 0 i ≡ u → linkOf links 1 i < 64 → dueOf iy (linkOf links 1 i) ≡ s
+
+pub marked-none : (ix links : List ℕ) (j m u s : ℕ) → ((i : ℕ) → j ≤ i → i < m → linkOf links 0 i ≡ u → ⊥) → Marked ix ix links j m u s
+marked-none ix links j m u s n = record { size = refl; index = λ i l. refl; dues = λ v. inr refl; marked = λ i l b e c. absurd (n i l b e) }
+
+pub marked-more : (ix iy iz links : List ℕ) (j r m u s : ℕ) → 0 < j → NextLink links 0 u (j - 1) r → MarkedOne iy iz (linkOf links 1 (j - 1)) s → Marked ix iy links j m u s → Marked ix iz links r m u s
+marked-more ix iy iz links j r m u s o n a w =
+    record {
+      size = a .size ∙ w .size;
+      index = λ i l. a .others i (λ e. omega arith) ∙ w .index i l;
+      dues = λ v. ⊎-elim (λ x. inl x) (λ y. ⊎-elim (λ x. inl (y ∙ x)) (λ x. inr (y ∙ x)) (w .dues v)) (after v (ℕ-discrete v (linkOf links 1 (j - 1))));
+      marked = λ i l b e c. ⊎-elim
+          (λ lt. ⊎-elim (λ lt2. absurd (n .none i l lt2 e)) (λ ge2. let z : j - 1 ≡ i = omega arith in subst (λ (k : ℕ). linkOf links 1 k < 64 → dueOf iz (linkOf links 1 k) ≡ s) z (a .own) c) (lt-or-le i (j - 1)))
+          (λ ge. ⊎-elim (λ x. x) (λ y. y ∙ w .marked i ge b e c) (after (linkOf links 1 i) (ℕ-discrete (linkOf links 1 i) (linkOf links 1 (j - 1)))))
+          (lt-or-le i j);
+    }
+  where
+    here : (dueOf iz (linkOf links 1 (j - 1)) ≡ s) ⊎ (dueOf iz (linkOf links 1 (j - 1)) ≡ dueOf iy (linkOf links 1 (j - 1)))
+    here = ⊎-elim (λ l. inl (a .own l)) (λ l. inr (a .past l)) (lt-or-le (linkOf links 1 (j - 1)) 64)
+
+    after : (v : ℕ) → Dec (v ≡ linkOf links 1 (j - 1)) → (dueOf iz v ≡ s) ⊎ (dueOf iz v ≡ dueOf iy v)
+    after v (yes e) = subst (λ (k : ℕ). (dueOf iz k ≡ s) ⊎ (dueOf iz k ≡ dueOf iy k)) (sym e) here
+    after v (no e) = inr (a .others (49216 + v) (λ f. e (omega arith)))
+
+pub marked-end : (ix iy links : List ℕ) (j m u s : ℕ) → j ≤ 0 → Marked ix iy links j m u s → Marked ix iy links 0 m u s
+marked-end ix iy links j m u s l w = let e : j ≡ 0 = omega arith in subst (λ (i : ℕ). Marked ix iy links i m u s) e w
+
+pub indexed-same : {xs : List ℕ} {n : ℕ} {ix iy : List ℕ} {t : ℕ} → length iy ≡ length ix → ((i : ℕ) → i < 49216 → getD iy i 0 ≡ getD ix i 0) → Indexed xs n ix t → Indexed xs n iy t
+indexed-same {xs} {n} {ix} {iy} {t} e same w =
+    record {
+      size = omega (arith, w .size);
+      now = w .now;
+      places = w .places;
+      steps = w .steps;
+      low = λ i l. omega (arith, same (rowAt xs i .step * 64 + rowAt xs i .place) (omega (arith, inside i l)), w .low i l);
+      high = λ i l. omega (arith, same (16384 + rowAt xs i .step * 64 + rowAt xs i .place) (omega (arith, inside i l)), w .high i l);
+      order = λ s v a b. let o = w .order s v a b in let x = same (s * 64 + v) (omega arith) in let y = same (16384 + s * 64 + v) (omega arith) in (omega (arith, o .0), omega (arith, o .1));
+      only = λ s v i a b c d. w .only s v i a b (omega (arith, same (s * 64 + v) (omega arith))) (omega (arith, same (16384 + s * 64 + v) (omega arith)));
+      newest = λ i l. omega (arith, same (49152 + rowAt xs i .place) (omega (arith, w .places i l)), w .newest i l);
+      latest = λ v b. omega (arith, same (49152 + v) (omega arith), w .latest v b);
+      back = λ i j l m p q. omega (arith, same (32768 + rowAt xs j .step * 64 + rowAt xs j .place) (omega (arith, inside j m)), w .back i j l m p q);
+      down = λ s v a b. omega (arith, same (32768 + s * 64 + v) (omega arith), w .down s v a b);
+    }
+  where
+    inside : (i : ℕ) → i < n → rowAt xs i .step * 64 + rowAt xs i .place < 16384
+    inside i l = omega (arith, w .steps i l, w .places i l, w .now)
+
+-- the rows of place v at step t noted, and where corridors lead from v
+pub due-more : {xs : List ℕ} {n : ℕ} (ix iy iz links : List ℕ) (lo hi m t v : ℕ) → Indexed xs n ix t → Due links m ix → NotedAs ix iy lo hi t v → Marked iy iz links 0 m v (t + 1) → Due links m iz
+due-more ix iy iz links lo hi m t v w d a b =
+    record {
+      size = omega (arith, d .size, a .noted .size, b .size);
+      due = λ j l c e. go j l c e (ℕ-discrete (linkOf links 0 j) v);
+    }
+  where
+    go : (j : ℕ) → j < m → linkOf links 0 j < 64 → linkOf links 1 j < 64 → Dec (linkOf links 0 j ≡ v) → newestOf iz (linkOf links 0 j) ≤ dueOf iz (linkOf links 1 j)
+    go j l c e (yes f) = omega (arith, b .index (49152 + linkOf links 0 j) (omega arith), subst (λ (k : ℕ). newestOf iy k ≡ t + 1) (sym f) (a .noted .newest), b .marked j (omega arith) l f e)
+    go j l c e (no f) =
+        ⊎-elim
+        (λ x. omega (arith, b .index (49152 + linkOf links 0 j) (omega arith), a .noted .newests (linkOf links 0 j) c f, w .latest (linkOf links 0 j) c))
+        (λ x. omega (arith, b .index (49152 + linkOf links 0 j) (omega arith), a .noted .newests (linkOf links 0 j) c f, a .noted .dues (linkOf links 1 j), d .due j l c e))
+        (b .dues (linkOf links 1 j))
+
+pub due-none : (links : List ℕ) (m n : ℕ) → 49280 ≤ n → Due links m (replicate n 0)
+due-none links m n l = record { size = omega (arith, length-replicate {A = ℕ} n 0); due = λ j b c d. omega (arith, zeros-at n (49152 + linkOf links 0 j), zeros-at n (49216 + linkOf links 1 j)) }
+
+-- a place that is not due is not entered, unless its safe interval begins
+pub due-rests : (xs : List ℕ) (a : ℕ) (ix : List ℕ) (t : ℕ) (free links : List ℕ) (m v since : ℕ) (wait h : List ℕ) → Indexed xs a ix t → Due links m ix → All Link (rowsOf links m) → v < 64 → (since ≡ t → ⊥) → dueOf ix v < t → Any (Enters free (rowsOf xs a) v t since wait h) (rowsOf links m) → ⊥
+due-rests xs a ix t free links m v since wait h w d links-ok inside n l z =
+    let q = rows-find links m z in
+    let at : q .at < m = omega (arith, q .upto) in
+    let k = all-at Link links m (q .at) at links-ok in
+    let e : q .at * 5 + 0 ≡ q .at * 5 = omega arith in
+    let f : linkOf links 0 (q .at) ≡ rowAt links (q .at) .place = ap (λ (i : ℕ). getD links i 0) e in
+    let g : linkOf links 1 (q .at) ≡ v = q .fits .into in
+    let b = d .due (q .at) at (omega (arith, k .from)) (omega arith) in
+    idle-none xs a ix t free v since wait h (rowAt links (q .at)) w n (omega (arith, subst (λ (i : ℕ). newestOf ix i ≤ dueOf ix (linkOf links 1 (q .at))) f b, ap (dueOf ix) g)) (q .fits)

@@ -22,14 +22,11 @@ Inv-loop table₀ a ix links m ch free v t since wait e₀ j₀ table e j = (j �
 abbrev μ-loop : tie.MeasureT-loop
 μ-loop table₀ a ix links m ch free v t since wait e₀ j₀ table e j = j
 
-mul-j : tie.Need-mul-j Inv-loop μ-loop
-mul-j c = search needs
-
-shared-slice-read-j : tie.Need-shared-slice-read-j Inv-loop μ-loop
-shared-slice-read-j c = search needs
+last-link-requires : tie.Need-last-link-requires Inv-loop μ-loop
+last-link-requires c κs = (omega arith, c .before .before .before .before .before .pre .1, c .before .before .before .before .before .pre .7 .size)
 
 loop-holds : tie.Need-loop-holds Inv-loop μ-loop
-loop-holds c = (c .before .before .before .before .before .before .pre .7 .heads (c .before .before .before .before .before .before .args .v) (c .before .before .before .before .before .before .pre .1), refl, swept-none (omega (arith, c .before .before .before .before .before .before .pre .0 .room)) (λ h o. over-none _ _ _ _ _ _ _ _ _ _ _ (λ i l m e. c .before .before .before .before .before .before .pre .7 .head (c .before .before .before .before .before .before .args .v) i (c .before .before .before .before .before .before .pre .1) l m e) o))
+loop-holds c = (omega (arith, c .last-link .ensures, c .before .before .before .before .before .before .pre .7 .heads (c .before .before .before .before .before .before .args .v) (c .before .before .before .before .before .before .pre .1)), refl, swept-none (omega (arith, c .before .before .before .before .before .before .pre .0 .room)) (λ h o. over-none _ _ _ _ _ _ _ _ _ _ _ (λ i l m e. c .before .before .before .before .before .before .pre .7 .head (c .before .before .before .before .before .before .args .v) i (c .before .before .before .before .before .before .pre .1) (omega (arith, c .last-link .ensures)) m e) o))
 
 sub-j : tie.Need-sub-j Inv-loop μ-loop
 sub-j c = search needs
@@ -44,7 +41,7 @@ returns : tie.Need-returns Inv-loop μ-loop
 returns c = swept-full (λ j l. c .before .before .before .from-link .ensures .below j l ∙ c .before .before .before .before .before .before .loop .inv .2 .below j l) (omega (arith, c .before .before .before .before .before .before .before .before .before .before .before .before .before .pre .0 .room))
 
 next-link-requires : tie.Need-next-link-requires Inv-loop μ-loop
-next-link-requires c κs = (omega arith, c .before .before .before .before .before .before .before .before .before .before .before .before .before .pre .4, c .before .before .before .before .before .before .before .before .before .before .before .before .before .pre .7, c .before .before .before .before .before .before .before .before .before .before .before .before .before .pre .1)
+next-link-requires c κs = (omega arith, c .before .before .before .before .before .before .before .before .before .before .before .before .before .pre .4, omega arith, c .before .before .before .before .before .before .before .before .before .before .before .before .before .pre .7, c .before .before .before .before .before .before .before .before .before .before .before .before .before .pre .1)
 
 loop-less : tie.Need-loop-less Inv-loop μ-loop
 loop-less c = omega (arith, c .next-link .ensures .most)
@@ -64,8 +61,7 @@ from-links-spec =
     (tie.spec
     Inv-loop
     μ-loop
-    mul-j
-    shared-slice-read-j
+    last-link-requires
     loop-holds
     sub-j
     from-link-requires

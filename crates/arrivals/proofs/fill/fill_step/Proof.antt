@@ -15,7 +15,7 @@ use Rattle.arrivals.proofs.fill.fill_step.Statement.{statement}
 use Rattle.arrivals.proofs.fill.fill_step.Tie as tie
 
 abbrev Inv-loop : tie.InvT-loop
-Inv-loop table₀ rows ix₀ links m ch free t wait places start n₀ v₀ table ix n v = (v ≤ places) × (n * 5 ≤ length table) × (length table ≡ length table₀) × (length ix ≡ length ix₀) × Filled (caseOf free links m wait places start) (rowsOf table n) t v × IndexedShort table n ix t
+Inv-loop table₀ rows ix₀ links m ch free t wait places start n₀ v₀ table ix n v = (v ≤ places) × (n * 5 ≤ length table) × (length table ≡ length table₀) × (length ix ≡ length ix₀) × Filled (caseOf free links m wait places start) (rowsOf table n) t v × IndexedShort table n ix t links m
 
 abbrev μ-loop : tie.MeasureT-loop
 μ-loop table₀ rows ix₀ links m ch free t wait places start n₀ v₀ table ix n v = places - v
@@ -24,7 +24,7 @@ loop-holds : tie.Need-loop-holds Inv-loop μ-loop
 loop-holds c = (omega arith, c .before .before .before .before .before .pre .0, refl, refl, c .before .before .before .before .before .pre .4, c .before .before .before .before .before .pre .5)
 
 visit-requires : tie.Need-visit-requires Inv-loop μ-loop
-visit-requires c κs = let inv = c .before .before .before .loop .inv in (inv .1, c .before .before .before .before .before .before .before .before .before .pre .1, c .before .before .before .before .before .before .before .before .before .pre .2, c .before .before .before .before .before .before .before .before .before .pre .3, omega arith, inv .4, inv .5, c .before .before .before .before .before .before .before .before .before .pre .6)
+visit-requires c κs = let inv = c .before .before .before .loop .inv in (inv .1, c .before .before .before .before .before .before .before .before .before .pre .1, c .before .before .before .before .before .before .before .before .before .pre .2, c .before .before .before .before .before .before .before .before .before .pre .3, omega arith, inv .4, inv .5, c .before .before .before .before .before .before .before .before .before .pre .6, c .before .before .before .before .before .before .before .before .before .pre .7)
 
 same-length : tie.Need-same-length Inv-loop μ-loop
 same-length c = search needs

@@ -14,7 +14,7 @@ use Rattle.arrivals.proofs.fill.fill_steps.Statement.{statement}
 use Rattle.arrivals.proofs.fill.fill_steps.Tie as tie
 
 abbrev Inv-loop : tie.InvT-loop
-Inv-loop table₀ rows ix₀ links m ch free last wait places start n₀ t₀ table ix n t = (1 ≤ t) × (t ≤ last + 1) × (n * 5 ≤ length table) × (length table ≡ length table₀) × (length ix ≡ length ix₀) × Filled (caseOf free links m wait places start) (rowsOf table n) t 0 × IndexedShort table n ix (t - 1)
+Inv-loop table₀ rows ix₀ links m ch free last wait places start n₀ t₀ table ix n t = (1 ≤ t) × (t ≤ last + 1) × (n * 5 ≤ length table) × (length table ≡ length table₀) × (length ix ≡ length ix₀) × Filled (caseOf free links m wait places start) (rowsOf table n) t 0 × IndexedShort table n ix (t - 1) links m
 
 abbrev μ-loop : tie.MeasureT-loop
 μ-loop table₀ rows ix₀ links m ch free last wait places start n₀ t₀ table ix n t = last + 1 - t
@@ -23,7 +23,7 @@ loop-holds : tie.Need-loop-holds Inv-loop μ-loop
 loop-holds c = (omega arith, omega arith, c .before .before .before .before .before .pre .0, refl, refl, c .before .before .before .before .before .pre .3, c .before .before .before .before .before .pre .4)
 
 fill-step-requires : tie.Need-fill-step-requires Inv-loop μ-loop
-fill-step-requires c κs = let inv = c .before .before .before .loop .inv in (inv .2, c .before .before .before .before .before .before .before .before .before .pre .1, inv .0, omega arith, inv .5, λ b. indexed-step _ (omega arith) (omega arith) (inv .6 b), c .before .before .before .before .before .before .before .before .before .pre .5)
+fill-step-requires c κs = let inv = c .before .before .before .loop .inv in (inv .2, c .before .before .before .before .before .before .before .before .before .pre .1, inv .0, omega arith, inv .5, λ b. (indexed-step _ (omega arith) (omega arith) (inv .6 b .0), inv .6 b .1), c .before .before .before .before .before .before .before .before .before .pre .5, c .before .before .before .before .before .before .before .before .before .pre .6)
 
 same-length : tie.Need-same-length Inv-loop μ-loop
 same-length c = search needs
@@ -41,7 +41,7 @@ loop-less : tie.Need-loop-less Inv-loop μ-loop
 loop-less c = search needs
 
 loop-again : tie.Need-loop-again Inv-loop μ-loop
-loop-again c = let r = c .before .before .before .before .before .fill-step .ensures in let e : c .before .before .before .before .before .before .before .before .before .loop .t ≡ c .before .before .before .before .before .before .before .before .before .loop .t + 1 - 1 = omega arith in (omega arith, omega arith, r .0 .room, search needs, search needs, r .0 .done (not-false _ (c .if1 .left)), λ b. indexed-step _ (omega arith) (omega arith) (r .1 (not-false _ (c .if1 .left)) b))
+loop-again c = let r = c .before .before .before .before .before .fill-step .ensures in let e : c .before .before .before .before .before .before .before .before .before .loop .t ≡ c .before .before .before .before .before .before .before .before .before .loop .t + 1 - 1 = omega arith in (omega arith, omega arith, r .0 .room, search needs, search needs, r .0 .done (not-false _ (c .if1 .left)), λ b. let w = r .1 (not-false _ (c .if1 .left)) b in (indexed-step _ (omega arith) (omega arith) (w .0), w .1))
 
 same-length-3 : tie.Need-same-length-3 Inv-loop μ-loop
 same-length-3 c = search needs

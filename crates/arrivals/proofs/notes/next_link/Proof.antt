@@ -1,4 +1,4 @@
--- `arrivals::notes::next_link` meets its contract: the chain's entry for a corridor into v, and else the corridor itself.
+-- `arrivals::notes::next_link` meets its contract: the chain's entry for a corridor of v, and else the corridor itself.
 -- Assumes nothing.
 use mathlib.Core.Path.{_∙_, sym}
 use native.Mathlib.Omega.{arith}
@@ -19,17 +19,23 @@ mul-if1-2 c = search needs
 shared-slice-read-if1 : tie.Need-shared-slice-read-if1
 shared-slice-read-if1 c = search needs
 
+mul-result : tie.Need-mul-result
+mul-result c = search needs
+
 add-result : tie.Need-add-result
 add-result c = search needs
 
-mul-result : tie.Need-mul-result
-mul-result c = search needs
+add-result-2 : tie.Need-add-result-2
+add-result-2 c = search needs
+
+mul-result-2 : tie.Need-mul-result-2
+mul-result-2 c = search needs
 
 shared-slice-read-result : tie.Need-shared-slice-read-result
 shared-slice-read-result c = search needs
 
 returns : tie.Need-returns
-returns c = let w = c .before .before .before .pre .2 in record { most = w .nexts (c .before .before .before .args .j) (c .before .before .before .pre .0); none = λ i l m e. w .next i (c .before .before .before .args .j) (c .before .before .before .pre .0) (omega (arith, c .before .before .before .pre .3)) l m (e ∙ sym (c .before .if1 .taken)) }
+returns c = let w = c .before .before .before .pre .3 in record { most = w .nexts (c .before .before .before .args .j) (c .before .before .before .pre .0); none = λ i l m e. w .next i (c .before .before .before .args .j) (c .before .before .before .pre .0) (omega (arith, c .before .before .before .pre .4)) l m (e ∙ sym (c .before .if1 .taken)) }
 
 returns-2 : tie.Need-returns-2
 returns-2 c = record { most = omega arith; none = λ i l m e. absurd (omega arith) }
@@ -42,8 +48,10 @@ next-link-spec =
     add-if1
     mul-if1-2
     shared-slice-read-if1
-    add-result
     mul-result
+    add-result
+    add-result-2
+    mul-result-2
     shared-slice-read-result
     returns
     returns-2)
