@@ -41,12 +41,13 @@ pub fn multiple(n: u32, w: [u32; 3]) -> [u32; 3]
 pub fn at_most(a: [u32; 3], b: [u32; 3]) -> bool
     ensures { λ r. ⌜ r ≡ atMostb a b ⌝ }
 {
+    let mut greater = 0u32;
     for i in 0..3 {
         if a[i] > b[i] {
-            return false;
+            greater += 1;
         }
     }
-    true
+    greater == 0
 }
 
 // Whether a dominates b: no figure greater and one smaller.
