@@ -86,11 +86,13 @@ pub fn better(b: Next, g: [u32; 3]) -> bool
     true
 }
 
-// A cost from a row before step t - 1 is led unless the safe interval of the place entered starts at t.
+// Is a row of step s to be tried at step t? A cost from a row before step t - 1 is led unless the safe interval of the place entered starts at t.
 pub fn near(s: u32, t: u32, vsince: u32) -> bool
-    requires { ⌜ s < t ⌝ }
-    ensures { λ r. ⌜ Decided (Near s t vsince) r ⌝ }
+    ensures { λ r. ⌜ Decided ((s < t) × Near s t vsince) r ⌝ }
 {
+    if t <= s {
+        return false;
+    }
     if s + 1 == t {
         return true;
     }
@@ -122,9 +124,6 @@ pub fn try_row(
     }
     let s = table[k * 5 + 1];
     if s < since {
-        return best;
-    }
-    if t <= s {
         return best;
     }
     if !near(s, t, vsince) {
@@ -172,21 +171,21 @@ pub fn try_link(
     n: usize,
     links: &[u32],
     j: usize,
-    firsts: &[u16],
+    runs: &[u16],
     t: u32,
     wait: [u32; 3],
     v: u32,
     vsince: u32,
     best: Next,
 ) -> Next
-    requires { ⌜ (Ready (now table) n t wait) × (1 ≤ t) × (j * 5 + 5 ≤ length (now links)) × (Link (rowAt (now links) j)) × (16384 ≤ length (now firsts)) ⌝ }
-    ensures { λ r. ⌜ Improved (λ g. (Enters (now (firsts .entry)) (rowsOf (now (table .entry)) n) v t vsince wait g (rowAt (now (links .entry)) j)) × (Led (rowsOf (now (table .entry)) n) v t vsince wait g → ⊥)) (best .found) (best .cost) (r .found) (r .cost) ⌝ }
+    requires { ⌜ (Ready (now table) n t wait) × (1 ≤ t) × (j * 5 + 5 ≤ length (now links)) × (Link (rowAt (now links) j)) × (16384 ≤ length (now runs)) ⌝ }
+    ensures { λ r. ⌜ Improved (λ g. (Enters (now (runs .entry)) (rowsOf (now (table .entry)) n) v t vsince wait g (rowAt (now (links .entry)) j)) × (Led (rowsOf (now (table .entry)) n) v t vsince wait g → ⊥)) (best .found) (best .cost) (r .found) (r .cost) ⌝ }
 {
     if links[j * 5 + 1] != v {
         return best;
     }
     let u = links[j * 5];
-    let since = firsts[u as usize * 256 + (t - 1) as usize] as u32;
+    let since = runs[u as usize * 256 + (t - 1) as usize] as u32;
     scan_rows(
         table,
         n,
@@ -207,21 +206,21 @@ pub fn next_label(
     n: usize,
     links: &[u32],
     m: usize,
-    firsts: &[u16],
+    runs: &[u16],
     t: u32,
     wait: [u32; 3],
     v: u32,
     vsince: u32,
 ) -> Next
-    requires { ⌜ (Ready (now table) n t wait) × (1 ≤ t) × (m * 5 ≤ length (now links)) × (All Link (rowsOf (now links) m)) × (16384 ≤ length (now firsts)) ⌝ }
-    ensures { λ r. ⌜ Least (λ g. (Any (Enters (now (firsts .entry)) (rowsOf (now (table .entry)) n) v t vsince wait g) (rowsOf (now (links .entry)) m)) × (Led (rowsOf (now (table .entry)) n) v t vsince wait g → ⊥)) (r .found) (r .cost) ⌝ }
+    requires { ⌜ (Ready (now table) n t wait) × (1 ≤ t) × (m * 5 ≤ length (now links)) × (All Link (rowsOf (now links) m)) × (16384 ≤ length (now runs)) ⌝ }
+    ensures { λ r. ⌜ Least (λ g. (Any (Enters (now (runs .entry)) (rowsOf (now (table .entry)) n) v t vsince wait g) (rowsOf (now (links .entry)) m)) × (Led (rowsOf (now (table .entry)) n) v t vsince wait g → ⊥)) (r .found) (r .cost) ⌝ }
 {
     let mut b = Next {
         found: false,
         cost: [0; 3],
     };
     for j in 0..m {
-        b = try_link(table, n, links, j, firsts, t, wait, v, vsince, b);
+        b = try_link(table, n, links, j, runs, t, wait, v, vsince, b);
     }
     b
 }
@@ -232,20 +231,20 @@ pub fn fill_place(
     rows: usize,
     links: &[u32],
     m: usize,
-    firsts: &[u16],
+    runs: &[u16],
     t: u32,
     wait: [u32; 3],
     v: u32,
     places: u32,
     start: u32,
 ) -> Outcome
-    requires { ⌜ (rows * 5 ≤ length (now table)) × (Given (caseOf (now firsts) (now links) m wait places start) (now links) m (now firsts)) × (1 ≤ t) × (t ≤ 255) × (v < places) × (Filled (caseOf (now firsts) (now links) m wait places start) (rowsOf (now table) rows) t v) × (Vacant (caseOf (now firsts) (now links) m wait places start) v t) ⌝ }
-    ensures { λ r. ⌜ Result (caseOf (now (firsts .entry)) (now (links .entry)) m wait places start) (now (table .exit)) t (v + 1) (r .ok) (r .rows) × Grown (now (table .entry)) (now (table .exit)) rows (r .rows) v t ⌝ }
+    requires { ⌜ (rows * 5 ≤ length (now table)) × (Given (caseOf (now runs) (now links) m wait places start) (now links) m (now runs)) × (1 ≤ t) × (t ≤ 255) × (v < places) × (Filled (caseOf (now runs) (now links) m wait places start) (rowsOf (now table) rows) t v) × (Vacant (caseOf (now runs) (now links) m wait places start) v t) ⌝ }
+    ensures { λ r. ⌜ Result (caseOf (now (runs .entry)) (now (links .entry)) m wait places start) (now (table .exit)) t (v + 1) (r .ok) (r .rows) × Grown (now (table .entry)) (now (table .exit)) rows (r .rows) v t ⌝ }
 {
-    let since = firsts[v as usize * 256 + t as usize] as u32;
+    let since = runs[v as usize * 256 + t as usize] as u32;
     let mut n = rows;
     loop {
-        let next = next_label(table, n, links, m, firsts, t, wait, v, since);
+        let next = next_label(table, n, links, m, runs, t, wait, v, since);
         let found = next.found;
         if !found {
             return Outcome { ok: true, rows: n };

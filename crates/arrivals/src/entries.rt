@@ -93,19 +93,9 @@ pub fn from_place(
     let mut s = latest(ix, u, t as usize);
     while (floor as usize) < s {
         s -= 1;
-        let r = from_rows(
-            table,
-            a,
-            e,
-            ix,
-            ix[s * 64 + u] as usize,
-            ix[16384 + s * 64 + u] as usize,
-            v,
-            t,
-            since,
-            wait,
-            c,
-        );
+        let lo = ix[s * 64 + u] as usize;
+        let hi = ix[16384 + s * 64 + u] as usize;
+        let r = from_rows(table, a, e, ix, lo, hi, v, t, since, wait, c);
         let ok = r.ok;
         e = r.rows;
         if !ok {
@@ -124,14 +114,14 @@ pub fn from_link(
     ix: &[u32],
     links: &[u32],
     j: usize,
-    firsts: &[u16],
+    runs: &[u16],
     v: u32,
     t: u32,
     since: u32,
     wait: [u32; 3],
 ) -> Outcome
-    requires { ⌜ ((a + d) * 5 ≤ length (now table)) × (Ready (now table) a t wait) × (v < 64) × (Indexed (now table) a (now ix) t) × (1 ≤ t) × (j * 5 + 5 ≤ length (now links)) × (Link (rowAt (now links) j)) × (16384 ≤ length (now firsts)) ⌝ }
-    ensures { λ r. ⌜ Swept (λ h. Enters (now (firsts .entry)) (rowsOf (now (table .entry)) a) v t since wait h (rowAt (now (links .entry)) j)) (Led (rowsOf (now (table .entry)) a) v t since wait) v t a (now (table .entry)) (now (table .exit)) d (r .ok) (r .rows) ⌝ }
+    requires { ⌜ ((a + d) * 5 ≤ length (now table)) × (Ready (now table) a t wait) × (v < 64) × (Indexed (now table) a (now ix) t) × (1 ≤ t) × (j * 5 + 5 ≤ length (now links)) × (Link (rowAt (now links) j)) × (16384 ≤ length (now runs)) ⌝ }
+    ensures { λ r. ⌜ Swept (λ h. Enters (now (runs .entry)) (rowsOf (now (table .entry)) a) v t since wait h (rowAt (now (links .entry)) j)) (Led (rowsOf (now (table .entry)) a) v t since wait) v t a (now (table .entry)) (now (table .exit)) d (r .ok) (r .rows) ⌝ }
 {
     if links[j * 5 + 1] != v {
         return Outcome { ok: true, rows: d };
@@ -140,7 +130,7 @@ pub fn from_link(
     if idle(ix, u as usize, t as usize, since as usize) {
         return Outcome { ok: true, rows: d };
     }
-    let f = floor_of(firsts[u as usize * 256 + (t - 1) as usize] as u32, t, since);
+    let f = floor_of(runs[u as usize * 256 + (t - 1) as usize] as u32, t, since);
     let c = row_cost(links, j);
     from_place(table, a, d, ix, u as usize, f, v, t, since, wait, c)
 }
@@ -153,20 +143,20 @@ pub fn from_links(
     links: &[u32],
     m: usize,
     ch: &[usize],
-    firsts: &[u16],
+    runs: &[u16],
     v: u32,
     t: u32,
     since: u32,
     wait: [u32; 3],
 ) -> Outcome
-    requires { ⌜ (Ready (now table) a t wait) × (v < 64) × (Indexed (now table) a (now ix) t) × (1 ≤ t) × (m * 5 ≤ length (now links)) × (All Link (rowsOf (now links) m)) × (16384 ≤ length (now firsts)) × (Chained (now links) 1 m (now ch)) ⌝ }
-    ensures { λ r. ⌜ Swept (λ h. Any (Enters (now (firsts .entry)) (rowsOf (now (table .entry)) a) v t since wait h) (rowsOf (now (links .entry)) m)) (Led (rowsOf (now (table .entry)) a) v t since wait) v t a (now (table .entry)) (now (table .exit)) 0 (r .ok) (r .rows) ⌝ }
+    requires { ⌜ (Ready (now table) a t wait) × (v < 64) × (Indexed (now table) a (now ix) t) × (1 ≤ t) × (m * 5 ≤ length (now links)) × (All Link (rowsOf (now links) m)) × (16384 ≤ length (now runs)) × (Chained (now links) 1 m (now ch)) ⌝ }
+    ensures { λ r. ⌜ Swept (λ h. Any (Enters (now (runs .entry)) (rowsOf (now (table .entry)) a) v t since wait h) (rowsOf (now (links .entry)) m)) (Led (rowsOf (now (table .entry)) a) v t since wait) v t a (now (table .entry)) (now (table .exit)) 0 (r .ok) (r .rows) ⌝ }
 {
     let mut e = 0;
     let mut j = last_link(ch, 1, v);
     while 0 < j {
         j -= 1;
-        let r = from_link(table, a, e, ix, links, j, firsts, v, t, since, wait);
+        let r = from_link(table, a, e, ix, links, j, runs, v, t, since, wait);
         let ok = r.ok;
         e = r.rows;
         if !ok {

@@ -25,75 +25,62 @@ pub fn fill_fast(
     links: &[u32],
     m: usize,
     ch: &[usize],
-    firsts: &[u16],
+    runs: &[u16],
     t: u32,
     wait: [u32; 3],
     v: u32,
     places: u32,
     start: u32,
 ) -> Outcome
-    requires { ⌜ (rows * 5 ≤ length (now table)) × (Given (caseOf (now firsts) (now links) m wait places start) (now links) m (now firsts)) × (1 ≤ t) × (t ≤ 255) × (v < places) × (Filled (caseOf (now firsts) (now links) m wait places start) (rowsOf (now table) rows) t v) × (Vacant (caseOf (now firsts) (now links) m wait places start) v t) × (Indexed (now table) rows (now ix) t) × (Chained (now links) 1 m (now ch)) × (Due (now links) m (now ix)) ⌝ }
-    ensures { λ r. ⌜ Result (caseOf (now (firsts .entry)) (now (links .entry)) m wait places start) (now (table .exit)) t (v + 1) (r .ok) (r .rows) × Grown (now (table .entry)) (now (table .exit)) rows (r .rows) v t ⌝ }
+    requires { ⌜ (rows * 5 ≤ length (now table)) × (Given (caseOf (now runs) (now links) m wait places start) (now links) m (now runs)) × (1 ≤ t) × (t ≤ 255) × (v < places) × (Filled (caseOf (now runs) (now links) m wait places start) (rowsOf (now table) rows) t v) × (Vacant (caseOf (now runs) (now links) m wait places start) v t) × (Indexed (now table) rows (now ix) t) × (Chained (now links) 1 m (now ch)) × (Due (now links) m (now ix)) ⌝ }
+    ensures { λ r. ⌜ Result (caseOf (now (runs .entry)) (now (links .entry)) m wait places start) (now (table .exit)) t (v + 1) (r .ok) (r .rows) × Grown (now (table .entry)) (now (table .exit)) rows (r .rows) v t ⌝ }
 {
-    let since = firsts[v as usize * 256 + t as usize] as u32;
+    let since = runs[v as usize * 256 + t as usize] as u32;
     if rests(ix, v as usize, t as usize, since as usize) {
         return Outcome { ok: true, rows };
     }
-    let r = from_links(table, rows, ix, links, m, ch, firsts, v, t, since, wait);
+    let r = from_links(table, rows, ix, links, m, ch, runs, v, t, since, wait);
     let ok = r.ok;
     let d = r.rows;
     if ok {
         let n = rows + d;
         return Outcome { ok: true, rows: n };
     }
-    fill_place(table, rows, links, m, firsts, t, wait, v, places, start)
+    fill_place(table, rows, links, m, runs, t, wait, v, places, start)
 }
 
 // Fills in place v at step t where it is free.
 pub fn visit(
     table: &mut [u32],
-    rows: usize,
+    n: usize,
     ix: &mut [u32],
     links: &[u32],
     m: usize,
     ch: &[usize],
-    firsts: &[u16],
+    runs: &[u16],
     t: u32,
     wait: [u32; 3],
     v: u32,
     places: u32,
     start: u32,
 ) -> Outcome
-    requires { ⌜ (rows * 5 ≤ length (now table)) × (Given (caseOf (now firsts) (now links) m wait places start) (now links) m (now firsts)) × (1 ≤ t) × (t ≤ 255) × (v < places) × (Filled (caseOf (now firsts) (now links) m wait places start) (rowsOf (now table) rows) t v) × (IndexedShort (now table) rows (now ix) t (now links) m) × (Chained (now links) 1 m (now ch)) × (Chained (now links) 0 m (now ch)) ⌝ }
-    ensures { λ r. ⌜ Result (caseOf (now (firsts .entry)) (now (links .entry)) m wait places start) (now (table .exit)) t (v + 1) (r .ok) (r .rows) × (r .ok ≡ true → IndexedShort (now (table .exit)) (r .rows) (now (ix .exit)) t (now (links .entry)) m) ⌝ }
+    requires { ⌜ (n * 5 ≤ length (now table)) × (Given (caseOf (now runs) (now links) m wait places start) (now links) m (now runs)) × (1 ≤ t) × (t ≤ 255) × (v < places) × (Filled (caseOf (now runs) (now links) m wait places start) (rowsOf (now table) n) t v) × (IndexedShort (now table) n (now ix) t (now links) m) × (Chained (now links) 1 m (now ch)) × (Chained (now links) 0 m (now ch)) ⌝ }
+    ensures { λ r. ⌜ Result (caseOf (now (runs .entry)) (now (links .entry)) m wait places start) (now (table .exit)) t (v + 1) (r .ok) (r .rows) × (r .ok ≡ true → IndexedShort (now (table .exit)) (r .rows) (now (ix .exit)) t (now (links .entry)) m) ⌝ }
 {
-    if t < firsts[v as usize * 256 + t as usize] as u32 {
-        return Outcome { ok: true, rows };
+    if t < runs[v as usize * 256 + t as usize] as u32 {
+        return Outcome { ok: true, rows: n };
     }
     if 21474836475 < table.len() {
-        return fill_place(table, rows, links, m, firsts, t, wait, v, places, start);
+        return fill_place(table, n, links, m, runs, t, wait, v, places, start);
     }
-    let r = fill_fast(
-        table,
-        rows,
-        ix,
-        links,
-        m,
-        ch,
-        firsts,
-        t,
-        wait,
-        v,
-        places,
-        start,
-    );
+    let r = fill_fast(table, n, ix, links, m, ch, runs, t, wait, v, places, start);
     let ok = r.ok;
-    let n = r.rows;
-    if rows < n {
-        note(ix, rows, n, t as usize, v as usize);
+    let rows = r.rows;
+    if n < rows {
+        note(ix, n, rows, t as usize, v as usize);
         mark_next(ix, links, m, ch, v, t + 1);
     }
-    Outcome { ok, rows: n }
+    Outcome { ok, rows }
 }
 
 // Fills in step t.
@@ -104,31 +91,18 @@ pub fn fill_step(
     links: &[u32],
     m: usize,
     ch: &[usize],
-    firsts: &[u16],
+    runs: &[u16],
     t: u32,
     wait: [u32; 3],
     places: u32,
     start: u32,
 ) -> Outcome
-    requires { ⌜ (rows * 5 ≤ length (now table)) × (Given (caseOf (now firsts) (now links) m wait places start) (now links) m (now firsts)) × (1 ≤ t) × (t ≤ 255) × (Filled (caseOf (now firsts) (now links) m wait places start) (rowsOf (now table) rows) t 0) × (IndexedShort (now table) rows (now ix) t (now links) m) × (Chained (now links) 1 m (now ch)) × (Chained (now links) 0 m (now ch)) ⌝ }
-    ensures { λ r. ⌜ Result (caseOf (now (firsts .entry)) (now (links .entry)) m wait places start) (now (table .exit)) (t + 1) 0 (r .ok) (r .rows) × (r .ok ≡ true → IndexedShort (now (table .exit)) (r .rows) (now (ix .exit)) t (now (links .entry)) m) ⌝ }
+    requires { ⌜ (rows * 5 ≤ length (now table)) × (Given (caseOf (now runs) (now links) m wait places start) (now links) m (now runs)) × (1 ≤ t) × (t ≤ 255) × (Filled (caseOf (now runs) (now links) m wait places start) (rowsOf (now table) rows) t 0) × (IndexedShort (now table) rows (now ix) t (now links) m) × (Chained (now links) 1 m (now ch)) × (Chained (now links) 0 m (now ch)) ⌝ }
+    ensures { λ r. ⌜ Result (caseOf (now (runs .entry)) (now (links .entry)) m wait places start) (now (table .exit)) (t + 1) 0 (r .ok) (r .rows) × (r .ok ≡ true → IndexedShort (now (table .exit)) (r .rows) (now (ix .exit)) t (now (links .entry)) m) ⌝ }
 {
     let mut n = rows;
     for v in 0..places {
-        let r = visit(
-            table,
-            n,
-            ix,
-            links,
-            m,
-            ch,
-            firsts,
-            t,
-            wait,
-            v,
-            places,
-            start,
-        );
+        let r = visit(table, n, ix, links, m, ch, runs, t, wait, v, places, start);
         let ok = r.ok;
         n = r.rows;
         if !ok {
@@ -146,19 +120,19 @@ pub fn fill_steps(
     links: &[u32],
     m: usize,
     ch: &[usize],
-    firsts: &[u16],
+    runs: &[u16],
     last: u32,
     wait: [u32; 3],
     places: u32,
     start: u32,
 ) -> Outcome
-    requires { ⌜ (rows * 5 ≤ length (now table)) × (Given (caseOf (now firsts) (now links) m wait places start) (now links) m (now firsts)) × (last ≤ 255) × (Filled (caseOf (now firsts) (now links) m wait places start) (rowsOf (now table) rows) 1 0) × (IndexedShort (now table) rows (now ix) 0 (now links) m) × (Chained (now links) 1 m (now ch)) × (Chained (now links) 0 m (now ch)) ⌝ }
-    ensures { λ r. ⌜ Result (caseOf (now (firsts .entry)) (now (links .entry)) m wait places start) (now (table .exit)) (last + 1) 0 (r .ok) (r .rows) ⌝ }
+    requires { ⌜ (rows * 5 ≤ length (now table)) × (Given (caseOf (now runs) (now links) m wait places start) (now links) m (now runs)) × (last ≤ 255) × (Filled (caseOf (now runs) (now links) m wait places start) (rowsOf (now table) rows) 1 0) × (IndexedShort (now table) rows (now ix) 0 (now links) m) × (Chained (now links) 1 m (now ch)) × (Chained (now links) 0 m (now ch)) ⌝ }
+    ensures { λ r. ⌜ Result (caseOf (now (runs .entry)) (now (links .entry)) m wait places start) (now (table .exit)) (last + 1) 0 (r .ok) (r .rows) ⌝ }
 {
     let mut n = rows;
     let mut t = 1;
     while t <= last {
-        let r = fill_step(table, n, ix, links, m, ch, firsts, t, wait, places, start);
+        let r = fill_step(table, n, ix, links, m, ch, runs, t, wait, places, start);
         let ok = r.ok;
         n = r.rows;
         if !ok {
@@ -176,15 +150,15 @@ pub fn first_row(
     links: &[u32],
     m: usize,
     ch: &[usize],
-    firsts: &[u16],
+    runs: &[u16],
     wait: [u32; 3],
     places: u32,
     start: u32,
 ) -> Outcome
-    requires { ⌜ (Given (caseOf (now firsts) (now links) m wait places start) (now links) m (now firsts)) × (start < places) × (Indexed (now table) 0 (now ix) 0) × (Chained (now links) 0 m (now ch)) × (Due (now links) m (now ix)) ⌝ }
-    ensures { λ r. ⌜ Result (caseOf (now (firsts .entry)) (now (links .entry)) m wait places start) (now (table .exit)) 1 0 (r .ok) (r .rows) × (r .ok ≡ true → (Indexed (now (table .exit)) (r .rows) (now (ix .exit)) 0) × (Due (now (links .entry)) m (now (ix .exit)))) ⌝ }
+    requires { ⌜ (Given (caseOf (now runs) (now links) m wait places start) (now links) m (now runs)) × (start < places) × (Indexed (now table) 0 (now ix) 0) × (Chained (now links) 0 m (now ch)) × (Due (now links) m (now ix)) ⌝ }
+    ensures { λ r. ⌜ Result (caseOf (now (runs .entry)) (now (links .entry)) m wait places start) (now (table .exit)) 1 0 (r .ok) (r .rows) × (r .ok ≡ true → (Indexed (now (table .exit)) (r .rows) (now (ix .exit)) 0) × (Due (now (links .entry)) m (now (ix .exit)))) ⌝ }
 {
-    if 0 < firsts[start as usize * 256 + 0] as u32 {
+    if 0 < runs[start as usize * 256 + 0] as u32 {
         return Outcome { ok: true, rows: 0 };
     }
     if table.len() < 5 {
@@ -200,20 +174,20 @@ pub fn search_all(
     table: &mut [u32],
     links: &[u32],
     m: usize,
-    firsts: &[u16],
+    runs: &[u16],
     last: u32,
     wait: [u32; 3],
     places: u32,
     start: u32,
 ) -> Outcome
-    requires { ⌜ (Given (caseOf (now firsts) (now links) m wait places start) (now links) m (now firsts)) × (last ≤ 255) × (start < places) ⌝ }
-    ensures { λ r. ⌜ Result (caseOf (now (firsts .entry)) (now (links .entry)) m wait places start) (now (table .exit)) (last + 1) 0 (r .ok) (r .rows) ⌝ }
+    requires { ⌜ (Given (caseOf (now runs) (now links) m wait places start) (now links) m (now runs)) × (last ≤ 255) × (start < places) ⌝ }
+    ensures { λ r. ⌜ Result (caseOf (now (runs .entry)) (now (links .entry)) m wait places start) (now (table .exit)) (last + 1) 0 (r .ok) (r .rows) ⌝ }
 {
     let mut ch = [0; 640];
     chain(links, m, 0, &mut ch);
     chain(links, m, 1, &mut ch);
     let mut ix = [0; 49280];
-    let r = first_row(table, &mut ix, links, m, &ch, firsts, wait, places, start);
+    let r = first_row(table, &mut ix, links, m, &ch, runs, wait, places, start);
     let ok = r.ok;
     let rows = r.rows;
     if ok {
@@ -224,7 +198,7 @@ pub fn search_all(
             links,
             m,
             &ch,
-            firsts,
+            runs,
             last,
             wait,
             places,
@@ -239,16 +213,16 @@ pub fn fill(
     table: &mut [u32],
     links: &[u32],
     m: usize,
-    firsts: &[u16],
+    runs: &[u16],
     last: u32,
     wait: [u32; 3],
     places: u32,
     start: u32,
 ) -> Outcome
-    requires { ⌜ (Given (caseOf (now firsts) (now links) m wait places start) (now links) m (now firsts)) × (last ≤ 255) × (start < places) ⌝ }
-    ensures { λ r. ⌜ Search (caseOf (now (firsts .entry)) (now (links .entry)) m wait places start) (last + 1) (length (now (table .entry))) (now (table .exit)) (r .ok) (r .rows) ⌝ }
+    requires { ⌜ (Given (caseOf (now runs) (now links) m wait places start) (now links) m (now runs)) × (last ≤ 255) × (start < places) ⌝ }
+    ensures { λ r. ⌜ Search (caseOf (now (runs .entry)) (now (links .entry)) m wait places start) (last + 1) (length (now (table .entry))) (now (table .exit)) (r .ok) (r .rows) ⌝ }
 {
-    let r = search_all(table, links, m, firsts, last, wait, places, start);
+    let r = search_all(table, links, m, runs, last, wait, places, start);
     let ok = r.ok;
     let rows = r.rows;
     if ok {

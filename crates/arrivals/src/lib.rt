@@ -30,14 +30,14 @@ pub fn search(head: &[u32], corridors: &[u32], occupancies: &[u32], table: &mut 
     requires { ⌜ (Valid (sheetOfGroups (now head) (now corridors) (now occupancies))) × (length (now corridors) % 5 ≡ 0) × (length (now occupancies) % 3 ≡ 0) ⌝ }
     ensures { λ r. ⌜ searchEnd r (now (table .exit)) ≡ searchOn (sheetOfGroups (now (head .entry)) (now (corridors .entry)) (now (occupancies .entry))) (now (table .entry)) ⌝ }
 {
-    let mut firsts = [0; 16384];
-    fill_since(occupancies, &mut firsts);
+    let mut runs = [0; 16384];
+    fill_since(occupancies, &mut runs);
     let wait = wait_at(head, Place(0));
     let r = fill(
         table,
         corridors,
         corridors.len() / 5,
-        &firsts,
+        &runs,
         head[1],
         wait,
         head[0],

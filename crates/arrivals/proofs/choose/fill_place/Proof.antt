@@ -15,10 +15,10 @@ use Rattle.arrivals.proofs.choose.fill_place.Statement.{statement}
 use Rattle.arrivals.proofs.choose.fill_place.Tie as tie
 
 abbrev Inv-loop : tie.InvT-loop
-Inv-loop table₀ rows links m firsts t wait v places start since n₀ table n = (n * 5 ≤ length table) × (length table ≡ length table₀) × Filling (caseOf firsts links m wait places start) (rowsOf table n) t v × Grown table₀ table rows n v t
+Inv-loop table₀ rows links m runs t wait v places start since n₀ table n = (n * 5 ≤ length table) × (length table ≡ length table₀) × Filling (caseOf runs links m wait places start) (rowsOf table n) t v × Grown table₀ table rows n v t
 
 abbrev μ-loop : tie.MeasureT-loop
-μ-loop table₀ rows links m firsts t wait v places start since n₀ table n = length table₀ - n * 5
+μ-loop table₀ rows links m runs t wait v places start since n₀ table n = length table₀ - n * 5
 
 mul-since : tie.Need-mul-since Inv-loop μ-loop
 mul-since c = search needs

@@ -53,7 +53,7 @@ same-length-2 : tie.Need-same-length-2 Inv-loop μ-loop
 same-length-2 c = search needs
 
 returns-2 : tie.Need-returns-2 Inv-loop μ-loop
-returns-2 c = let inv = c .before .loop .inv in over-end _ _ _ _ _ _ _ _ _ _ _ _ (let e : c .before .loop .j ≡ 0 = omega arith in subst (λ (i : ℕ). Swept (λ h. Over (Enters (c .before .before .before .before .before .before .before .before .args .firsts .now) (rowsOf (c .before .before .before .before .before .before .before .before .args .table .now) (c .before .before .before .before .before .before .before .before .args .a)) (c .before .before .before .before .before .before .before .before .args .v) (c .before .before .before .before .before .before .before .before .args .t) (c .before .before .before .before .before .before .before .before .args .since) (c .before .before .before .before .before .before .before .before .args .wait) h) (c .before .before .before .before .before .before .before .before .args .links .now) i (c .before .before .before .before .before .before .before .before .args .m)) (Led (rowsOf (c .before .before .before .before .before .before .before .before .args .table .now) (c .before .before .before .before .before .before .before .before .args .a)) (c .before .before .before .before .before .before .before .before .args .v) (c .before .before .before .before .before .before .before .before .args .t) (c .before .before .before .before .before .before .before .before .args .since) (c .before .before .before .before .before .before .before .before .args .wait)) (c .before .before .before .before .before .before .before .before .args .v) (c .before .before .before .before .before .before .before .before .args .t) (c .before .before .before .before .before .before .before .before .args .a) (c .before .before .before .before .before .before .before .before .args .table .now) (c .before .loop .table) 0 true (c .before .loop .e)) e (inv .2))
+returns-2 c = let inv = c .before .loop .inv in over-end _ _ _ _ _ _ _ _ _ _ _ _ (let e : c .before .loop .j ≡ 0 = omega arith in subst (λ (i : ℕ). Swept (λ h. Over (Enters (c .before .before .before .before .before .before .before .before .args .runs .now) (rowsOf (c .before .before .before .before .before .before .before .before .args .table .now) (c .before .before .before .before .before .before .before .before .args .a)) (c .before .before .before .before .before .before .before .before .args .v) (c .before .before .before .before .before .before .before .before .args .t) (c .before .before .before .before .before .before .before .before .args .since) (c .before .before .before .before .before .before .before .before .args .wait) h) (c .before .before .before .before .before .before .before .before .args .links .now) i (c .before .before .before .before .before .before .before .before .args .m)) (Led (rowsOf (c .before .before .before .before .before .before .before .before .args .table .now) (c .before .before .before .before .before .before .before .before .args .a)) (c .before .before .before .before .before .before .before .before .args .v) (c .before .before .before .before .before .before .before .before .args .t) (c .before .before .before .before .before .before .before .before .args .since) (c .before .before .before .before .before .before .before .before .args .wait)) (c .before .before .before .before .before .before .before .before .args .v) (c .before .before .before .before .before .before .before .before .args .t) (c .before .before .before .before .before .before .before .before .args .a) (c .before .before .before .before .before .before .before .before .args .table .now) (c .before .loop .table) 0 true (c .before .loop .e)) e (inv .2))
 
 pub from-links-spec : {M : Type 1} → statement M
 from-links-spec =

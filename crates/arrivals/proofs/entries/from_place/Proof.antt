@@ -31,38 +31,38 @@ loop-holds c = (c .latest .ensures .0, c .before .before .before .pre .3 .now, c
 sub-s : tie.Need-sub-s Inv-loop μ-loop
 sub-s c = search needs
 
-mul-from-rows : tie.Need-mul-from-rows Inv-loop μ-loop
-mul-from-rows c = search needs
+mul-lo : tie.Need-mul-lo Inv-loop μ-loop
+mul-lo c = search needs
 
-add-from-rows : tie.Need-add-from-rows Inv-loop μ-loop
-add-from-rows c = search needs
+add-lo : tie.Need-add-lo Inv-loop μ-loop
+add-lo c = search needs
 
-mul-from-rows-2 : tie.Need-mul-from-rows-2 Inv-loop μ-loop
-mul-from-rows-2 c = search needs
+mul-lo-2 : tie.Need-mul-lo-2 Inv-loop μ-loop
+mul-lo-2 c = search needs
 
-shared-slice-read-from-rows : tie.Need-shared-slice-read-from-rows Inv-loop μ-loop
-shared-slice-read-from-rows c = search needs
+shared-slice-read-lo : tie.Need-shared-slice-read-lo Inv-loop μ-loop
+shared-slice-read-lo c = search needs
 
-cast-from-rows : tie.Need-cast-from-rows Inv-loop μ-loop
-cast-from-rows c = omega (arith, c .shared-slice-known2 .given ((c .before .before .before .loop .s - 1) * 64 + c .before .before .before .before .before .before .before .args .u))
+cast-lo : tie.Need-cast-lo Inv-loop μ-loop
+cast-lo c = omega (arith, c .shared-slice-known2 .given ((c .before .before .loop .s - 1) * 64 + c .before .before .before .before .before .before .args .u))
 
-mul-from-rows-3 : tie.Need-mul-from-rows-3 Inv-loop μ-loop
-mul-from-rows-3 c = search needs
+mul-hi : tie.Need-mul-hi Inv-loop μ-loop
+mul-hi c = search needs
 
-add-from-rows-2 : tie.Need-add-from-rows-2 Inv-loop μ-loop
-add-from-rows-2 c = search needs
+add-hi : tie.Need-add-hi Inv-loop μ-loop
+add-hi c = search needs
 
-add-from-rows-3 : tie.Need-add-from-rows-3 Inv-loop μ-loop
-add-from-rows-3 c = search needs
+add-hi-2 : tie.Need-add-hi-2 Inv-loop μ-loop
+add-hi-2 c = search needs
 
-mul-from-rows-4 : tie.Need-mul-from-rows-4 Inv-loop μ-loop
-mul-from-rows-4 c = search needs
+mul-hi-2 : tie.Need-mul-hi-2 Inv-loop μ-loop
+mul-hi-2 c = search needs
 
-shared-slice-read-from-rows-2 : tie.Need-shared-slice-read-from-rows-2 Inv-loop μ-loop
-shared-slice-read-from-rows-2 c = search needs
+shared-slice-read-hi : tie.Need-shared-slice-read-hi Inv-loop μ-loop
+shared-slice-read-hi c = search needs
 
-cast-from-rows-2 : tie.Need-cast-from-rows-2 Inv-loop μ-loop
-cast-from-rows-2 c = omega (arith, c .shared-slice-known3 .given (16384 + (c .before .before .before .before .loop .s - 1) * 64 + c .before .before .before .before .before .before .before .before .args .u))
+cast-hi : tie.Need-cast-hi Inv-loop μ-loop
+cast-hi c = omega (arith, c .shared-slice-known3 .given (16384 + (c .before .before .before .loop .s - 1) * 64 + c .before .before .before .before .before .before .before .args .u))
 
 from-rows-requires : tie.Need-from-rows-requires Inv-loop μ-loop
 from-rows-requires c κs = let inv = c .before .before .before .before .loop .inv in let r = ready-kept {ys = c .before .before .before .before .loop .table} (inv .3) (inv .4 .below) (c .before .before .before .before .before .before .before .before .pre .1) in let w = indexed-kept {ys = c .before .before .before .before .loop .table} (inv .4 .below) (c .before .before .before .before .before .before .before .before .pre .3) in let b = w .order (c .before .before .before .before .loop .s - 1) (c .before .before .before .before .before .before .before .before .args .u) (omega arith) (c .before .before .before .before .before .before .before .before .pre .5) in (inv .4 .room, r, c .before .before .before .before .before .before .before .before .pre .2, w, c .before .before .before .before .before .before .before .before .pre .4, b .0, b .1, λ i l m. let o = w .only (c .before .before .before .before .loop .s - 1) (c .before .before .before .before .before .before .before .before .args .u) i (omega arith) (c .before .before .before .before .before .before .before .before .pre .5) l m in omega (arith, o .1))
@@ -97,17 +97,17 @@ from-place-spec =
     latest-requires
     loop-holds
     sub-s
-    mul-from-rows
-    add-from-rows
-    mul-from-rows-2
-    shared-slice-read-from-rows
-    cast-from-rows
-    mul-from-rows-3
-    add-from-rows-2
-    add-from-rows-3
-    mul-from-rows-4
-    shared-slice-read-from-rows-2
-    cast-from-rows-2
+    mul-lo
+    add-lo
+    mul-lo-2
+    shared-slice-read-lo
+    cast-lo
+    mul-hi
+    add-hi
+    add-hi-2
+    mul-hi-2
+    shared-slice-read-hi
+    cast-hi
     from-rows-requires
     same-length
     returns
