@@ -10,13 +10,13 @@ ghost use Rattle.journeys.specs.Inner.{Layable};
 ghost use Rattle.journeys.specs.Calls.{frontEnd, frontRefused, frontCall, journeyEnd, journeyRefused, journeyCall};
 use crate::FrontAnswer;
 use crate::JourneyAnswer;
-use crate::offered::clear_from;
 use crate::offered::count_costs;
 use crate::offered::list_costs;
 use crate::offered::nth_cost;
 use crate::prepare::prepare;
 use crate::prepare::usable_of;
 use crate::walk::walk_back;
+use arrivals::cells::clear_from;
 use intervals::fill_since;
 
 // A refusal: its number, its line, and zeros.

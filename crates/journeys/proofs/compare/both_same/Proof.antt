@@ -2,7 +2,7 @@
 -- Assumes nothing.
 use native.Mathlib.Omega.{arith}
 use borrow.Author.Needs.{needs}
-use Rattle.journeys.specs.Inner.Walk.{fails}
+use Rattle.arrivals.specs.Inner.Facts.{fails}
 use Rattle.journeys.proofs.Sameness.{both-decided}
 use Rattle.journeys.proofs.compare.both_same.Statement.{statement}
 use Rattle.journeys.proofs.compare.both_same.Tie as tie
