@@ -239,17 +239,17 @@ module _ (b : List ℕ) (i : ℕ) (table path : List ℕ) where
         ∙ prepared-refused (λ k n t. journeyRefused k n t path) (journeyCall b i table path) b table table′ r p z journey-unread journey-full
 
     module _ (p : ReadyIs b table table′ r) (o : Offered) (h : NumberIs (offers r table′) i o) where
-      pub journey-ten : (a : JourneyAnswer) (t : List ℕ) → a ≡ journeyRefused 10 0 [] [] .answer → t ≡ take 0 table′ ++ replicate (length table′ - 0) 0
+      pub journey-ten : (a : JourneyAnswer) (t : List ℕ) → a ≡ journeyRefused 10 0 [] [] .answer → t ≡ cleared table′
           → o .found ≡ false → journeyEnd a t path ≡ journeyCall b i table path
       journey-ten a t e f z =
-          ap₂ (λ (x : JourneyAnswer) (y : List ℕ). journeyEnd x y path) e (f ∙ cleared-all table table′ (p .same-length))
+          ap₂ (λ (x : JourneyAnswer) (y : List ℕ). journeyEnd x y path) e (f ∙ ap (λ (n : ℕ). filled n []) (p .same-length))
           ∙ sym (journey-none (p .sheet) (p .reads) (p .room) (found-off b table table′ r p i o h z))
 
-      pub journey-eleven : (a : JourneyAnswer) (t : List ℕ) → a ≡ journeyRefused 11 0 [] [] .answer → t ≡ take 0 table′ ++ replicate (length table′ - 0) 0
+      pub journey-eleven : (a : JourneyAnswer) (t : List ℕ) → a ≡ journeyRefused 11 0 [] [] .answer → t ≡ cleared table′
           → o .found ≡ true → length path ≤ o .step → journeyEnd a t path ≡ journeyCall b i table path
       journey-eleven a t e f z l =
           let k = found-on b table table′ r p i o h z in
-          ap₂ (λ (x : JourneyAnswer) (y : List ℕ). journeyEnd x y path) e (f ∙ cleared-all table table′ (p .same-length))
+          ap₂ (λ (x : JourneyAnswer) (y : List ℕ). journeyEnd x y path) e (f ∙ ap (λ (n : ℕ). filled n []) (p .same-length))
           ∙ sym (journey-short (p .sheet) (o .cost) (p .reads) (p .room) (k .below) (k .cost-is) (omega (arith, l, k .journey-long)))
 
       pub journey-end : (l : List ℕ) → o .found ≡ true → o .step < length path → l ≡ filled (length path) (journeyOf (sheetOf r) (o .cost))
