@@ -13,6 +13,7 @@ use Rattle.sheet.specs.Lists.{_∈_, number, filled, bind}
 use Rattle.sheet.specs.Sheet.{Sheet, refused, loaded, readOf, goal, steps}
 use Rattle.sheet.specs.Valid.{Valid}
 use Rattle.sheet.specs.Calls.{sheetOfGroups}
+use Rattle.sheet.specs.Laws.Stores.{length-filled}
 use Rattle.sheet.specs.Laws.RoundTrip.{read-refused, read-valid}
 use Rattle.costs.specs.Costs.{Cost}
 use Rattle.arrivals.specs.Arrivals.{Arrival}
@@ -29,7 +30,7 @@ use Rattle.journeys.specs.declared.prepare.Prepared.{Prepared}
 use Rattle.journeys.specs.Laws.Front.{front-on}
 use Rattle.journeys.specs.Laws.Page.{journey-length}
 use Rattle.journeys.specs.Laws.Offered.{holds-front, holds-step, table-holds}
-use Rattle.journeys.proofs.Ready.{filled-length, rows-length, room-fits, usable-most, part, GroupsOf, groups-of, groups-sheet}
+use Rattle.journeys.proofs.Ready.{rows-length, room-fits, usable-most, part, GroupsOf, groups-of, groups-sheet}
 
 -- a sheet that is ready, and what the functions over the table and the groups ask for
 pub record ReadyIs (b table table′ : List ℕ) (r : Prepared) : Type 0 where
@@ -45,7 +46,7 @@ pub record ReadyIs (b table table′ : List ℕ) (r : Prepared) : Type 0 where
 
 table-length : (s : Sheet) (n : ℕ) → noRoom s n ≡ false → length (arrivalTable s n) ≡ n
 unfolding arrivalTable
-table-length s n e = filled-length n (bind (leading s) arrivalRow) (omega (arith, rows-length s, room-fits s n e .1, usable-most 5 n .0))
+table-length s n e = length-filled n (bind (leading s) arrivalRow) (omega (arith, rows-length s, room-fits s n e .1, usable-most 5 n .0))
 
 ready-is : (b table table′ : List ℕ) (r : Prepared) (s : Sheet) → readOf b ≡ loaded s → noRoom s (length table) ≡ false → ReadyOn s table table′ r → ReadyIs b table table′ r
 ready-is b table table′ r s q e o =
@@ -238,17 +239,17 @@ module _ (b : List ℕ) (i : ℕ) (table path : List ℕ) where
         ∙ prepared-refused (λ k n t. journeyRefused k n t path) (journeyCall b i table path) b table table′ r p z journey-unread journey-full
 
     module _ (p : ReadyIs b table table′ r) (o : Offered) (h : NumberIs (offers r table′) i o) where
-      pub journey-ten : (a : JourneyAnswer) (t : List ℕ) → a ≡ journeyRefused 10 0 [] [] .answer → t ≡ take 0 table′ ++ replicate (length table′ - 0) 0
+      pub journey-ten : (a : JourneyAnswer) (t : List ℕ) → a ≡ journeyRefused 10 0 [] [] .answer → t ≡ cleared table′
           → o .found ≡ false → journeyEnd a t path ≡ journeyCall b i table path
       journey-ten a t e f z =
-          ap₂ (λ (x : JourneyAnswer) (y : List ℕ). journeyEnd x y path) e (f ∙ cleared-all table table′ (p .same-length))
+          ap₂ (λ (x : JourneyAnswer) (y : List ℕ). journeyEnd x y path) e (f ∙ ap (λ (n : ℕ). filled n []) (p .same-length))
           ∙ sym (journey-none (p .sheet) (p .reads) (p .room) (found-off b table table′ r p i o h z))
 
-      pub journey-eleven : (a : JourneyAnswer) (t : List ℕ) → a ≡ journeyRefused 11 0 [] [] .answer → t ≡ take 0 table′ ++ replicate (length table′ - 0) 0
+      pub journey-eleven : (a : JourneyAnswer) (t : List ℕ) → a ≡ journeyRefused 11 0 [] [] .answer → t ≡ cleared table′
           → o .found ≡ true → length path ≤ o .step → journeyEnd a t path ≡ journeyCall b i table path
       journey-eleven a t e f z l =
           let k = found-on b table table′ r p i o h z in
-          ap₂ (λ (x : JourneyAnswer) (y : List ℕ). journeyEnd x y path) e (f ∙ cleared-all table table′ (p .same-length))
+          ap₂ (λ (x : JourneyAnswer) (y : List ℕ). journeyEnd x y path) e (f ∙ ap (λ (n : ℕ). filled n []) (p .same-length))
           ∙ sym (journey-short (p .sheet) (o .cost) (p .reads) (p .room) (k .below) (k .cost-is) (omega (arith, l, k .journey-long)))
 
       pub journey-end : (l : List ℕ) → o .found ≡ true → o .step < length path → l ≡ filled (length path) (journeyOf (sheetOf r) (o .cost))

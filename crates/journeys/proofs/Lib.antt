@@ -1,6 +1,5 @@
 pub mod Rowwise
 pub mod Stepping
-pub mod Stores
 pub mod Backwards
 pub mod Ready
 pub mod Ends

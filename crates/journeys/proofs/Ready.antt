@@ -20,6 +20,7 @@ use Rattle.sheet.specs.Calls.{readAnswer, readCall, groupRows, sheetOfGroups}
 use Rattle.sheet.specs.declared.SheetRead.{SheetRead}
 use Rattle.sheet.specs.Laws.Members.{map-mem}
 use Rattle.sheet.specs.Laws.Rows.{Wide, flat-length, rows-flat, flat-whole, filled-full, bind-flat}
+use Rattle.sheet.specs.Laws.Stores.{length-filled}
 use Rattle.sheet.specs.Laws.RoundTrip.{read-loaded, read-valid}
 use Rattle.arrivals.specs.Computed.{leading}
 use Rattle.arrivals.specs.Table.{crowded, arrivalRow, arrivalTable, SearchEnd, searchOn}
@@ -122,9 +123,6 @@ room-fits s n e =
     let d = div-add-mod' (usable 5 n) 5 in
     (omega (arith, h, d, usable-most 5 n .1), omega (arith, h, d))
 
-pub filled-length : (m : ℕ) (l : List ℕ) → length l ≤ m → length (filled m l) ≡ m
-filled-length m l h = omega (arith, length-append l (replicate (m - length l) 0), length-replicate {A = ℕ} (m - length l) 0)
-
 -- the table, once t stands for its first m numbers and zeros past them
 abbrev pub clearedPast : ℕ → List ℕ → List ℕ → List ℕ
 clearedPast m table t = let u = t ++ drop m table in take m u ++ replicate (length u - m) 0
@@ -132,7 +130,7 @@ clearedPast m table t = let u = t ++ drop m table in take m u ++ replicate (leng
 cleared-past : (m : ℕ) (table t l : List ℕ) → m ≤ length table → length l ≤ m → t ≡ filled m l → clearedPast m table t ≡ filled (length table) l
 cleared-past m table t l k h e =
     let n = length table in
-    let f : length t ≡ m = ap length e ∙ filled-length m l h in
+    let f : length t ≡ m = ap length e ∙ length-filled m l h in
     let z : length (t ++ drop m table) - m ≡ n - m = omega (arith, length-append t (drop m table), length-drop m table) in
     ap₂ (λ (a : List ℕ) (i : ℕ). a ++ replicate i 0) (take-at t (drop m table) m f) z
     ∙ ap (λ (a : List ℕ). a ++ replicate (n - m) 0) e
@@ -166,7 +164,7 @@ search-is s m table b k t u q = go (crowded s (length (take m table))) refl q
     go true c p =
         let f : t ≡ filled m [] = ap (λ (r : SearchEnd). r .table) p ∙ ap (λ (i : ℕ). filled i []) size in
         record {
-          size = ap length f ∙ filled-length m [] (omega arith);
+          size = ap length f ∙ length-filled m [] (omega arith);
           when-full = λ o. (room true c, cleared-past m table t [] fits (omega arith) f);
           when-served = λ o. absurd (true≢false (sym o ∙ ap (λ (r : SearchEnd). r .served) p));
         }
@@ -175,7 +173,7 @@ search-is s m table b k t u q = go (crowded s (length (take m table))) refl q
         let f : t ≡ filled m l = ap (λ (r : SearchEnd). r .table) p ∙ ap (λ (i : ℕ). filled i l) size in
         let h : length l ≤ m = omega (arith, rows-length s, room-fits s (length table) (room false c) .1, u) in
         record {
-          size = ap length f ∙ filled-length m l h;
+          size = ap length f ∙ length-filled m l h;
           when-full = λ o. absurd (true≢false (sym (ap (λ (r : SearchEnd). r .served) p) ∙ o));
           when-served = λ o. (room false c, ap (λ (r : SearchEnd). r .arrivals) p, cleared-past m table t l fits h f);
         }

@@ -1,10 +1,10 @@
 -- Rows of the arrivals table that become a cost by waiting, figure by figure, and the table as the leading arrivals: some row becomes the cost
 -- exactly when it is reached exactly from a leading arrival of that safe interval.
 -- Assumes nothing.
-use mathlib.Core.Path.{_≡_, refl, sym, _∙_, ap, subst}
+use mathlib.Core.Path.{_≡_, sym, _∙_, ap, subst}
 use mathlib.Core.Bool.{Bool, true, false, not, _||_, true≢false}
 use mathlib.Core.List.{List, map}
-use Prim.Native.Nat.{ℕ, zero, suc, _+_, _*_, _-_, _≤_, _<_}
+use Prim.Native.Nat.{ℕ, _+_, _*_, _-_, _≤_, _<_}
 use native.Mathlib.Omega.{arith}
 use lib.Dec.{eqb, ltb}
 use lib.ListN.{length}
@@ -22,40 +22,24 @@ use Rattle.intervals.specs.Laws.Runs.{since-run}
 use Rattle.arrivals.specs.Arrivals.{Arrival, arrival, Leading, waited}
 use Rattle.arrivals.specs.Computed.{leading}
 use Rattle.arrivals.specs.Laws.Leading.{arrival-path, leading-is, is-leading}
+use Rattle.arrivals.specs.Inner.Facts.{Decided, holds, fails, from-length, from-at}
+use Rattle.arrivals.specs.Inner.Rows.{costAt}
 use Rattle.journeys.specs.Inner.{rowOf, Holds}
-use Rattle.journeys.specs.Inner.Walk.{Decided, holds, fails, costAt, Waits, Becomes, BecomesIn}
+use Rattle.journeys.specs.Inner.Walk.{Waits, Becomes, BecomesIn}
 use Rattle.journeys.specs.Laws.Exact.{Exact}
 
 -- the figures of a row
-length-from : (n i : ℕ) (l : List ℕ) → length (numbersFrom n i l) ≡ n
-length-from zero i l = refl
-length-from (suc n) i l = ap suc (length-from n (suc i) l)
-
-fig-from : (n i k : ℕ) (l : List ℕ) → k < n → fig (numbersFrom n i l) k ≡ number l (i + k)
-fig-from zero i k l q = absurd (omega arith)
-fig-from (suc n) i zero l q = let e : i + 0 ≡ i = omega arith in rw e
-fig-from (suc n) i (suc k) l q = let e : i + suc k ≡ suc i + k = omega arith in rw e (fig-from n (suc i) k l (omega arith))
-
 fig-waits : (xs : List ℕ) (k n : ℕ) (w : Cost) (i : ℕ) → i < 3 → fig (add (costAt xs k) (times n w)) i ≡ number xs (k * 5 + 2 + i) + n * fig w i
-fig-waits xs k n w i h = omega (arith, fig-add (costAt xs k) (times n w) i, fig-times n w i, fig-from 3 (k * 5 + 2) i xs h)
+fig-waits xs k n w i h = omega (arith, fig-add (costAt xs k) (times n w) i, fig-times n w i, from-at 3 (k * 5 + 2) xs i h)
 
 pub waits-all : (xs : List ℕ) (k n : ℕ) (w h : Cost) → length w ≡ 3 → length h ≡ 3 → ((i : ℕ) → i < 3 → number xs (k * 5 + 2 + i) + n * fig w i ≡ fig h i) → Waits xs k n w h
 waits-all xs k n w h p q f =
     record {
-      sum = is-same 3 (add (costAt xs k) (times n w)) h (length-add (costAt xs k) (times n w) 3 (length-from 3 (k * 5 + 2) xs) (length-times n w ∙ p)) q (λ i l. fig-waits xs k n w i l ∙ f i l);
+      sum = is-same 3 (add (costAt xs k) (times n w)) h (length-add (costAt xs k) (times n w) 3 (from-length 3 (k * 5 + 2) xs) (length-times n w ∙ p)) q (λ i l. fig-waits xs k n w i l ∙ f i l);
     }
 
 pub waits-at : (xs : List ℕ) (k n : ℕ) (w h : Cost) → Waits xs k n w h → (i : ℕ) → i < 3 → number xs (k * 5 + 2 + i) + n * fig w i ≡ fig h i
 waits-at xs k n w h x i l = sym (fig-waits xs k n w i l) ∙ ap (λ (y : Cost). fig y i) (x .sum)
-
--- what a test tells
-pub yes-of : {P : Type 0} {b : Bool} → Decided P b → b ≡ true → P
-yes-of (holds p) e = p
-yes-of (fails n) e = absurd (true≢false (sym e))
-
-pub no-of : {P : Type 0} {b : Bool} → Decided P b → b ≡ false → P → ⊥
-no-of (holds p) e q = true≢false e
-no-of (fails n) e q = n q
 
 -- row k is at another place, or at a step outside
 module _ (xs : List ℕ) (u low t : ℕ) (w h : Cost) (k : ℕ) where
@@ -82,7 +66,7 @@ rowAt xs k = arrival (number xs (k * 5)) (number xs (k * 5 + 1)) (costAt xs k)
 row-at : (xs : List ℕ) (k : ℕ) → rowOf (row 5 xs k) ≡ rowAt xs k
 row-at xs k =
     arrival-path (rowOf (row 5 xs k)) (rowAt xs k) (row-number 5 xs k 0 (omega arith) ∙ ap (number xs) e) (row-number 5 xs k 1 (omega arith))
-    (is-same 3 (numbersFrom 3 2 (row 5 xs k)) (costAt xs k) (length-from 3 2 (row 5 xs k)) (length-from 3 (k * 5 + 2) xs) each)
+    (is-same 3 (numbersFrom 3 2 (row 5 xs k)) (costAt xs k) (from-length 3 2 (row 5 xs k)) (from-length 3 (k * 5 + 2) xs) each)
   where
     e : k * 5 + 0 ≡ k * 5
     e = omega arith
@@ -90,7 +74,7 @@ row-at xs k =
     each : (i : ℕ) → i < 3 → fig (numbersFrom 3 2 (row 5 xs k)) i ≡ fig (costAt xs k) i
     each i h =
         let d : k * 5 + (2 + i) ≡ k * 5 + 2 + i = omega arith in
-        fig-from 3 2 i (row 5 xs k) h ∙ row-number 5 xs k (2 + i) (omega arith) ∙ ap (number xs) d ∙ sym (fig-from 3 (k * 5 + 2) i xs h)
+        from-at 3 2 (row 5 xs k) i h ∙ row-number 5 xs k (2 + i) (omega arith) ∙ ap (number xs) d ∙ sym (from-at 3 (k * 5 + 2) xs i h)
 
 row-leads : (s : Sheet) (n : ℕ) (xs : List ℕ) → Holds s n xs → (k : ℕ) → k < n → Leading s (rowAt xs k)
 row-leads s n xs t k h =

@@ -8,11 +8,11 @@ use Prim.Native.Nat.{ℕ, _*_, _-_, _≤_}
 use native.Mathlib.Omega.{arith}
 use lib.ListN.{length, replicate, length-append}
 use Rattle.sheet.specs.Lists.{bind}
+use Rattle.arrivals.specs.Inner.Facts.{Decided, holds, fails}
 use Rattle.journeys.specs.Computed.{front}
 use Rattle.journeys.specs.Calls.{frontRow, FrontEnd, frontEnd, frontServed, frontCall}
 use Rattle.journeys.specs.Demand3.{SameLists, CanMeet, BothSame, ComparedIs}
 use Rattle.journeys.specs.Inner.{SameRows}
-use Rattle.journeys.specs.Inner.Walk.{Decided, holds, fails}
 use Rattle.journeys.specs.declared.FrontAnswer.{FrontAnswer}
 use Rattle.journeys.specs.Laws.Served.{served, list-length}
 use Rattle.journeys.specs.Laws.Demand3.{demand-3}

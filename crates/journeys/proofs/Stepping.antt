@@ -31,8 +31,9 @@ use Rattle.arrivals.specs.Arrivals.{arrival}
 use Rattle.arrivals.specs.Laws.Leading.{arrives-free, arrives-three}
 use Rattle.arrivals.specs.Laws.Steps.{arrives-back}
 use Rattle.arrivals.specs.Laws.Bounds.{move-once}
+use Rattle.arrivals.specs.Inner.Facts.{Decided, holds, fails}
 use Rattle.journeys.specs.Inner.{Walks}
-use Rattle.journeys.specs.Inner.Walk.{Decided, holds, fails, BecomesIn, MoveFound, MoveIs, Readable, OnWay, Steps, asBack, StepFound, StepIs, LowestStep, BeforeIs}
+use Rattle.journeys.specs.Inner.Walk.{BecomesIn, MoveFound, MoveIs, Readable, OnWay, Steps, asBack, StepFound, StepIs, LowestStep, BeforeIs}
 use Rattle.journeys.specs.declared.walk.Back as back
 use Rattle.journeys.specs.Laws.Exact.{Towards, towards-back, Exact, exact-arrives, arrives-exact}
 use Rattle.journeys.proofs.Rowwise.{becomes-exact, exact-becomes}

@@ -7,16 +7,16 @@ ghost use Rattle.sheet.specs.Lists.{filled};
 ghost use Rattle.sheet.specs.Calls.{sheetOfGroups};
 ghost use Rattle.journeys.specs.Computed.{journeyOf};
 ghost use Rattle.journeys.specs.Inner.{Layable};
-ghost use Rattle.journeys.specs.Calls.{frontEnd, frontRefused, frontCall, journeyEnd, journeyRefused, journeyCall};
+ghost use Rattle.journeys.specs.Calls.{cleared, frontEnd, frontRefused, frontCall, journeyEnd, journeyRefused, journeyCall};
 use crate::FrontAnswer;
 use crate::JourneyAnswer;
-use crate::offered::clear_from;
 use crate::offered::count_costs;
 use crate::offered::list_costs;
 use crate::offered::nth_cost;
 use crate::prepare::prepare;
 use crate::prepare::usable_of;
 use crate::walk::walk_back;
+use arrivals::cells::clear_from;
 use intervals::fill_since;
 
 // A refusal: its number, its line, and zeros.
@@ -69,6 +69,14 @@ fn refuse_journey(number: u32, line: u32) -> JourneyAnswer
     }
 }
 
+// A refusal once the sheet was searched: its number and zeros, and zeros in the arrivals table.
+fn refuse_searched(number: u32, arrivals: &mut [u32]) -> JourneyAnswer
+    ensures { λ r. ⌜ (r ≡ journeyRefused number 0 [] [] .answer) × (now (arrivals .exit) ≡ cleared (now (arrivals .entry))) ⌝ }
+{
+    clear_from(arrivals, 0);
+    refuse_journey(number, 0)
+}
+
 // Writes the places of the journey of the front cost `cost`, which arrives at step `arrival`, for each step from 0 on, then zeros.
 fn lay_path(
     head: &[u32],
@@ -103,13 +111,11 @@ pub fn journey(sheet: &[u8], number: u32, table: &mut [u32], path: &mut [u32]) -
     let n = p.arrivals;
     let o = nth_cost(table, n, head[3], head[1], number as usize);
     if !o.found {
-        clear_from(table, 0);
-        return refuse_journey(10, 0);
+        return refuse_searched(10, table);
     }
     let arrival = o.step;
     if path.len() <= arrival as usize {
-        clear_from(table, 0);
-        return refuse_journey(11, 0);
+        return refuse_searched(11, table);
     }
     let cost = o.cost;
     let cs = s.corridors;

@@ -2,13 +2,14 @@
 ghost use mathlib.Core.Path.{_≡_};
 ghost use mathlib.Core.Bool.{false};
 ghost use mathlib.Core.List.{_∷_, [], _++_};
-ghost use Prim.Native.Nat.{_+_, _*_, _-_, _≤_, _<_};
-ghost use lib.ListN.{length, take, replicate};
+ghost use Prim.Native.Nat.{_+_, _*_, _≤_, _<_};
+ghost use lib.ListN.{length};
 ghost use lib.Seq.{sets};
-ghost use Rattle.sheet.specs.Lists.{numbersFrom, filled};
-ghost use Rattle.costs.specs.Costs.{figures};
+ghost use Rattle.sheet.specs.Lists.{filled};
 ghost use Rattle.journeys.specs.Computed.{undominatedb, frontOf};
 ghost use Rattle.journeys.specs.Inner.{goalRows, costsOf, asOffered, above, below, BestUpTo, NextIs, NumberIs, offeredRows};
+use arrivals::cells::clear_from;
+use arrivals::cells::row_cost;
 use costs::before;
 use costs::dominates;
 
@@ -28,18 +29,6 @@ fn no_cost() -> Offered
         cost: [0; 3],
         step: 0,
     }
-}
-
-// The cost in row k.
-pub fn row_cost(table: &[u32], k: usize) -> [u32; 3]
-    requires { ⌜ (k ≤ 1000000000000000000) × (k * 5 + 5 ≤ length (now table)) ⌝ }
-    ensures { λ r. ⌜ r ≡ numbersFrom figures (k * 5 + 2) (now (table .entry)) ⌝ }
-{
-    let mut r = [0; 3];
-    for i in 0..3 {
-        r[i] = table[k * 5 + 2 + i];
-    }
-    r
 }
 
 // Whether no arrival at place v, at a step up to `last`, in the first n rows dominates g.
@@ -184,16 +173,4 @@ pub fn list_costs(table: &[u32], n: usize, v: u32, last: u32, list: &mut [u32])
         i += 1;
     }
     clear_from(list, i * 4);
-}
-
-// Zeros from position `from` on.
-pub fn clear_from(list: &mut [u32], from: usize)
-    requires { ⌜ from ≤ length (now list) ⌝ }
-    ensures { λ _. ⌜ now (list .exit) ≡ take from (now (list .entry)) ++ replicate (length (now (list .entry)) - from) 0 ⌝ }
-{
-    let mut i = from;
-    while i < list.len() {
-        list[i] = 0;
-        i += 1;
-    }
 }

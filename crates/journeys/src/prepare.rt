@@ -3,7 +3,7 @@ ghost use mathlib.Core.Path.{_≡_};
 ghost use Prim.Native.Nat.{ℕ, _≤_};
 ghost use Rattle.journeys.specs.Calls.{usable};
 ghost use Rattle.journeys.specs.Inner.{PreparedIs};
-use crate::offered::clear_from;
+use arrivals::cells::clear_from;
 use arrivals::search;
 use sheet::SheetRead;
 use sheet::reader::read;

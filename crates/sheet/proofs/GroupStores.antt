@@ -20,11 +20,11 @@ use Rattle.sheet.specs.Inner.{kindAt, lineAt, Stored, Storable, Stores}
 use Rattle.sheet.specs.Laws.Members.{mem-append, filter-mem, map-mem}
 use Rattle.sheet.specs.Laws.Shape.{Shaped, AllShaped}
 use Rattle.sheet.specs.Laws.Rows.{Wide, flat-length}
+use Rattle.sheet.specs.Laws.Stores.{sets-filled, length-filled}
 use Rattle.sheet.specs.Laws.Passed.{fault-passed}
 use Rattle.sheet.specs.Laws.Groups.{group-append, group-own, group-other, kind-by-order}
 use Rattle.sheet.proofs.Three.{three}
 use Rattle.sheet.proofs.KindFacts.{kind-known, order-at, width-small}
-use Rattle.sheet.proofs.Stores.{sets-filled, length-filled}
 
 -- the numbers of the most lines of the kind with number k
 abbrev pub size : ℕ → ℕ

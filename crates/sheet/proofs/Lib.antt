@@ -7,7 +7,6 @@ pub mod LineLaws
 pub mod KindFacts
 pub mod Passing
 pub mod Tallies
-pub mod Stores
 pub mod GroupStores
 pub mod JudgeSteps
 pub mod Reading

@@ -15,8 +15,8 @@ use Rattle.sheet.specs.Lines.{line}
 use Rattle.sheet.specs.Text.{numberText, lineText}
 use Rattle.sheet.specs.Calls.{width}
 use Rattle.sheet.specs.Inner.{kindAt, groupText}
+use Rattle.sheet.specs.Laws.Stores.{sets-append}
 use Rattle.sheet.proofs.Three.{three}
-use Rattle.sheet.proofs.Stores.{sets-append}
 
 -- the text of numbers, each with its comma
 abbrev pub numbersText : List ℕ → List ℕ

@@ -10,7 +10,7 @@ use lib.Seq.{take-suc, length-take-le}
 use borrow.Author.Tests.{lt-ltb, le-ltb}
 use Rattle.sheet.specs.Lists.{filled}
 use Rattle.sheet.specs.Decimal.{digitsOf}
-use Rattle.sheet.proofs.Stores.{sets-filled}
+use Rattle.sheet.specs.Laws.Stores.{sets-filled}
 
 pub digits-none : (k n : ℕ) → k ≡ 0 → digitsOf k n ≡ []
 unfolding digitsOf

@@ -2,6 +2,7 @@ pub mod Order
 pub mod Members
 pub mod Ascending
 pub mod Rows
+pub mod Stores
 pub mod Judge
 pub mod Shape
 pub mod Decimal

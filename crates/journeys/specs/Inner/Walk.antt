@@ -1,32 +1,23 @@
 -- What the functions of the walk back promise each other. No exported contract cites this file.
 use mathlib.Core.Path.{_≡_}
-use mathlib.Core.Bool.{Bool, true, false}
 use mathlib.Core.List.{List, _∷_, reverse}
 use mathlib.Core.Option.{Option, some, none}
 use Prim.Native.Nat.{ℕ, suc, _*_, _+_, _-_, _≤_, _<_, _%_}
 use lib.ListN.{length}
 use lib.Seq.{sets}
-use Rattle.sheet.specs.Lists.{pick, number, numbersFrom}
+use Rattle.sheet.specs.Lists.{pick, number}
 use Rattle.sheet.specs.Sheet.{Sheet, places, goal}
 use Rattle.sheet.specs.Valid.{Valid}
 use Rattle.sheet.specs.Kinds.{kindC}
 use Rattle.sheet.specs.Calls.{groupRows}
-use Rattle.costs.specs.Costs.{Cost, figures, add, times}
+use Rattle.costs.specs.Costs.{Cost, add, times}
 use Rattle.arrivals.specs.Ways.{Move}
 use Rattle.arrivals.specs.Arrivals.{arrival, Arrives}
+use Rattle.arrivals.specs.Inner.Rows.{costAt}
 use Rattle.journeys.specs.Inner.{Walks}
 use Rattle.journeys.specs.Laws.Exact.{Towards}
 use Rattle.journeys.specs.Laws.Tie.{Chain}
 use Rattle.journeys.specs.declared.walk.Back.{Back}
-
--- the test r tells whether P holds
-pub data Decided (P : Type 0) : Bool → Type 0 where
-  holds : P → Decided P true
-  fails : (P → ⊥) → Decided P false
-
--- the cost in row k of a table
-abbrev pub costAt : List ℕ → ℕ → Cost
-costAt xs k = numbersFrom figures (k * 5 + 2) xs
 
 -- the cost in row k becomes h by n steps of waiting at cost w
 pub record Waits (xs : List ℕ) (k n : ℕ) (w h : Cost) : Type 0 where

@@ -40,40 +40,36 @@ nth-cost-requires c κs =
     let p = prepared-ready (a .sheet .now) (a .table .now) (q .last .1 .0) (q .result) (q .ensures) (c .before .before .before .if1 .left) in
     (omega (arith, p .few), p .holds .room)
 
-clear-from-requires : tie.Need-clear-from-requires
-clear-from-requires c κs = search needs
-
-refuse-journey-requires-2 : tie.Need-refuse-journey-requires-2
-refuse-journey-requires-2 c κs = search needs
+refuse-searched-requires : tie.Need-refuse-searched-requires
+refuse-searched-requires c κs = search needs
 
 same-length-2 : tie.Need-same-length-2
 same-length-2 c = search needs
 
 returns-2 : tie.Need-returns-2
 returns-2 c =
-    let q = c .before .before .before .before .before .before .before .before .before .before .before .before .before .before .before .prepare in
-    let a = c .before .before .before .before .before .before .before .before .before .before .before .before .before .before .before .before .before .before .before .before .args in
-    let p = prepared-ready (a .sheet .now) (a .table .now) (q .last .1 .0) (q .result) (q .ensures) (c .before .before .before .before .before .before .before .before .before .before .before .if1 .left) in
-    journey-ten (a .sheet .now) (a .number) (a .table .now) (a .path .now) (q .last .1 .0) (q .result) p (c .before .before .before .before .before .before .before .nth-cost .result) (c .before .before .before .before .before .before .before .nth-cost .ensures) (c .refuse-journey2 .result) (c .before .before .before .clear-from .last .0) (c .refuse-journey2 .ensures) (c .before .before .before .clear-from .ensures) (not-true _ (c .before .before .before .before .before .if2 .taken))
+    let q = c .before .before .before .before .before .before .before .before .before .before .before .before .before .before .prepare in
+    let a = c .before .before .before .before .before .before .before .before .before .before .before .before .before .before .before .before .before .before .before .args in
+    let p = prepared-ready (a .sheet .now) (a .table .now) (q .last .1 .0) (q .result) (q .ensures) (c .before .before .before .before .before .before .before .before .before .before .if1 .left) in
+    let r = c .before .before .refuse-searched in
+    journey-ten (a .sheet .now) (a .number) (a .table .now) (a .path .now) (q .last .1 .0) (q .result) p (c .before .before .before .before .before .before .nth-cost .result) (c .before .before .before .before .before .before .nth-cost .ensures) (r .result) (r .last .1 .0) (r .ensures .0) (r .ensures .1) (not-true _ (c .before .before .before .before .if2 .taken))
 
 cast-if3 : tie.Need-cast-if3
 cast-if3 c = search needs
 
-clear-from-requires-2 : tie.Need-clear-from-requires-2
-clear-from-requires-2 c κs = search needs
-
-refuse-journey-requires-3 : tie.Need-refuse-journey-requires-3
-refuse-journey-requires-3 c κs = search needs
+refuse-searched-requires-2 : tie.Need-refuse-searched-requires-2
+refuse-searched-requires-2 c κs = search needs
 
 same-length-3 : tie.Need-same-length-3
 same-length-3 c = search needs
 
 returns-3 : tie.Need-returns-3
 returns-3 c =
-    let q = c .before .before .before .before .before .before .before .before .before .before .before .before .before .before .before .before .prepare in
-    let a = c .before .before .before .before .before .before .before .before .before .before .before .before .before .before .before .before .before .before .before .before .before .args in
-    let p = prepared-ready (a .sheet .now) (a .table .now) (q .last .1 .0) (q .result) (q .ensures) (c .before .before .before .before .before .before .before .before .before .before .before .before .if1 .left) in
-    journey-eleven (a .sheet .now) (a .number) (a .table .now) (a .path .now) (q .last .1 .0) (q .result) p (c .before .before .before .before .before .before .before .before .nth-cost .result) (c .before .before .before .before .before .before .before .before .nth-cost .ensures) (c .refuse-journey3 .result) (c .before .before .before .clear-from2 .last .0) (c .refuse-journey3 .ensures) (c .before .before .before .clear-from2 .ensures) (not-false _ (c .before .before .before .before .before .before .if2 .left)) (c .before .before .before .before .before .if3 .taken)
+    let q = c .before .before .before .before .before .before .before .before .before .before .before .before .before .before .before .prepare in
+    let a = c .before .before .before .before .before .before .before .before .before .before .before .before .before .before .before .before .before .before .before .before .args in
+    let p = prepared-ready (a .sheet .now) (a .table .now) (q .last .1 .0) (q .result) (q .ensures) (c .before .before .before .before .before .before .before .before .before .before .before .if1 .left) in
+    let r = c .before .before .refuse-searched2 in
+    journey-eleven (a .sheet .now) (a .number) (a .table .now) (a .path .now) (q .last .1 .0) (q .result) p (c .before .before .before .before .before .before .before .nth-cost .result) (c .before .before .before .before .before .before .before .nth-cost .ensures) (r .result) (r .last .1 .0) (r .ensures .0) (r .ensures .1) (not-false _ (c .before .before .before .before .before .if2 .left)) (c .before .before .before .before .if3 .taken)
 
 array-read-c : tie.Need-array-read-c
 array-read-c c = search needs
@@ -176,13 +172,11 @@ journey-spec =
     array-read-nth-cost
     array-read-nth-cost-2
     nth-cost-requires
-    clear-from-requires
-    refuse-journey-requires-2
+    refuse-searched-requires
     same-length-2
     returns-2
     cast-if3
-    clear-from-requires-2
-    refuse-journey-requires-3
+    refuse-searched-requires-2
     same-length-3
     returns-3
     array-read-c

@@ -2,7 +2,7 @@
 -- Assumes nothing.
 use native.Mathlib.Omega.{arith}
 use borrow.Author.Needs.{needs}
-use Rattle.journeys.specs.Inner.Walk.{fails}
+use Rattle.arrivals.specs.Inner.Facts.{fails}
 use Rattle.journeys.proofs.Sameness.{both-decided}
 use Rattle.journeys.proofs.compare.both_same.Statement.{statement}
 use Rattle.journeys.proofs.compare.both_same.Tie as tie
@@ -22,7 +22,7 @@ cast-same-costs c = search needs
 same-costs-requires : tie.Need-same-costs-requires
 same-costs-requires c κs =
     let s = c .before .before .before .before .before .before .before .before .before .before in
-    (s .pre .0 (c .before .before .before .before .before .before .if1 .left), omega (arith, s .pre .1 (c .before .before .before .before .if2 .left), c .before .if3 .left))
+    (omega (arith, s .pre .0 (c .before .before .before .before .before .before .if1 .left)), omega (arith, s .pre .1 (c .before .before .before .before .if2 .left), c .before .if3 .left))
 
 returns-4 : tie.Need-returns-4
 returns-4 c = both-decided _ _ _ (c .before .before .before .before .before .before .before .if1 .left) (c .before .before .before .before .before .if2 .left) (c .before .before .if3 .left) (c .same-costs .ensures)

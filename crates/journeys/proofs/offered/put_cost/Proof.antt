@@ -7,7 +7,7 @@ use native.Mathlib.Omega.{arith}
 use lib.ListN.{length, take, set, length-set}
 use lib.Seq.{sets, length-sets, take-all}
 use borrow.Author.Needs.{needs}
-use Rattle.journeys.proofs.Stores.{sets-more, sets-append}
+use Rattle.sheet.specs.Laws.Stores.{sets-append, sets-more}
 use Rattle.journeys.proofs.offered.put_cost.Statement.{statement}
 use Rattle.journeys.proofs.offered.put_cost.Tie as tie
 

@@ -6,7 +6,7 @@ use native.Mathlib.Omega.{arith}
 use lib.ListN.{length, take}
 use lib.Seq.{sets, length-sets}
 use borrow.Author.Needs.{needs}
-use Rattle.sheet.proofs.Stores.{sets-more}
+use Rattle.sheet.specs.Laws.Stores.{sets-more}
 use Rattle.sheet.proofs.reader.store.Statement.{statement}
 use Rattle.sheet.proofs.reader.store.Tie as tie
 

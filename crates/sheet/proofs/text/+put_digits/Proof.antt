@@ -4,7 +4,7 @@ use mathlib.Core.Path.{refl, ap}
 use native.Mathlib.Omega.{arith}
 use native.Mathlib.Nat.{add-zero}
 use lib.ListN.{length, length-set}
-use Rattle.sheet.proofs.Stores.{sets-append}
+use Rattle.sheet.specs.Laws.Stores.{sets-append}
 use Rattle.sheet.proofs.Written.{digits-none, digits-small, digits-big, digits-big-length}
 use Prim.Native.Nat.{ℕ, _<_}
 use borrow.Fn.Kinds.{In}

@@ -12,7 +12,7 @@ use Rattle.sheet.specs.Lines.{line}
 use Rattle.sheet.specs.Text.{lineText}
 use Rattle.sheet.specs.Calls.{width}
 use Rattle.sheet.specs.Inner.{kindAt, groupText}
-use Rattle.sheet.proofs.Stores.{sets-append}
+use Rattle.sheet.specs.Laws.Stores.{sets-append}
 use Rattle.sheet.proofs.PutText.{left, left-none, left-more, left-length, left-fits}
 use Rattle.sheet.proofs.text.put_group.Statement.{statement}
 use Rattle.sheet.proofs.text.put_group.Tie as tie

@@ -10,7 +10,7 @@ use Rattle.sheet.specs.Lines.{line}
 use Rattle.sheet.specs.Text.{lineText}
 use Rattle.sheet.specs.Calls.{width}
 use Rattle.sheet.specs.Inner.{kindAt}
-use Rattle.sheet.proofs.Stores.{sets-append}
+use Rattle.sheet.specs.Laws.Stores.{sets-append}
 use Rattle.sheet.proofs.PutText.{numbersText, numbers-more, numbers-more-length, numbers-room, line-length, line-sets}
 use Rattle.sheet.proofs.text.put_line.Statement.{statement}
 use Rattle.sheet.proofs.text.put_line.Tie as tie

@@ -1,5 +1,4 @@
--- Runs of stores: one run right after another, one store more of a run, and a run into a group that is padded with zeros.
--- Assumes nothing.
+-- Laws of runs of stores: one run right after another, one store more of a run, and a run into a group that is padded with zeros.
 use mathlib.Core.Path.{_≡_, refl, sym, _∙_, ap}
 use mathlib.Core.List.{List, [], _∷_, _++_}
 use Prim.Native.Nat.{ℕ, zero, suc, _+_, _-_, _≤_, _<_}
