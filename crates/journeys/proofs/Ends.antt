@@ -22,7 +22,7 @@ use Rattle.arrivals.specs.Computed.{leading}
 use Rattle.journeys.specs.Computed.{journeyOf, arrivalOf, front, frontOf}
 use Rattle.journeys.specs.Front.{OnFront}
 use Rattle.journeys.specs.Calls.{usable, mostRows, noRoom, cleared, frontRow, frontRoom, overfull, frontEnd, frontRefused, frontServed, frontOn, frontCall, journeyEnd, journeyRefused, tooShort, journeyServed, journeyOn, journeyCall}
-use Rattle.journeys.specs.Inner.{goalRows, costsOf, firstStep, offeredRows, NumberIs, Holds, Layable, ReadyOn, RefusedAs, PreparedIs, unread, full, ready}
+use Rattle.journeys.specs.Inner.{goalRows, costsOf, firstStep, offeredRows, NumberIs, Holds, Layable, LaysOut, LaidOut, ReadyOn, RefusedAs, PreparedIs, unread, full, ready}
 use Rattle.journeys.specs.declared.FrontAnswer.{FrontAnswer}
 use Rattle.journeys.specs.declared.JourneyAnswer.{JourneyAnswer}
 use Rattle.journeys.specs.declared.offered.Offered.{Offered}
@@ -90,17 +90,13 @@ prepared-refused end call b table table′ r p z f g = go p
     go (full s q c e) = same 8 0 (cleared table) e ∙ sym (g s q c)
     go (ready s q c o) = absurd (z (o .served))
 
--- the sheet, off its groups
-abbrev pub sheetOf : Prepared → Sheet
-sheetOf r = sheetOfGroups (r .sheet .head) (part 5 (number (r .sheet .lines) 1) (r .sheet .corridors)) (part 3 (number (r .sheet .lines) 2) (r .sheet .occupancies))
-
 -- the arrivals at the goal, off the table
 abbrev pub offers : Prepared → List ℕ → List Arrival
-offers r t = goalRows (number (r .sheet .head) 3) (number (r .sheet .head) 1) (r .arrivals) t
+offers r t = goalRows (r .goal) (r .last) (r .arrivals) t
 
 offers-are : (b table table′ : List ℕ) (r : Prepared) (p : ReadyIs b table table′ r)
     → offers r table′ ≡ goalRows (goal (p .sheet)) (steps (p .sheet)) (r .arrivals) table′
-offers-are b table table′ r p = ap (λ (h : List ℕ). goalRows (number h 3) (number h 1) (r .arrivals) table′) (p .groups .head-is)
+offers-are b table table′ r p = ap₂ (λ (v t : ℕ). goalRows v t (r .arrivals) table′) (p .on .goal-is) (p .on .last-is)
 
 pub front-off : (b table table′ : List ℕ) (r : Prepared) (p : ReadyIs b table table′ r) → frontOf (costsOf (offers r table′)) ≡ front (p .sheet)
 front-off b table table′ r p =
@@ -252,19 +248,33 @@ module _ (b : List ℕ) (i : ℕ) (table path : List ℕ) where
           ap₂ (λ (x : JourneyAnswer) (y : List ℕ). journeyEnd x y path) e (f ∙ ap (λ (n : ℕ). filled n []) (p .same-length))
           ∙ sym (journey-short (p .sheet) (o .cost) (p .reads) (p .room) (k .below) (k .cost-is) (omega (arith, l, k .journey-long)))
 
-      pub journey-end : (l : List ℕ) → o .found ≡ true → o .step < length path → l ≡ filled (length path) (journeyOf (sheetOf r) (o .cost))
+      pub journey-end : (l : List ℕ) → o .found ≡ true → o .step < length path → LaidOut r (o .cost) path l
           → journeyEnd (record { refusal = 0; line = 0; cost = o .cost; arrival = o .step }) table′ l ≡ journeyCall b i table path
       unfolding journeyServed
       journey-end l z m e =
           let k = found-on b table table′ r p i o h z in
-          let f : l ≡ filled (length path) (journeyOf (p .sheet) (o .cost)) = e ∙ ap (λ (s : Sheet). filled (length path) (journeyOf s (o .cost))) (groups-sheet (p .sheet) (r .sheet) (p .groups)) in
+          let f = e .of (p .sheet) (p .valid) (p .on .read-sheet) in
           rw (journey-fits (p .sheet) (o .cost) (p .reads) (p .room) (k .below) (k .cost-is) (omega (arith, m, k .journey-long)), p .on .filled-table, f, k .step-is)
 
 -- the journey of a cost that was found, where the path buffer has room for it
 pub layable : (b table table′ : List ℕ) (r : Prepared) (p : ReadyIs b table table′ r) (i : ℕ) (o : Offered) → NumberIs (offers r table′) i o → (path : List ℕ) → o .found ≡ true
-    → o .step < length path → Layable (sheetOf r) (r .arrivals) table′ (o .step) (o .cost) path
+    → o .step < length path → LaysOut r table′ (o .step) (o .cost) path
 layable b table table′ r p i o h path z l =
     let k = found-on b table table′ r p i o h z in
-    let e = groups-sheet (p .sheet) (r .sheet) (p .groups) in
-    subst (λ (s : Sheet). Layable s (r .arrivals) table′ (o .step) (o .cost) path) (sym e)
-    (record { valid = p .valid; holds = p .holds; on-front = k .on-front; arrives-at = k .step-is; room = omega (arith, l) })
+    record { sheet = p .sheet; read-sheet = p .on .read-sheet; lays = record { valid = p .valid; holds = p .holds; on-front = k .on-front; arrives-at = k .step-is; room = omega (arith, l) } }
+
+-- the groups of the sheet that was prepared
+pub laid-groups : {r : Prepared} {table : List ℕ} {A : ℕ} {f : Cost} {path : List ℕ} (w : LaysOut r table A f path) → GroupsOf (w .sheet) (r .sheet)
+laid-groups {r} w = groups-of (w .sheet) (r .sheet) (w .lays .valid) (w .read-sheet)
+
+-- the sheet, off its groups
+abbrev pub sheetOf : Prepared → Sheet
+sheetOf r = sheetOfGroups (r .sheet .head) (part 5 (number (r .sheet .lines) 1) (r .sheet .corridors)) (part 3 (number (r .sheet .lines) 2) (r .sheet .occupancies))
+
+pub layable-groups : {r : Prepared} {table : List ℕ} {A : ℕ} {f : Cost} {path : List ℕ} (w : LaysOut r table A f path) → Layable (sheetOf r) (r .arrivals) table A f path
+layable-groups {r} {table} {A} {f} {path} w =
+    subst (λ (s : Sheet). Layable s (r .arrivals) table A f path) (sym (groups-sheet (w .sheet) (r .sheet) (laid-groups w))) (w .lays)
+
+pub laid-out : (r : Prepared) (f : Cost) (path path′ : List ℕ) → path′ ≡ filled (length path) (journeyOf (sheetOf r) f) → LaidOut r f path path′
+laid-out r f path path′ e =
+    record { of = λ s v q. e ∙ ap (λ (x : Sheet). filled (length path) (journeyOf x f)) (groups-sheet s (r .sheet) (groups-of s (r .sheet) v q)) }

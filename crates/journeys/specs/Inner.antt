@@ -7,8 +7,8 @@ use Prim.Native.Nat.{ℕ, suc, _*_, _+_, _≤_, _<_, _%_}
 use lib.Dec.{eqb, leb}
 use lib.ListN.{length, getD}
 use lib.Seq.{sets}
-use Rattle.sheet.specs.Lists.{_∈_, pick, number, numbersFrom, rows, filter, bind, lexb}
-use Rattle.sheet.specs.Sheet.{Sheet, refused, loaded, readOf}
+use Rattle.sheet.specs.Lists.{_∈_, pick, number, numbersFrom, rows, filter, bind, lexb, filled}
+use Rattle.sheet.specs.Sheet.{Sheet, refused, loaded, readOf, goal, steps}
 use Rattle.sheet.specs.Valid.{Valid}
 use Rattle.sheet.specs.Kinds.{kindC}
 use Rattle.sheet.specs.Calls.{groupRows, readAnswer}
@@ -132,7 +132,19 @@ pub record ReadyOn (s : Sheet) (table table′ : List ℕ) (r : Prepared) : Type
   pub served : r .refusal ≡ 0
   pub filled-table : table′ ≡ arrivalTable s (length table)
   pub counted : r .arrivals ≡ length (leading s)
+  pub goal-is : r .goal ≡ goal s
+  pub last-is : r .last ≡ steps s
   pub read-sheet : r .sheet ≡ readAnswer (loaded s)
+
+-- the sheet that was prepared can be laid out so
+pub record LaysOut (r : Prepared) (table : List ℕ) (A : ℕ) (f : Cost) (path : List ℕ) : Type 0 where
+  pub sheet : Sheet
+  pub read-sheet : r .sheet ≡ readAnswer (loaded sheet)
+  pub lays : Layable sheet (r .arrivals) table A f path
+
+-- the path buffer holds the journey of the cost f on the sheet that was prepared, then zeros
+pub record LaidOut (r : Prepared) (f : Cost) (path path′ : List ℕ) : Type 0 where
+  pub of : (s : Sheet) → Valid s → r .sheet ≡ readAnswer (loaded s) → path′ ≡ filled (length path) (journeyOf s f)
 
 -- a refusal, which leaves table′ behind
 pub record RefusedAs (k n : ℕ) (table′ : List ℕ) (r : Prepared) (t : List ℕ) : Type 0 where

@@ -6,13 +6,14 @@ ghost use lib.ListN.{length};
 ghost use Rattle.sheet.specs.Lists.{filled};
 ghost use Rattle.sheet.specs.Calls.{sheetOfGroups};
 ghost use Rattle.journeys.specs.Computed.{journeyOf};
-ghost use Rattle.journeys.specs.Inner.{Layable};
+ghost use Rattle.journeys.specs.Inner.{Layable, LaysOut, LaidOut};
 ghost use Rattle.journeys.specs.Calls.{cleared, frontEnd, frontRefused, frontCall, journeyEnd, journeyRefused, journeyCall};
 use crate::FrontAnswer;
 use crate::JourneyAnswer;
 use crate::offered::count_costs;
 use crate::offered::list_costs;
 use crate::offered::nth_cost;
+use crate::prepare::Prepared;
 use crate::prepare::prepare;
 use crate::prepare::usable_of;
 use crate::walk::walk_back;
@@ -40,15 +41,13 @@ pub fn front(sheet: &[u8], table: &mut [u32], list: &mut [u32]) -> FrontAnswer
     if p.refusal != 0 {
         return refuse_front(p.refusal, p.line);
     }
-    let s = p.sheet;
-    let head = s.head;
     let n = p.arrivals;
-    let costs = count_costs(table, n, head[3], head[1]);
+    let costs = count_costs(table, n, p.goal, p.last);
     if usable_of(list.len(), 4) / 4 < costs {
         clear_from(table, 0);
         return refuse_front(9, 0);
     }
-    list_costs(table, n, head[3], head[1], list);
+    list_costs(table, n, p.goal, p.last, list);
     FrontAnswer {
         refusal: 0,
         line: 0,
@@ -97,6 +96,22 @@ fn lay_path(
     clear_from(path, arrival as usize + 1);
 }
 
+// Writes the journey of a front cost of the sheet that was prepared.
+fn lay_journey(p: Prepared, table: &[u32], arrival: u32, cost: [u32; 3], path: &mut [u32])
+    requires { ⌜ LaysOut p (now table) arrival cost (now path) ⌝ }
+    ensures { λ _. ⌜ LaidOut p cost (now (path .entry)) (now (path .exit)) ⌝ }
+{
+    let s = p.sheet;
+    let head = s.head;
+    let cs = s.corridors;
+    let os = s.occupancies;
+    let lines = s.lines;
+    let c = lines[1] as usize * 5;
+    let q = lines[2] as usize * 3;
+    let n = p.arrivals;
+    lay_path(&head, &cs[..c], &os[..q], table, n, arrival, cost, path);
+}
+
 // The journey with a number in the front, from 0: the path buffer holds one place for each step, then zeros, and the arrivals table is filled; or
 // a refusal, 1 to 8, 10 or 11.
 pub fn journey(sheet: &[u8], number: u32, table: &mut [u32], path: &mut [u32]) -> JourneyAnswer
@@ -106,10 +121,7 @@ pub fn journey(sheet: &[u8], number: u32, table: &mut [u32], path: &mut [u32]) -
     if p.refusal != 0 {
         return refuse_journey(p.refusal, p.line);
     }
-    let s = p.sheet;
-    let head = s.head;
-    let n = p.arrivals;
-    let o = nth_cost(table, n, head[3], head[1], number as usize);
+    let o = nth_cost(table, p.arrivals, p.goal, p.last, number as usize);
     if !o.found {
         return refuse_searched(10, table);
     }
@@ -118,12 +130,7 @@ pub fn journey(sheet: &[u8], number: u32, table: &mut [u32], path: &mut [u32]) -
         return refuse_searched(11, table);
     }
     let cost = o.cost;
-    let cs = s.corridors;
-    let os = s.occupancies;
-    let lines = s.lines;
-    let c = lines[1] as usize * 5;
-    let q = lines[2] as usize * 3;
-    lay_path(&head, &cs[..c], &os[..q], table, n, arrival, cost, path);
+    lay_journey(p, table, arrival, cost, path);
     JourneyAnswer {
         refusal: 0,
         line: 0,

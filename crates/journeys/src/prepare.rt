@@ -8,11 +8,13 @@ use arrivals::search;
 use sheet::SheetRead;
 use sheet::reader::read;
 
-// A sheet with the number of its leading arrivals, which stand in the lent table; or a refusal, 1 to 8.
+// A sheet with the number of its leading arrivals, which stand in the lent table, its goal and its last step; or a refusal, 1 to 8.
 pub struct Prepared {
     pub refusal: u32,
     pub line: u32,
     pub arrivals: usize,
+    pub goal: u32,
+    pub last: u32,
     pub sheet: SheetRead,
 }
 
@@ -38,6 +40,8 @@ pub fn prepare(src: &[u8], table: &mut [u32]) -> Prepared
             refusal: sheet.refusal,
             line: sheet.line,
             arrivals: 0,
+            goal: 0,
+            last: 0,
             sheet,
         };
     }
@@ -55,6 +59,8 @@ pub fn prepare(src: &[u8], table: &mut [u32]) -> Prepared
             refusal: 8,
             line: 0,
             arrivals: 0,
+            goal: 0,
+            last: 0,
             sheet,
         };
     }
@@ -63,6 +69,8 @@ pub fn prepare(src: &[u8], table: &mut [u32]) -> Prepared
         refusal: 0,
         line: 0,
         arrivals,
+        goal: head[3],
+        last: head[1],
         sheet,
     }
 }

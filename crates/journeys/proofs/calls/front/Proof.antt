@@ -25,17 +25,11 @@ returns c =
     let a = c .before .before .before .before .before .before .before .before .before .before .args in
     front-refused (a .sheet .now) (a .table .now) (a .list .now) (q .last .1 .0) (q .result) (c .refuse-front .result) (c .refuse-front .ensures) (q .ensures) (c .before .if1 .taken)
 
-array-read-count-costs : tie.Need-array-read-count-costs
-array-read-count-costs c = search needs
-
-array-read-count-costs-2 : tie.Need-array-read-count-costs-2
-array-read-count-costs-2 c = search needs
-
 count-costs-requires : tie.Need-count-costs-requires
 count-costs-requires c κs =
-    let q = c .before .before .before .before .before .before .before .prepare in
-    let a = c .before .before .before .before .before .before .before .before .before .before .before .before .args in
-    let p = prepared-ready (a .sheet .now) (a .table .now) (q .last .1 .0) (q .result) (q .ensures) (c .before .before .before .if1 .left) in
+    let q = c .before .before .before .before .before .prepare in
+    let a = c .before .before .before .before .before .before .before .before .before .before .args in
+    let p = prepared-ready (a .sheet .now) (a .table .now) (q .last .1 .0) (q .result) (q .ensures) (c .before .if1 .left) in
     (omega (arith, p .few), p .holds .room)
 
 usable-of-requires : tie.Need-usable-of-requires
@@ -52,37 +46,33 @@ same-length-2 c = search needs
 
 returns-2 : tie.Need-returns-2
 returns-2 c =
-    let q = c .before .before .before .before .before .before .before .before .before .before .before .before .before .before .before .prepare in
-    let a = c .before .before .before .before .before .before .before .before .before .before .before .before .before .before .before .before .before .before .before .before .args in
-    let p = prepared-ready (a .sheet .now) (a .table .now) (q .last .1 .0) (q .result) (q .ensures) (c .before .before .before .before .before .before .before .before .before .before .before .if1 .left) in
-    let h = subst (λ (n : ℕ). n / 4 < c .before .before .before .before .before .before .before .count-costs .result) (c .before .before .before .before .before .before .usable-of .ensures) (c .before .before .before .before .before .if2 .taken) in
-    front-nine (a .sheet .now) (a .table .now) (a .list .now) (q .last .1 .0) (q .result) p (c .before .before .before .before .before .before .before .count-costs .result) (c .before .before .before .before .before .before .before .count-costs .ensures) (c .refuse-front2 .result) (c .before .before .before .clear-from .last .0) (c .refuse-front2 .ensures) (c .before .before .before .clear-from .ensures) h
-
-array-read-list-costs : tie.Need-array-read-list-costs
-array-read-list-costs c = search needs
-
-array-read-list-costs-2 : tie.Need-array-read-list-costs-2
-array-read-list-costs-2 c = search needs
+    let q = c .before .before .before .before .before .before .before .before .before .before .before .before .before .prepare in
+    let a = c .before .before .before .before .before .before .before .before .before .before .before .before .before .before .before .before .before .before .args in
+    let p = prepared-ready (a .sheet .now) (a .table .now) (q .last .1 .0) (q .result) (q .ensures) (c .before .before .before .before .before .before .before .before .before .if1 .left) in
+    let k = c .before .before .before .before .before .before .before .count-costs in
+    let h = subst (λ (n : ℕ). n / 4 < k .result) (c .before .before .before .before .before .before .usable-of .ensures) (c .before .before .before .before .before .if2 .taken) in
+    front-nine (a .sheet .now) (a .table .now) (a .list .now) (q .last .1 .0) (q .result) p (k .result) (k .ensures) (c .refuse-front2 .result) (c .before .before .before .clear-from .last .0) (c .refuse-front2 .ensures) (c .before .before .before .clear-from .ensures) h
 
 list-costs-requires : tie.Need-list-costs-requires
 list-costs-requires c κs =
-    let q = c .before .before .before .before .before .before .before .before .before .before .before .before .prepare in
-    let a = c .before .before .before .before .before .before .before .before .before .before .before .before .before .before .before .before .before .args in
-    let p = prepared-ready (a .sheet .now) (a .table .now) (q .last .1 .0) (q .result) (q .ensures) (c .before .before .before .before .before .before .before .before .if1 .left) in
-    let h = subst (λ (n : ℕ). c .before .before .before .before .count-costs .result ≤ n / 4) (c .before .before .before .usable-of .ensures) (c .before .before .if2 .left) in
-    (omega (arith, p .few), p .holds .room, omega (arith, h, c .before .before .before .before .count-costs .ensures, front-room (length (a .list .now)) .1))
+    let q = c .before .before .before .before .before .before .before .before .before .before .prepare in
+    let a = c .before .before .before .before .before .before .before .before .before .before .before .before .before .before .before .args in
+    let p = prepared-ready (a .sheet .now) (a .table .now) (q .last .1 .0) (q .result) (q .ensures) (c .before .before .before .before .before .before .if1 .left) in
+    let k = c .before .before .before .before .count-costs in
+    let h = subst (λ (n : ℕ). k .result ≤ n / 4) (c .before .before .before .usable-of .ensures) (c .before .before .if2 .left) in
+    (omega (arith, p .few), p .holds .room, omega (arith, h, k .ensures, front-room (length (a .list .now)) .1))
 
-cast-t19 : tie.Need-cast-t19
-cast-t19 c =
-    let a = c .before .before .before .before .before .before .before .before .before .before .before .before .before .before .before .before .before .before .before .before .args in
+cast-t23 : tie.Need-cast-t23
+cast-t23 c =
+    let a = c .before .before .before .before .before .before .before .before .before .before .before .before .before .before .before .before .before .before .args in
     let h = subst (λ (n : ℕ). c .before .before .before .before .before .before .before .count-costs .result ≤ n / 4) (c .before .before .before .before .before .before .usable-of .ensures) (c .before .before .before .before .before .if2 .left) in
     omega (arith, h, front-room (length (a .list .now)) .0)
 
-cast-t16 : tie.Need-cast-t16
-cast-t16 c =
-    let q = c .before .before .before .before .before .before .before .before .before .before .before .before .before .before .before .prepare in
-    let a = c .before .before .before .before .before .before .before .before .before .before .before .before .before .before .before .before .before .before .before .before .args in
-    let p = prepared-ready (a .sheet .now) (a .table .now) (q .last .1 .0) (q .result) (q .ensures) (c .before .before .before .before .before .before .before .before .before .before .before .if1 .left) in
+cast-t24 : tie.Need-cast-t24
+cast-t24 c =
+    let q = c .before .before .before .before .before .before .before .before .before .before .before .before .before .prepare in
+    let a = c .before .before .before .before .before .before .before .before .before .before .before .before .before .before .before .before .before .before .args in
+    let p = prepared-ready (a .sheet .now) (a .table .now) (q .last .1 .0) (q .result) (q .ensures) (c .before .before .before .before .before .before .before .before .before .if1 .left) in
     omega (arith, p .few)
 
 same-length-3 : tie.Need-same-length-3
@@ -93,11 +83,12 @@ same-length-4 c = search needs
 
 returns-3 : tie.Need-returns-3
 returns-3 c =
-    let q = c .before .before .before .before .before .before .before .before .before .before .before .before .before .before .before .prepare in
-    let a = c .before .before .before .before .before .before .before .before .before .before .before .before .before .before .before .before .before .before .before .before .args in
-    let p = prepared-ready (a .sheet .now) (a .table .now) (q .last .1 .0) (q .result) (q .ensures) (c .before .before .before .before .before .before .before .before .before .before .before .if1 .left) in
-    let h = subst (λ (n : ℕ). c .before .before .before .before .before .before .before .count-costs .result ≤ n / 4) (c .before .before .before .before .before .before .usable-of .ensures) (c .before .before .before .before .before .if2 .left) in
-    front-end (a .sheet .now) (a .table .now) (a .list .now) (q .last .1 .0) (q .result) p (c .before .before .before .before .before .before .before .count-costs .result) (c .before .before .before .before .before .before .before .count-costs .ensures) (c .before .before .list-costs .last .1 .1 .1 .1 .0) (c .before .before .list-costs .ensures) h
+    let q = c .before .before .before .before .before .before .before .before .before .before .before .before .before .prepare in
+    let a = c .before .before .before .before .before .before .before .before .before .before .before .before .before .before .before .before .before .before .args in
+    let p = prepared-ready (a .sheet .now) (a .table .now) (q .last .1 .0) (q .result) (q .ensures) (c .before .before .before .before .before .before .before .before .before .if1 .left) in
+    let k = c .before .before .before .before .before .before .before .count-costs in
+    let h = subst (λ (n : ℕ). k .result ≤ n / 4) (c .before .before .before .before .before .before .usable-of .ensures) (c .before .before .before .before .before .if2 .left) in
+    front-end (a .sheet .now) (a .table .now) (a .list .now) (q .last .1 .0) (q .result) p (k .result) (k .ensures) (c .before .before .list-costs .last .1 .1 .1 .1 .0) (c .before .before .list-costs .ensures) h
 
 pub front-spec : {M : Type 1} → statement M
 front-spec =
@@ -107,19 +98,15 @@ front-spec =
     refuse-front-requires
     same-length
     returns
-    array-read-count-costs
-    array-read-count-costs-2
     count-costs-requires
     usable-of-requires
     clear-from-requires
     refuse-front-requires-2
     same-length-2
     returns-2
-    array-read-list-costs
-    array-read-list-costs-2
     list-costs-requires
-    cast-t19
-    cast-t16
+    cast-t23
+    cast-t24
     same-length-3
     same-length-4
     returns-3)

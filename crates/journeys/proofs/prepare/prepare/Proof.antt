@@ -1,12 +1,15 @@
 -- `journeys::prepare::prepare` meets its contract: what was read is a valid sheet, whose groups up to their last lines make it again, and the searched
 -- part of the table with zeros after it is the table of the sheet's leading arrivals.
 -- Assumes nothing.
-use mathlib.Core.Path.{refl, sym, _∙_, subst}
+use mathlib.Core.Path.{refl, sym, _∙_, ap, subst}
+use mathlib.Core.List.{List}
+use Prim.Native.Nat.{ℕ}
 use native.Mathlib.Omega.{arith}
 use lib.ListN.{length, drop, length-append}
 use lib.Seq.{length-take-le}
 use borrow.Author.Needs.{needs}
 use borrow.Author.Tests.{not-true, not-false}
+use Rattle.sheet.specs.Lists.{number}
 use Rattle.sheet.specs.Valid.{Valid}
 use Rattle.journeys.specs.Inner.{unread, full, ready}
 use Rattle.journeys.proofs.Ready.{usable-most, groups-sheet, corridors-whole, occupancies-whole, searched, read-as, not-read}
@@ -85,6 +88,12 @@ returns-2 c =
     let f = h .when-full (not-true _ (c .if2 .taken)) in
     full (r .sheet) (r .reads) (f .0) (record { number-is = refl; line-is = refl; table-is = c .before .before .before .before .clear-from .ensures ∙ f .1 })
 
+array-read-t16 : tie.Need-array-read-t16
+array-read-t16 c = search needs
+
+array-read-t35 : tie.Need-array-read-t35
+array-read-t35 c = search needs
+
 same-length-2 : tie.Need-same-length-2
 same-length-2 c = search needs
 
@@ -94,7 +103,7 @@ returns-3 c =
     let r = read-as _ _ (c .before .before .before .before .before .before .before .before .before .before .before .before .before .before .before .before .before .before .before .before .read .ensures) (c .before .before .before .before .before .before .before .before .before .before .before .before .before .before .before .before .before .before .if1 .left) in
     let h = searched _ _ r (c .before .before .before .before .before .before .before .before .before .before .before .before .before .usable-of .result) (c .before .before .before .before .before .before .before .before .before .before .before .before .before .before .before .before .before .before .before .before .before .before .before .args .table .now) (s .result .served) (s .result .arrivals) (s .last .1 .1 .1 .0) (c .before .before .before .before .before .before .before .before .before .before .before .before .before .usable-of .ensures) (s .ensures) in
     let f = h .when-served (not-false _ (c .if2 .left)) in
-    ready (r .sheet) (r .reads) (f .0) (record { served = refl; filled-table = c .before .before .before .before .clear-from .ensures ∙ f .2; counted = f .1; read-sheet = r .answer })
+    ready (r .sheet) (r .reads) (f .0) (record { served = refl; filled-table = c .before .before .before .before .clear-from .ensures ∙ f .2; counted = f .1; goal-is = ap (λ (h : List ℕ). number h 3) (r .groups .head-is); last-is = ap (λ (h : List ℕ). number h 1) (r .groups .head-is); read-sheet = r .answer })
 
 pub prepare-spec : {M : Type 1} → statement M
 prepare-spec =
@@ -120,5 +129,7 @@ prepare-spec =
     clear-from-requires
     same-length
     returns-2
+    array-read-t16
+    array-read-t35
     same-length-2
     returns-3)
