@@ -4,6 +4,10 @@
 //! `REFUSAL LINE "TEXT" REMARK`; in the text `\n` is a line feed, `\xHH` a byte, and `{N*C}`, `{N*O}` are N
 //! ascending lines of that letter, `{N*TEXT}` is a text N times. A case of groups is
 //! `REFUSAL LINE BUFFER [HEAD] [CORRIDORS] [OCCUPANCIES] REMARK`, with numbers parted by blanks.
+//!
+//! A case of a front has several lines: `= NAME`, the sheet, at times `L,ARRIVALS,LIST` with the lengths of the lent
+//! arrays, and the answer: `R,refusal,line`, or `F,costs,arrivals`, `A,` with each row of the arrivals table, and for
+//! each cost `J,` with its row of the list and `P,` with the places.
 
 use crate::groups::{Groups, ascending_corridors, ascending_occupancies};
 
@@ -24,6 +28,17 @@ pub struct GroupsCase {
     pub remark: String,
 }
 
+/// A sheet and the lengths of the lent arrays, with the answer expected.
+pub struct FrontCase {
+    pub name: String,
+    pub text: Vec<u8>,
+    pub lens: [usize; 2],
+    pub page: String,
+}
+
+/// The lengths lent where a case names none: room for 2,000 arrivals and 200 costs.
+const USUAL_LENS: [usize; 2] = [10_000, 800];
+
 /// The cases of sheets in a stored file's content.
 pub fn sheet_cases(content: &str) -> Vec<SheetCase> {
     case_lines(content).map(sheet_case).collect()
@@ -32,6 +47,12 @@ pub fn sheet_cases(content: &str) -> Vec<SheetCase> {
 /// The cases of groups in a stored file's content.
 pub fn groups_cases(content: &str) -> Vec<GroupsCase> {
     case_lines(content).map(groups_case).collect()
+}
+
+/// The cases of fronts in a stored file's content.
+pub fn front_cases(content: &str) -> Vec<FrontCase> {
+    let lines: Vec<&str> = case_lines(content).collect();
+    lines.chunk_by(|_, next| !next.starts_with('=')).map(front_case).collect()
 }
 
 /// The lines that are cases.
@@ -57,6 +78,27 @@ fn groups_case(case: &str) -> GroupsCase {
     let (occupancies, remark) = parts(rest, "] ");
     let groups = Groups { head: numbers(head), corridors: numbers(corridors), occupancies: numbers(occupancies) };
     GroupsCase { refusal, line, buffer: buffer as usize, groups, remark: remark.to_string() }
+}
+
+/// The case that some lines are.
+fn front_case(lines: &[&str]) -> FrontCase {
+    let name = lines[0].trim_start_matches("= ").to_string();
+    let of = |letters: &str| -> String {
+        lines[1..]
+            .iter()
+            .filter(|line| line.starts_with(|c| letters.contains(c)))
+            .map(|line| format!("{line}\n"))
+            .collect()
+    };
+    let lens = of("L");
+    let lens = if lens.is_empty() { USUAL_LENS } else { lens_of(lens.trim_end()) };
+    FrontCase { name, text: of("SCO").into_bytes(), lens, page: of("RFAJP") }
+}
+
+/// The two lengths that a line `L,ARRIVALS,LIST` says.
+fn lens_of(line: &str) -> [usize; 2] {
+    let (arrivals, list) = parts(line.trim_start_matches("L,"), ",");
+    [arrivals, list].map(|len| decimal(len) as usize)
 }
 
 /// What stands before and after a mark.
