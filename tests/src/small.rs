@@ -41,9 +41,9 @@ enum Ends {
 
 const PLAIN: Family = Family {
     name: "plain",
-    places: [1, 5],
-    steps: [0, 6],
-    corridors: [0, 9],
+    places: [2, 5],
+    steps: [1, 6],
+    corridors: [2, 10],
     figures: &[0, 1, 2, 3],
     waiting: &[0, 1, 2],
     occupancies: Occupancies { count: [0, 6], longest: 3, past: 2 },
@@ -54,8 +54,10 @@ const PLAIN: Family = Family {
 const DENSE: Family = Family { places: [3, 5], steps: [2, 6], corridors: [6, 16], ..PLAIN };
 
 /// The families of small sheets.
-pub const FAMILIES: [Family; 15] = [
+pub const FAMILIES: [Family; 18] = [
     PLAIN,
+    Family { name: "one place", places: [1, 1], corridors: [0, 0], ..PLAIN },
+    Family { name: "no step", steps: [0, 0], ..PLAIN },
     Family { name: "free waiting", waiting: &[0], ..DENSE },
     Family { name: "dear waiting", waiting: &[3, 5, 9], ..DENSE },
     Family { name: "greatest costs", figures: &[0, 59_999, 60_000], waiting: &[0, 59_999, 60_000], ..PLAIN },
@@ -66,6 +68,15 @@ pub const FAMILIES: [Family; 15] = [
         corridors: [12, 24],
         figures: &[0, 0, 1, 2, 5, 9, 20],
         waiting: &[0, 0, 0, 1, 2],
+        ..PLAIN
+    },
+    Family {
+        name: "many costs",
+        places: [5, 8],
+        steps: [4, 5],
+        corridors: [16, 28],
+        figures: &[0, 0, 0, 1, 3, 4],
+        waiting: &[0, 1],
         ..PLAIN
     },
     Family { name: "ties", figures: &[0, 1], waiting: &[0, 1], ..DENSE },
@@ -90,7 +101,7 @@ pub const FAMILIES: [Family; 15] = [
         name: "long",
         places: [2, 4],
         steps: [100, 255],
-        corridors: [1, 3],
+        corridors: [2, 5],
         occupancies: Occupancies { count: [20, 100], longest: 4, past: 2 },
         ..PLAIN
     },

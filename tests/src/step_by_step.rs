@@ -181,7 +181,7 @@ pub fn offered(text: &[u8]) -> Result<Offer, Refusal> {
     }
     let sheet = Sheet::of(&read);
     let ways = sheet.lawful_ways();
-    let arrivals = ways.iter().map(Way::arrival).collect();
+    let arrivals: BTreeSet<Arrival> = ways.iter().map(Way::arrival).collect();
     Ok(Offer { leading: sheet.leading(&arrivals), front: sheet.front(&ways) })
 }
 

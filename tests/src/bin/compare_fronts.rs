@@ -24,6 +24,17 @@ const DAMAGED: usize = 5;
 /// The sizes of fronts that must come up.
 const SIZES: [&str; 5] = ["empty", "one cost", "two costs", "three costs", "more"];
 
+/// The lengths of lent arrays that must come up, and the number of a journey.
+const ROOMS: [&str; 7] = [
+    "arrivals just fit",
+    "one arrival too many",
+    "costs just fit",
+    "one cost too many",
+    "path just fits",
+    "one place too many",
+    "the number after the last",
+];
+
 /// How many calls or sheets met each refusal number, each family, each size and each kind of damage.
 #[derive(Default)]
 struct Tally {
@@ -31,6 +42,7 @@ struct Tally {
     journey: [u64; 13],
     families: [u64; FAMILIES.len()],
     sizes: [u64; SIZES.len()],
+    rooms: [u64; ROOMS.len()],
     damages: [u64; TEXT_DAMAGES.len()],
 }
 
@@ -69,6 +81,7 @@ fn counts(tally: &Tally) -> Vec<Counts> {
         ),
         Counts::of("families of small sheets", &FAMILIES.map(|family| family.name), &tally.families),
         Counts::of("fronts of small sheets", &SIZES, &tally.sizes),
+        Counts::of("rooms of calls", &ROOMS, &tally.rooms),
         Counts::of("damage to texts", &TEXT_DAMAGES, &tally.damages),
     ]
 }
@@ -105,6 +118,8 @@ fn compare_front(tried: &Tried, random: &mut Random, tally: &mut Tally) -> Resul
     let lens = [random_len(5, needs[0], random), random_len(4, needs[1], random)];
     let (answer, _) = tried.compare_front(lens, random)?;
     tally.front[answer.refusal as usize] += 1;
+    count_room(&mut tally.rooms[0..2], needs[0], lens[0] / 5);
+    count_room(&mut tally.rooms[2..4], needs[1], lens[1] / 4);
     Ok(())
 }
 
@@ -116,7 +131,15 @@ fn compare_journey(tried: &Tried, number: Option<u32>, random: &mut Random, tall
     let lens = [random_len(5, arrivals, random), random_len(1, places, random)];
     let (answer, _) = tried.compare_journey(number, lens, random)?;
     tally.journey[answer.refusal as usize] += 1;
+    count_room(&mut tally.rooms[4..6], if [0, 11].contains(&answer.refusal) { places } else { 0 }, lens[1]);
+    tally.rooms[6] += u64::from(!steps.is_empty() && number as usize == steps.len());
     Ok(())
+}
+
+/// Counts a room that is just enough for what there is, or one too small.
+fn count_room(rooms: &mut [u64], need: usize, room: usize) {
+    rooms[0] += u64::from(need > 0 && room == need);
+    rooms[1] += u64::from(need > 0 && room + 1 == need);
 }
 
 /// The length of an array for so many rows of some width: mostly room for just so many, at times for one less.
