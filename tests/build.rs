@@ -1,4 +1,4 @@
-//! Links the planner's archive or, under the feature `stub`, makes the copies of the references that answer in its place.
+//! Links the planner's archive or, under the feature `stub`, makes the copies of the references that answer for it.
 
 use std::env;
 use std::fs;

@@ -57,16 +57,8 @@ fn compared(options: &Options) -> Result<Vec<Counts>, String> {
     for run in 1..=options.runs {
         compare_run(&mut random, &mut tally).map_err(|difference| format!("run {run}: {difference}"))?;
     }
-    let cases = front_cases(FRONT_CASES);
-    for case in &cases {
-        compare_case(case, &mut random).map_err(|difference| format!("stored case {:?}: {difference}", case.name))?;
-    }
-    println!(
-        "{} small sheets, {} damaged texts, {} stored cases",
-        options.runs,
-        DAMAGED as u64 * options.runs,
-        cases.len()
-    );
+    let cases = compare_cases(&mut random)?;
+    println!("{} small sheets, {} damaged texts, {cases} stored cases", options.runs, DAMAGED as u64 * options.runs);
     Ok(counts(&tally))
 }
 
@@ -178,6 +170,15 @@ fn damaged_text(random: &mut Random, tally: &mut Tally) -> Vec<u8> {
     }
 }
 
+/// Compares on the stored cases; hands back how many there are.
+fn compare_cases(random: &mut Random) -> Result<usize, String> {
+    let cases = front_cases(FRONT_CASES);
+    for case in &cases {
+        compare_case(case, random).map_err(|difference| format!("stored case {:?}: {difference}", case.name))?;
+    }
+    Ok(cases.len())
+}
+
 /// Compares the calls on a stored case, and the planner's answers with those stored.
 fn compare_case(case: &FrontCase, random: &mut Random) -> Result<(), String> {
     let page = page_of(case, random)?;
@@ -192,8 +193,7 @@ fn page_of(case: &FrontCase, random: &mut Random) -> Result<String, String> {
         return Ok(format!("R,{},{}\n", answer.refusal, answer.line));
     }
     let mut page = format!("F,{},{}\n", answer.costs, answer.arrivals);
-    let rows = arrivals.chunks(5).take(answer.arrivals as usize);
-    rows.for_each(|row| page.push_str(&line_of('A', row)));
+    page.extend(arrivals.chunks(5).take(answer.arrivals as usize).map(|row| line_of('A', row)));
     for (number, row) in list.chunks(4).take(answer.costs as usize).enumerate() {
         let (journey, Filled { other: path, .. }) =
             tried.compare_journey(number as u32, [case.lens[0], 256], random)?;
