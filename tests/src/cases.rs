@@ -7,7 +7,8 @@
 //!
 //! A case of a front has several lines: `= NAME`, the sheet, at times `L,ARRIVALS,LIST` with the lengths of the lent
 //! arrays, and the answer: `R,refusal,line`, or `F,costs,arrivals`, `A,` with each row of the arrivals table, and for
-//! each cost `J,` with its row of the list and `P,` with the places.
+//! each cost `J,` with its row of the list and `P,` with the places. With `N,NUMBER,ARRIVALS,PATH` a case is one of a
+//! journey with that number and arrays of those lengths; the answer is `R,refusal,line`, or `J,` and `P,`.
 
 use crate::groups::{Groups, ascending_corridors, ascending_occupancies};
 
@@ -28,12 +29,18 @@ pub struct GroupsCase {
     pub remark: String,
 }
 
-/// A sheet and the lengths of the lent arrays, with the answer expected.
+/// A sheet and what is asked of it, with the answer expected.
 pub struct FrontCase {
     pub name: String,
     pub text: Vec<u8>,
-    pub lens: [usize; 2],
+    pub asked: Asked,
     pub page: String,
+}
+
+/// What is asked of a sheet, with the lengths of the lent arrays.
+pub enum Asked {
+    Front([usize; 2]),
+    Journey(u32, [usize; 2]),
 }
 
 /// The lengths lent where a case names none: room for 2,000 arrivals and 200 costs.
@@ -90,15 +97,17 @@ fn front_case(lines: &[&str]) -> FrontCase {
             .map(|line| format!("{line}\n"))
             .collect()
     };
-    let lens = of("L");
-    let lens = if lens.is_empty() { USUAL_LENS } else { lens_of(lens.trim_end()) };
-    FrontCase { name, text: of("SCO").into_bytes(), lens, page: of("RFAJP") }
+    FrontCase { name, text: of("SCO").into_bytes(), asked: asked_of(&of("LN")), page: of("RFAJP") }
 }
 
-/// The two lengths that a line `L,ARRIVALS,LIST` says.
-fn lens_of(line: &str) -> [usize; 2] {
-    let (arrivals, list) = parts(line.trim_start_matches("L,"), ",");
-    [arrivals, list].map(|len| decimal(len) as usize)
+/// What is asked by a line `L,ARRIVALS,LIST` or `N,NUMBER,ARRIVALS,PATH`, or without a line.
+fn asked_of(line: &str) -> Asked {
+    let numbers: Vec<u32> = line.trim_end().split(',').skip(1).map(decimal).collect();
+    match numbers[..] {
+        [arrivals, list] => Asked::Front([arrivals as usize, list as usize]),
+        [number, arrivals, path] => Asked::Journey(number, [arrivals as usize, path as usize]),
+        _ => Asked::Front(USUAL_LENS),
+    }
 }
 
 /// What stands before and after a mark.

@@ -80,7 +80,15 @@ pub const FAMILIES: [Family; 18] = [
         ..PLAIN
     },
     Family { name: "ties", figures: &[0, 1], waiting: &[0, 1], ..DENSE },
-    Family { name: "equal costs", figures: &[1], waiting: &[0, 1], ..DENSE },
+    Family {
+        name: "equal costs",
+        places: [5, 7],
+        steps: [3, 5],
+        corridors: [10, 20],
+        figures: &[1],
+        waiting: &[0, 1, 2],
+        ..PLAIN
+    },
     Family { name: "cycles without cost", figures: &[0, 0, 0, 1], waiting: &[0, 0, 1], ..DENSE },
     Family { name: "start occupied", ends: Ends::StartOccupied, ..PLAIN },
     Family { name: "goal occupied", ends: Ends::GoalOccupied, ..DENSE },

@@ -5,7 +5,7 @@
 //! with one call of the front and one of a journey each. The exit status is 0 if all answers and all cells of all
 //! lent arrays agree and each refusal number, family, size and kind of damage came up often.
 
-use planner_tests::cases::{FrontCase, front_cases};
+use planner_tests::cases::{Asked, FrontCase, front_cases};
 use planner_tests::compare_search::{Filled, Tried};
 use planner_tests::damage::of_text::{TEXT_DAMAGES, damage_text};
 use planner_tests::groups::random_groups;
@@ -185,22 +185,37 @@ fn compare_case(case: &FrontCase, random: &mut Random) -> Result<(), String> {
     if page == case.page { Ok(()) } else { Err(format!("the answers are\n{page}and not\n{}", case.page)) }
 }
 
-/// The answers to a stored case's calls: the counts, the rows of the arrivals table, the journeys; or the refusal.
+/// The planner's answer to what a stored case asks.
 fn page_of(case: &FrontCase, random: &mut Random) -> Result<String, String> {
     let tried = Tried::new(case.text.clone());
-    let (answer, Filled { arrivals, other: list }) = tried.compare_front(case.lens, random)?;
+    match case.asked {
+        Asked::Front(lens) => front_page(&tried, lens, random),
+        Asked::Journey(number, lens) => journey_page(&tried, number, lens, random),
+    }
+}
+
+/// The front: the counts, the rows of the arrivals table, the journeys; or the refusal.
+fn front_page(tried: &Tried, lens: [usize; 2], random: &mut Random) -> Result<String, String> {
+    let (answer, Filled { arrivals, .. }) = tried.compare_front(lens, random)?;
     if answer.refusal > 0 {
         return Ok(format!("R,{},{}\n", answer.refusal, answer.line));
     }
     let mut page = format!("F,{},{}\n", answer.costs, answer.arrivals);
     page.extend(arrivals.chunks(5).take(answer.arrivals as usize).map(|row| line_of('A', row)));
-    for (number, row) in list.chunks(4).take(answer.costs as usize).enumerate() {
-        let (journey, Filled { other: path, .. }) =
-            tried.compare_journey(number as u32, [case.lens[0], 256], random)?;
-        page.push_str(&line_of('J', row));
-        page.push_str(&line_of('P', &path[..=journey.arrival as usize]));
+    for number in 0..answer.costs {
+        page.push_str(&journey_page(tried, number, [lens[0], 256], random)?);
     }
     Ok(page)
+}
+
+/// A journey: its cost with the arrival step, and its places; or the refusal.
+fn journey_page(tried: &Tried, number: u32, lens: [usize; 2], random: &mut Random) -> Result<String, String> {
+    let (answer, Filled { other: path, .. }) = tried.compare_journey(number, lens, random)?;
+    if answer.refusal > 0 {
+        return Ok(format!("R,{},{}\n", answer.refusal, answer.line));
+    }
+    let [a, b, c] = answer.cost;
+    Ok(line_of('J', &[a, b, c, answer.arrival]) + &line_of('P', &path[..=answer.arrival as usize]))
 }
 
 /// A line of an answer: its letter and numbers.
