@@ -12,9 +12,10 @@ use std::time::Instant;
 /// The seeds of each family.
 const SEEDS: std::ops::RangeInclusive<u32> = 1..=12;
 
-/// Each sheet is timed in so many rounds, and each side in each round for about so many microseconds.
-const ROUNDS: usize = 7;
-const ROUND: f64 = 10_000.0;
+/// Each sheet is timed in so many rounds, and each side in each round for about so many microseconds. Of the rounds'
+/// medians the least counts, on both sides: other work on the machine only adds to a time, and more to a long one.
+const ROUNDS: usize = 21;
+const ROUND: f64 = 4_000.0;
 
 /// The room for arrivals of the program that plans a sheet.
 const USUAL_ROOM: usize = 2_000;
@@ -32,17 +33,24 @@ struct Row {
 fn main() {
     let folder = std::env::args().nth(1).expect("usage: bench_fronts FOLDER");
     let peer = Peer(folder.into());
-    println!(
-        "| family | arrivals | costs | planner, µs | of it reading, µs | peer, µs | ratio: median | least | greatest | room for 2,000 |"
-    );
+    let load = load_average();
+    print!("| family | arrivals | costs | planner, µs | of it reading, µs | peer, µs ");
+    println!("| ratio: median | least | greatest | room for 2,000 |");
     println!("|---|---:|---:|---:|---:|---:|---:|---:|---:|---:|");
     let ratios: Vec<f64> = FAMILIES.iter().map(|family| print_family(&peer, family)).collect();
     println!();
     println!("Median of the families' median ratios: {:.2}.", median(ratios));
+    println!("Load of the machine before and after: {load}; {}.", load_average());
     println!(
         "Both sides gave the same costs and the same number of arrivals on all {} sheets.",
         FAMILIES.len() * SEEDS.count()
     );
+}
+
+/// How many processes ran or waited for a processor in the last minute, if the system says it.
+fn load_average() -> String {
+    let content = std::fs::read_to_string("/proc/loadavg").unwrap_or_default();
+    content.split_whitespace().next().unwrap_or("unknown").to_string()
 }
 
 /// Measures a family and prints its row; hands back the median ratio.
@@ -82,7 +90,7 @@ fn measured(peer: &Peer, seed: u32, family: &str) -> Row {
     let expected = peer.searched(&text, 1);
     let room = expected.arrivals;
     assert_same_front(&text, &expected, room, &format!("seed {seed} of {family}"));
-    let repetitions = (ROUND / expected.micros).clamp(3.0, 200.0) as u32;
+    let repetitions = (ROUND / expected.micros).clamp(1.0, 200.0) as u32;
     let usual = (room <= USUAL_ROOM).then_some(USUAL_ROOM);
     let mut times = [const { Vec::new() }; 4];
     for _ in 0..ROUNDS {
@@ -91,16 +99,21 @@ fn measured(peer: &Peer, seed: u32, family: &str) -> Row {
         times[2].push(micros(repetitions, || planner::read_sheet(black_box(&text)).refusal));
         times[3].extend(usual.map(|room| front_micros(&text, room, expected.costs.len(), repetitions)));
     }
-    let usual_room = usual.map(|_| median(times[3].clone()));
+    let usual_room = usual.map(|_| least(&times[3]));
     let [peer, planner, reading, _] = times;
     Row {
         costs: expected.costs.len() as f64,
         arrivals: room as f64,
-        planner: median(planner),
-        reading: median(reading),
-        peer: median(peer),
+        planner: least(&planner),
+        reading: least(&reading),
+        peer: least(&peer),
         usual_room,
     }
+}
+
+/// The least of some times.
+fn least(times: &[f64]) -> f64 {
+    times.iter().copied().fold(f64::INFINITY, f64::min)
 }
 
 /// Fails unless the planner, with just enough room, gives the peer's costs and number of arrivals.
