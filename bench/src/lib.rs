@@ -45,8 +45,8 @@ fn time_of_call<T>(calls: u32, call: &mut impl FnMut() -> T) -> f64 {
     start.elapsed().as_nanos() as f64 / f64::from(calls)
 }
 
-/// The middle one of some values.
+/// The middle one of some values, or the mean of the two middle ones.
 pub fn median(mut values: Vec<f64>) -> f64 {
     values.sort_by(f64::total_cmp);
-    values[values.len() / 2]
+    (values[(values.len() - 1) / 2] + values[values.len() / 2]) / 2.0
 }

@@ -39,6 +39,17 @@ fn main() {
     println!("|---|---:|---:|---:|---:|---:|---:|---:|---:|---:|");
     let ratios: Vec<f64> = FAMILIES.iter().map(|family| print_family(&peer, family)).collect();
     println!();
+    println!(
+        "planner_front from the sheet's bytes to the list, with an arrivals table that just fits (in the last column"
+    );
+    println!(
+        "with room for 2,000 rows, where they suffice), beside mosipp --all --eager, which leaves the reading out."
+    );
+    println!(
+        "Medians over the seeds {} to {} of a family; for each sheet the least of {ROUNDS} rounds' medians.",
+        SEEDS.start(),
+        SEEDS.end()
+    );
     println!("Median of the families' median ratios: {:.2}.", median(ratios));
     println!("Load of the machine before and after: {load}; {}.", load_average());
     println!(
