@@ -1,13 +1,16 @@
-//! Links the planner's archive or, under the feature `stub`, makes the copy of the reference that answers in its place.
+//! Links the planner's archive or, under the feature `stub`, makes the copies of the references that answer for it.
 
 use std::env;
 use std::fs;
 use std::path::{Path, PathBuf};
 
+/// The references: each is a file in src/, with its slips in slips/.
+const REFERENCES: [&str; 2] = ["sheet", "step_by_step"];
+
 fn main() {
     let here = PathBuf::from(env::var("CARGO_MANIFEST_DIR").expect("cargo sets CARGO_MANIFEST_DIR"));
     if env::var("CARGO_FEATURE_STUB").is_ok() {
-        write_slipped_copy(&here);
+        write_slipped_copies(&here);
     } else {
         link_archive(&here.join("../target/staticlib"));
     }
@@ -26,33 +29,39 @@ fn link_archive(folder: &Path) {
     println!("cargo::rustc-link-lib=static=journeys");
 }
 
-/// Writes the reference with the slip that SLIP names, or with none, to OUT_DIR/slipped.rs.
-fn write_slipped_copy(here: &Path) {
-    let [source, slips] = ["src/sheet.rs", "slips.txt"].map(|name| here.join(name));
+/// Writes the references to OUT_DIR, one of them with the slip that SLIP names.
+fn write_slipped_copies(here: &Path) {
     println!("cargo::rerun-if-env-changed=SLIP");
+    let slip = env::var("SLIP").ok();
+    let edits: Vec<usize> = REFERENCES.iter().map(|name| write_slipped_copy(here, name, slip.as_deref())).collect();
+    assert_eq!(edits.iter().any(|&count| count > 0), slip.is_some(), "no file of slips has {slip:?}");
+}
+
+/// Writes a reference to OUT_DIR with the slip, if its file of slips has it; hands back the count of edits.
+fn write_slipped_copy(here: &Path, name: &str, slip: Option<&str>) -> usize {
+    let [source, slips] = [format!("src/{name}.rs"), format!("slips/{name}.txt")].map(|file| here.join(file));
     println!("cargo::rerun-if-changed={}", source.display());
     println!("cargo::rerun-if-changed={}", slips.display());
     let [mut code, slips] = [source, slips].map(|file| fs::read_to_string(file).expect("the file is readable"));
-    if let Ok(name) = env::var("SLIP") {
-        for (old, new) in edits_of(&slips, &name) {
-            assert_eq!(code.matches(&old).count(), 1, "the slip {name:?} does not fit src/sheet.rs at {old:?}");
-            code = code.replace(&old, &new);
-        }
+    let edits = slip.map_or(vec![], |slip| edits_of(&slips, slip));
+    for (old, new) in &edits {
+        assert_eq!(code.matches(old).count(), 1, "the slip {slip:?} does not fit src/{name}.rs at {old:?}");
+        code = code.replace(old, new);
     }
     let out = PathBuf::from(env::var("OUT_DIR").expect("cargo sets OUT_DIR"));
-    fs::write(out.join("slipped.rs"), code).expect("OUT_DIR is writable");
+    fs::write(out.join(format!("{name}.rs")), code).expect("OUT_DIR is writable");
+    edits.len()
 }
 
-/// The edits of a slip: what stands in the reference, and what is put in its place.
+/// The edits of a slip: what stands in the reference, and what is put in its place; none if the slips are others.
 fn edits_of(slips: &str, name: &str) -> Vec<(String, String)> {
     let title = format!("= {name}");
     let lines: Vec<&str> =
         slips.lines().skip_while(|line| *line != title).skip(1).take_while(|line| !line.starts_with('=')).collect();
-    assert!(!lines.is_empty(), "slips.txt has no slip {name:?}");
     lines.chunks(2).map(|pair| (marked(pair[0], "- "), marked(pair[1], "+ "))).collect()
 }
 
-/// What a line of slips.txt has after its mark.
+/// What a line of slips has after its mark.
 fn marked(line: &str, mark: &str) -> String {
-    line.strip_prefix(mark).unwrap_or_else(|| panic!("slips.txt: {line:?} does not begin with {mark:?}")).to_string()
+    line.strip_prefix(mark).unwrap_or_else(|| panic!("slips: {line:?} does not begin with {mark:?}")).to_string()
 }

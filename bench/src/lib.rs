@@ -1,7 +1,9 @@
-//! Times of the planner's calls beside those of plain Rust.
+//! Times of the planner's calls beside those of plain Rust and of a peer.
 
 use std::hint::black_box;
 use std::time::{Duration, Instant};
+
+pub mod peer;
 
 /// So many samples are taken of each call, each at least so long.
 const SAMPLES: usize = 1_001;
@@ -43,8 +45,8 @@ fn time_of_call<T>(calls: u32, call: &mut impl FnMut() -> T) -> f64 {
     start.elapsed().as_nanos() as f64 / f64::from(calls)
 }
 
-/// The middle one of some times.
-fn median(mut times: Vec<f64>) -> f64 {
-    times.sort_by(f64::total_cmp);
-    times[times.len() / 2]
+/// The middle one of some values, or the mean of the two middle ones.
+pub fn median(mut values: Vec<f64>) -> f64 {
+    values.sort_by(f64::total_cmp);
+    (values[(values.len() - 1) / 2] + values[values.len() / 2]) / 2.0
 }

@@ -1,4 +1,4 @@
-//! What the calls on a sheet hand back, laid out as the planner's C structs are.
+//! What the planner's calls hand back, laid out as their C structs are.
 
 /// What the reader hands back: the count of lines in each group and the groups' numbers, zeros past them.
 #[repr(C)]
@@ -55,4 +55,38 @@ pub struct SheetWritten {
     pub refusal: u32,
     pub line: u32,
     pub bytes: u32,
+}
+
+/// What a call of the front hands back: the count of front costs and the number of leading arrivals.
+#[repr(C)]
+#[derive(Clone, Debug, PartialEq, Eq)]
+pub struct FrontAnswer {
+    pub refusal: u32,
+    pub line: u32,
+    pub costs: u32,
+    pub arrivals: u32,
+}
+
+impl FrontAnswer {
+    /// The answer with this number and line, and zero for all else.
+    pub fn refused(refusal: u32, line: u32) -> FrontAnswer {
+        FrontAnswer { refusal, line, costs: 0, arrivals: 0 }
+    }
+}
+
+/// What a call of a journey hands back: its cost and its arrival step.
+#[repr(C)]
+#[derive(Clone, Debug, PartialEq, Eq)]
+pub struct JourneyAnswer {
+    pub refusal: u32,
+    pub line: u32,
+    pub cost: [u32; 3],
+    pub arrival: u32,
+}
+
+impl JourneyAnswer {
+    /// The answer with this number and line, and zero for all else.
+    pub fn refused(refusal: u32, line: u32) -> JourneyAnswer {
+        JourneyAnswer { refusal, line, cost: [0; 3], arrival: 0 }
+    }
 }

@@ -4,6 +4,11 @@
 //! `REFUSAL LINE "TEXT" REMARK`; in the text `\n` is a line feed, `\xHH` a byte, and `{N*C}`, `{N*O}` are N
 //! ascending lines of that letter, `{N*TEXT}` is a text N times. A case of groups is
 //! `REFUSAL LINE BUFFER [HEAD] [CORRIDORS] [OCCUPANCIES] REMARK`, with numbers parted by blanks.
+//!
+//! A case of a front has several lines: `= NAME`, the sheet, at times `L,ARRIVALS,LIST` with the lengths of the lent
+//! arrays, and the answer: `R,refusal,line`, or `F,costs,arrivals`, `A,` with each row of the arrivals table, and for
+//! each cost `J,` with its row of the list and `P,` with the places. With `N,NUMBER,ARRIVALS,PATH` a case is one of a
+//! journey with that number and arrays of those lengths; the answer is `R,refusal,line`, or `J,` and `P,`.
 
 use crate::groups::{Groups, ascending_corridors, ascending_occupancies};
 
@@ -24,6 +29,23 @@ pub struct GroupsCase {
     pub remark: String,
 }
 
+/// A sheet and what is asked of it, with the answer expected.
+pub struct FrontCase {
+    pub name: String,
+    pub text: Vec<u8>,
+    pub asked: Asked,
+    pub page: String,
+}
+
+/// What is asked of a sheet, with the lengths of the lent arrays.
+pub enum Asked {
+    Front([usize; 2]),
+    Journey(u32, [usize; 2]),
+}
+
+/// The lengths lent where a case names none: room for 2,000 arrivals and 200 costs.
+const USUAL_LENS: [usize; 2] = [10_000, 800];
+
 /// The cases of sheets in a stored file's content.
 pub fn sheet_cases(content: &str) -> Vec<SheetCase> {
     case_lines(content).map(sheet_case).collect()
@@ -32,6 +54,12 @@ pub fn sheet_cases(content: &str) -> Vec<SheetCase> {
 /// The cases of groups in a stored file's content.
 pub fn groups_cases(content: &str) -> Vec<GroupsCase> {
     case_lines(content).map(groups_case).collect()
+}
+
+/// The cases of fronts in a stored file's content.
+pub fn front_cases(content: &str) -> Vec<FrontCase> {
+    let lines: Vec<&str> = case_lines(content).collect();
+    lines.chunk_by(|_, next| !next.starts_with('=')).map(front_case).collect()
 }
 
 /// The lines that are cases.
@@ -57,6 +85,29 @@ fn groups_case(case: &str) -> GroupsCase {
     let (occupancies, remark) = parts(rest, "] ");
     let groups = Groups { head: numbers(head), corridors: numbers(corridors), occupancies: numbers(occupancies) };
     GroupsCase { refusal, line, buffer: buffer as usize, groups, remark: remark.to_string() }
+}
+
+/// The case that some lines are.
+fn front_case(lines: &[&str]) -> FrontCase {
+    let name = lines[0].trim_start_matches("= ").to_string();
+    let of = |letters: &str| -> String {
+        lines[1..]
+            .iter()
+            .filter(|line| line.starts_with(|c| letters.contains(c)))
+            .map(|line| format!("{line}\n"))
+            .collect()
+    };
+    FrontCase { name, text: of("SCO").into_bytes(), asked: asked_of(&of("LN")), page: of("RFAJP") }
+}
+
+/// What is asked by a line `L,ARRIVALS,LIST` or `N,NUMBER,ARRIVALS,PATH`, or without a line.
+fn asked_of(line: &str) -> Asked {
+    let numbers: Vec<u32> = line.trim_end().split(',').skip(1).map(decimal).collect();
+    match numbers[..] {
+        [arrivals, list] => Asked::Front([arrivals as usize, list as usize]),
+        [number, arrivals, path] => Asked::Journey(number, [arrivals as usize, path as usize]),
+        _ => Asked::Front(USUAL_LENS),
+    }
 }
 
 /// What stands before and after a mark.

@@ -91,6 +91,6 @@ fn shown(written: &SheetWritten, out: &Lent<u8>) -> String {
 }
 
 /// A difference, with the input and both answers.
-fn report(what: &str, input: &str, planner: &str, expected: &str) -> String {
+pub fn report(what: &str, input: &str, planner: &str, expected: &str) -> String {
     format!("{what}\n  input: {input}\n  planner: {planner}\n  expected: {expected}")
 }

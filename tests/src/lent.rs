@@ -32,6 +32,11 @@ impl<T: Copy> Lent<T> {
         &self.cells
     }
 
+    /// The cells before and after the lent ones.
+    pub fn margins(&self) -> [&[T]; 2] {
+        [&self.cells[..MARGIN], &self.cells[self.cells.len() - MARGIN..]]
+    }
+
     /// The lent cells, to be written.
     pub fn cells_mut(&mut self) -> &mut [T] {
         let end = self.cells.len() - MARGIN;
@@ -39,11 +44,36 @@ impl<T: Copy> Lent<T> {
     }
 }
 
-impl Lent<u8> {
+/// A cell that can be filled with random bits.
+pub trait Cell: Copy {
+    /// The cells that 64 bits make.
+    type Cells: IntoIterator<Item = Self>;
+
+    /// 64 bits as cells.
+    fn cells_of(bits: u64) -> Self::Cells;
+}
+
+impl Cell for u8 {
+    type Cells = [u8; 8];
+
+    fn cells_of(bits: u64) -> [u8; 8] {
+        bits.to_le_bytes()
+    }
+}
+
+impl Cell for u32 {
+    type Cells = [u32; 2];
+
+    fn cells_of(bits: u64) -> [u32; 2] {
+        [bits as u32, (bits >> 32) as u32]
+    }
+}
+
+impl<T: Cell> Lent<T> {
     /// A buffer of some length, filled with a random pattern.
-    pub fn buffer(len: usize, random: &mut Random) -> Lent<u8> {
-        let words = (len + 2 * MARGIN).div_ceil(8);
-        let mut cells: Vec<u8> = (0..words).flat_map(|_| random.bits().to_le_bytes()).collect();
+    pub fn buffer(len: usize, random: &mut Random) -> Lent<T> {
+        let words = ((len + 2 * MARGIN) * size_of::<T>()).div_ceil(8);
+        let mut cells: Vec<T> = (0..words).flat_map(|_| T::cells_of(random.bits())).collect();
         cells.truncate(len + 2 * MARGIN);
         Lent { cells }
     }

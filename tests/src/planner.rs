@@ -1,6 +1,6 @@
 //! The planner's calls, behind safe functions.
 
-use crate::answers::{SheetRead, SheetWritten};
+use crate::answers::{FrontAnswer, JourneyAnswer, SheetRead, SheetWritten};
 
 unsafe extern "C" {
     fn planner_read(src: *const u8, src_len: usize) -> SheetRead;
@@ -15,6 +15,25 @@ unsafe extern "C" {
         out: *mut u8,
         out_len: usize,
     ) -> SheetWritten;
+
+    fn planner_front(
+        src: *const u8,
+        src_len: usize,
+        arrivals: *mut u32,
+        arrivals_len: usize,
+        list: *mut u32,
+        list_len: usize,
+    ) -> FrontAnswer;
+
+    fn planner_journey(
+        src: *const u8,
+        src_len: usize,
+        number: u32,
+        arrivals: *mut u32,
+        arrivals_len: usize,
+        path: *mut u32,
+        path_len: usize,
+    ) -> JourneyAnswer;
 }
 
 /// What the planner hands back for the text of a sheet.
@@ -36,6 +55,30 @@ pub fn write_sheet(head: &[u32], corridors: &[u32], occupancies: &[u32], out: &m
             occupancies.len(),
             out.as_mut_ptr(),
             out.len(),
+        )
+    }
+}
+
+/// What the planner hands back for the front of a sheet, with what it leaves in the lent arrays.
+pub fn front(text: &[u8], arrivals: &mut [u32], list: &mut [u32]) -> FrontAnswer {
+    // Safety: as for the writer; the two arrays are borrowed apart.
+    unsafe {
+        planner_front(text.as_ptr(), text.len(), arrivals.as_mut_ptr(), arrivals.len(), list.as_mut_ptr(), list.len())
+    }
+}
+
+/// What the planner hands back for a journey of a sheet, with what it leaves in the lent arrays.
+pub fn journey(text: &[u8], number: u32, arrivals: &mut [u32], path: &mut [u32]) -> JourneyAnswer {
+    // Safety: as for the front.
+    unsafe {
+        planner_journey(
+            text.as_ptr(),
+            text.len(),
+            number,
+            arrivals.as_mut_ptr(),
+            arrivals.len(),
+            path.as_mut_ptr(),
+            path.len(),
         )
     }
 }

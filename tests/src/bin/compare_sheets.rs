@@ -8,24 +8,15 @@ use planner_tests::compare::{compare_reading, compare_writing};
 use planner_tests::damage::of_groups::{GROUP_DAMAGES, damage_groups};
 use planner_tests::damage::of_text::{TEXT_DAMAGES, damage_text, random_bytes};
 use planner_tests::groups::{Groups, random_groups};
+use planner_tests::program::{self, Counts, Options};
 use planner_tests::random::Random;
-use std::fmt::Debug;
 use std::process::ExitCode;
 
 const SHEET_CASES: &str = include_str!("../../cases/sheets.txt");
 const GROUPS_CASES: &str = include_str!("../../cases/groups.txt");
 
-/// Each refusal number, each size and each kind of damage must come up at least once in so many runs.
-const OFTEN: u64 = 200;
-
 /// The count of bytes of the longest sheet that is served.
 const LONGEST: usize = 10_017;
-
-/// What the program is asked for.
-struct Options {
-    seed: u64,
-    runs: u64,
-}
 
 /// The sizes of texts that must come up.
 const SIZES: [&str; 3] = ["empty", "served with 256 lines of a kind", "served and longest"];
@@ -41,39 +32,11 @@ struct Tally {
 }
 
 fn main() -> ExitCode {
-    let Some(options) = options(std::env::args().skip(1)) else {
-        eprintln!("usage: compare_sheets [--seed N] [--runs N]");
-        return ExitCode::from(2);
-    };
-    println!("seed {}, {} random texts and as many random groups", options.seed, options.runs);
-    match compared(&options) {
-        Ok(()) => {
-            println!("all answers agree");
-            ExitCode::SUCCESS
-        }
-        Err(failure) => {
-            println!("FAILED: {failure}");
-            ExitCode::FAILURE
-        }
-    }
+    program::run("compare_sheets", 100_000, compared)
 }
 
-/// The options that the arguments say.
-fn options(mut arguments: impl Iterator<Item = String>) -> Option<Options> {
-    let mut options = Options { seed: 1, runs: 100_000 };
-    while let Some(name) = arguments.next() {
-        let value = arguments.next()?.parse().ok()?;
-        match name.as_str() {
-            "--seed" => options.seed = value,
-            "--runs" => options.runs = value,
-            _ => return None,
-        }
-    }
-    Some(options)
-}
-
-/// Runs all comparisons and prints the counts; hands back the first failure.
-fn compared(options: &Options) -> Result<(), String> {
+/// Runs all comparisons; hands back what came up, or the first failure.
+fn compared(options: &Options) -> Result<Vec<Counts>, String> {
     let mut random = Random::new(options.seed);
     let mut tally = Tally::default();
     for run in 1..=options.runs {
@@ -82,7 +45,7 @@ fn compared(options: &Options) -> Result<(), String> {
     }
     let cases = compare_cases(&mut random)?;
     println!("{cases} stored cases");
-    print_counts(&tally, options.runs / OFTEN)
+    Ok(counts(&tally))
 }
 
 /// Compares the readers on a random text, mostly a damaged one.
@@ -100,7 +63,7 @@ fn compare_random_text(random: &mut Random, tally: &mut Tally) -> Result<(), Str
 fn random_text(random: &mut Random, tally: &mut Tally) -> Vec<u8> {
     let mut text = random_groups(random).text();
     if random.percent(80) {
-        count(&mut tally.text_damages, &TEXT_DAMAGES, &damage_text(&mut text, random));
+        program::count(&mut tally.text_damages, &TEXT_DAMAGES, &damage_text(&mut text, random));
     }
     text
 }
@@ -109,7 +72,7 @@ fn random_text(random: &mut Random, tally: &mut Tally) -> Vec<u8> {
 fn compare_random_groups(random: &mut Random, tally: &mut Tally) -> Result<(), String> {
     let mut groups = random_groups(random);
     if random.percent(60) {
-        count(&mut tally.group_damages, &GROUP_DAMAGES, &damage_groups(&mut groups, random));
+        program::count(&mut tally.group_damages, &GROUP_DAMAGES, &damage_groups(&mut groups, random));
     }
     let len = random_buffer_len(&groups, random);
     let answer = compare_writing(&groups, len, random)?;
@@ -127,13 +90,6 @@ fn random_buffer_len(groups: &Groups, random: &mut Random) -> usize {
         5 => random.below(exact + 1),
         6 => exact + random.below(100),
         _ => random.pick(&[0, 10_240]),
-    }
-}
-
-/// Counts each kind of damage that was done.
-fn count<D: PartialEq>(counts: &mut [u64], kinds: &[D], done: &[D]) {
-    for (count, kind) in counts.iter_mut().zip(kinds) {
-        *count += u64::from(done.contains(kind));
     }
 }
 
@@ -163,34 +119,13 @@ fn expect_answer(remark: &str, answer: (u32, u32), expected: (u32, u32)) -> Resu
     }
 }
 
-/// How many inputs met each thing that must come up, by what it is about.
-fn counts(tally: &Tally) -> [(&'static str, Vec<(String, u64)>); 5] {
-    let refusals = |numbers: &[usize], counts: &[u64; 13]| {
-        numbers.iter().map(|&number| (number.to_string(), counts[number])).collect()
-    };
-    [
-        ("read, by refusal number", refusals(&[0, 1, 2, 3, 4, 5, 6, 7], &tally.read)),
-        ("written, by refusal number", refusals(&[0, 2, 4, 5, 6, 7, 12], &tally.written)),
-        ("texts", with_names(&SIZES, &tally.sizes)),
-        ("damage to texts", with_names(&TEXT_DAMAGES, &tally.text_damages)),
-        ("damage to groups", with_names(&GROUP_DAMAGES, &tally.group_damages)),
+/// How many inputs met each thing that must come up.
+fn counts(tally: &Tally) -> Vec<Counts> {
+    vec![
+        Counts::of_refusals("read, by refusal number", &[0, 1, 2, 3, 4, 5, 6, 7], &tally.read),
+        Counts::of_refusals("written, by refusal number", &[0, 2, 4, 5, 6, 7, 12], &tally.written),
+        Counts::of("texts", &SIZES, &tally.sizes),
+        Counts::of("damage to texts", &TEXT_DAMAGES, &tally.text_damages),
+        Counts::of("damage to groups", &GROUP_DAMAGES, &tally.group_damages),
     ]
-}
-
-/// Kinds as text, each with its count.
-fn with_names<K: Debug>(kinds: &[K], counts: &[u64]) -> Vec<(String, u64)> {
-    kinds.iter().zip(counts).map(|(kind, &count)| (format!("{kind:?}"), count)).collect()
-}
-
-/// Prints the counts; a failure where one is too low for the comparison to say anything.
-fn print_counts(tally: &Tally, least: u64) -> Result<(), String> {
-    let mut seldom = Ok(());
-    for (about, counts) in counts(tally) {
-        let shown: Vec<String> = counts.iter().map(|(name, count)| format!("{name}: {count}")).collect();
-        println!("{about}: {}", shown.join(", "));
-        if let Some((name, count)) = counts.iter().find(|(_, count)| *count < least) {
-            seldom = Err(format!("{about}, {name}: {count} times is too seldom, at least {least} are wanted"));
-        }
-    }
-    seldom
 }

@@ -1,0 +1,162 @@
+//! Times planner_front beside the peer's search on sheets of all families of its generator, checks that both give
+//! the same costs and the same number of leading arrivals, and prints a Markdown table.
+//!
+//! `bench_fronts FOLDER`: the folder with the peer's programs.
+
+use planner_bench::median;
+use planner_bench::peer::{FAMILIES, Peer, Searched};
+use planner_tests::planner;
+use std::hint::black_box;
+use std::time::Instant;
+
+/// The seeds of each family.
+const SEEDS: std::ops::RangeInclusive<u32> = 1..=12;
+
+/// Each sheet is timed in so many rounds, and each side in each round for about so many microseconds. Of the rounds'
+/// medians the least counts, on both sides: other work on the machine only adds to a time, and more to a long one.
+const ROUNDS: usize = 21;
+const ROUND: f64 = 4_000.0;
+
+/// The room for arrivals of the program that plans a sheet.
+const USUAL_ROOM: usize = 2_000;
+
+/// What was measured on a sheet, times in microseconds.
+struct Row {
+    costs: f64,
+    arrivals: f64,
+    planner: f64,
+    reading: f64,
+    peer: f64,
+    usual_room: Option<f64>,
+}
+
+fn main() {
+    let folder = std::env::args().nth(1).expect("usage: bench_fronts FOLDER");
+    let peer = Peer(folder.into());
+    let load = load_average();
+    print!("| family | arrivals | costs | planner, µs | of it reading, µs | peer, µs ");
+    println!("| ratio: median | least | greatest | room for 2,000 |");
+    println!("|---|---:|---:|---:|---:|---:|---:|---:|---:|---:|");
+    let ratios: Vec<f64> = FAMILIES.iter().map(|family| print_family(&peer, family)).collect();
+    println!();
+    println!(
+        "planner_front from the sheet's bytes to the list, with an arrivals table that just fits (in the last column"
+    );
+    println!(
+        "with room for 2,000 rows, where they suffice), beside mosipp --all --eager, which leaves the reading out."
+    );
+    println!(
+        "Medians over the seeds {} to {} of a family; for each sheet the least of {ROUNDS} rounds' medians.",
+        SEEDS.start(),
+        SEEDS.end()
+    );
+    println!("Median of the families' median ratios: {:.2}.", median(ratios));
+    println!("Load of the machine before and after: {load}; {}.", load_average());
+    println!(
+        "Both sides gave the same costs and the same number of arrivals on all {} sheets.",
+        FAMILIES.len() * SEEDS.count()
+    );
+}
+
+/// How many processes ran or waited for a processor in the last minute, if the system says it.
+fn load_average() -> String {
+    let content = std::fs::read_to_string("/proc/loadavg").unwrap_or_default();
+    content.split_whitespace().next().unwrap_or("unknown").to_string()
+}
+
+/// Measures a family and prints its row; hands back the median ratio.
+fn print_family(peer: &Peer, family: &str) -> f64 {
+    let rows: Vec<Row> = SEEDS.map(|seed| measured(peer, seed, family)).collect();
+    let middle = |of: fn(&Row) -> f64| median(rows.iter().map(of).collect());
+    let mut ratios: Vec<f64> = rows.iter().map(|row| row.planner / row.peer).collect();
+    ratios.sort_by(f64::total_cmp);
+    let ratio = median(ratios.clone());
+    println!(
+        "| {family} | {:.0} | {:.0} | {:.1} | {:.1} | {:.1} | {ratio:.2} | {:.2} | {:.2} | {} |",
+        middle(|row| row.arrivals),
+        middle(|row| row.costs),
+        middle(|row| row.planner),
+        middle(|row| row.reading),
+        middle(|row| row.peer),
+        ratios[0],
+        ratios[ratios.len() - 1],
+        in_usual_room(&rows)
+    );
+    ratio
+}
+
+/// The median ratio with the usual room, over the sheets that it suffices for.
+fn in_usual_room(rows: &[Row]) -> String {
+    let ratios: Vec<f64> = rows.iter().filter_map(|row| Some(row.usual_room? / row.peer)).collect();
+    match ratios.len() {
+        0 => "–".to_string(),
+        count if count == rows.len() => format!("{:.2}", median(ratios)),
+        count => format!("{:.2} ({count} of {})", median(ratios), rows.len()),
+    }
+}
+
+/// Measures a sheet on both sides, once their answers agree.
+fn measured(peer: &Peer, seed: u32, family: &str) -> Row {
+    let text = peer.sheet(seed, family);
+    let expected = peer.searched(&text, 1);
+    let room = expected.arrivals;
+    assert_same_front(&text, &expected, room, &format!("seed {seed} of {family}"));
+    let repetitions = (ROUND / expected.micros).clamp(1.0, 200.0) as u32;
+    let usual = (room <= USUAL_ROOM).then_some(USUAL_ROOM);
+    let mut times = [const { Vec::new() }; 4];
+    for _ in 0..ROUNDS {
+        times[0].push(peer.searched(&text, repetitions).micros);
+        times[1].push(front_micros(&text, room, expected.costs.len(), repetitions));
+        times[2].push(micros(repetitions, || planner::read_sheet(black_box(&text)).refusal));
+        times[3].extend(usual.map(|room| front_micros(&text, room, expected.costs.len(), repetitions)));
+    }
+    let usual_room = usual.map(|_| least(&times[3]));
+    let [peer, planner, reading, _] = times;
+    Row {
+        costs: expected.costs.len() as f64,
+        arrivals: room as f64,
+        planner: least(&planner),
+        reading: least(&reading),
+        peer: least(&peer),
+        usual_room,
+    }
+}
+
+/// The least of some times.
+fn least(times: &[f64]) -> f64 {
+    times.iter().copied().fold(f64::INFINITY, f64::min)
+}
+
+/// Fails unless the planner, with just enough room, gives the peer's costs and number of arrivals.
+fn assert_same_front(text: &[u8], expected: &Searched, room: usize, sheet: &str) {
+    let mut arrivals = vec![0; 5 * room];
+    let mut list = vec![0; 4 * expected.costs.len()];
+    let answer = planner::front(text, &mut arrivals, &mut list);
+    let costs: Vec<[u32; 3]> = list.as_chunks::<4>().0.iter().map(|&[a, b, c, _]| [a, b, c]).collect();
+    assert!(
+        answer.refusal == 0
+            && answer.costs as usize == expected.costs.len()
+            && answer.arrivals as usize == expected.arrivals
+            && costs == expected.costs,
+        "{sheet}: the peer has {} costs and {} arrivals, the planner answers {answer:?}",
+        expected.costs.len(),
+        expected.arrivals
+    );
+}
+
+/// The median time of the front with room for so many arrivals and costs.
+fn front_micros(text: &[u8], room: usize, costs: usize, repetitions: u32) -> f64 {
+    let mut arrivals = vec![0; 5 * room];
+    let mut list = vec![0; 4 * costs];
+    micros(repetitions, || planner::front(black_box(text), &mut arrivals, &mut list).refusal)
+}
+
+/// The median time of some calls, each timed alone, in microseconds.
+fn micros(repetitions: u32, mut call: impl FnMut() -> u32) -> f64 {
+    let mut time = || {
+        let start = Instant::now();
+        black_box(call());
+        start.elapsed().as_nanos() as f64 / 1_000.0
+    };
+    median((0..repetitions).map(|_| time()).collect())
+}

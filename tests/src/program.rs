@@ -1,0 +1,84 @@
+//! What the comparing programs share: their options, and counts of what came up.
+
+use std::fmt::Debug;
+use std::process::ExitCode;
+
+/// Each thing that is counted must come up at least once in so many runs.
+const OFTEN: u64 = 200;
+
+/// What a program is asked for.
+pub struct Options {
+    pub seed: u64,
+    pub runs: u64,
+}
+
+/// Things of one sort, each with how often it came up.
+pub struct Counts {
+    pub about: &'static str,
+    pub counts: Vec<(String, u64)>,
+}
+
+impl Counts {
+    /// The counts of some things, by what they show as.
+    pub fn of<K: Debug>(about: &'static str, things: &[K], counts: &[u64]) -> Counts {
+        Counts { about, counts: things.iter().zip(counts).map(|(thing, &n)| (format!("{thing:?}"), n)).collect() }
+    }
+
+    /// The counts of some refusal numbers; 0 is a call that is served.
+    pub fn of_refusals(about: &'static str, numbers: &[usize], counts: &[u64; 13]) -> Counts {
+        Counts { about, counts: numbers.iter().map(|&number| (number.to_string(), counts[number])).collect() }
+    }
+}
+
+/// Runs a comparison as the program's arguments say and prints whether it found a difference.
+pub fn run(name: &str, runs: u64, compared: impl Fn(&Options) -> Result<Vec<Counts>, String>) -> ExitCode {
+    let Some(options) = options(runs, std::env::args().skip(1)) else {
+        eprintln!("usage: {name} [--seed N] [--runs N]");
+        return ExitCode::from(2);
+    };
+    println!("{name}: seed {}, {} runs", options.seed, options.runs);
+    match compared(&options).and_then(|counts| print_counts(&counts, options.runs / OFTEN)) {
+        Ok(()) => {
+            println!("all answers agree");
+            ExitCode::SUCCESS
+        }
+        Err(failure) => {
+            println!("FAILED: {failure}");
+            ExitCode::FAILURE
+        }
+    }
+}
+
+/// The options that the arguments say.
+fn options(runs: u64, mut arguments: impl Iterator<Item = String>) -> Option<Options> {
+    let mut options = Options { seed: 1, runs };
+    while let Some(name) = arguments.next() {
+        let value = arguments.next()?.parse().ok()?;
+        match name.as_str() {
+            "--seed" => options.seed = value,
+            "--runs" => options.runs = value,
+            _ => return None,
+        }
+    }
+    Some(options)
+}
+
+/// Prints the counts; a failure where one is too low for the comparison to say anything.
+fn print_counts(all: &[Counts], least: u64) -> Result<(), String> {
+    let mut seldom = Ok(());
+    for Counts { about, counts } in all {
+        let shown: Vec<String> = counts.iter().map(|(name, count)| format!("{name}: {count}")).collect();
+        println!("{about}: {}", shown.join(", "));
+        if let Some((name, count)) = counts.iter().find(|(_, count)| *count < least) {
+            seldom = Err(format!("{about}, {name}: {count} times is too seldom, at least {least} are wanted"));
+        }
+    }
+    seldom
+}
+
+/// Counts each kind of damage that was done.
+pub fn count<D: PartialEq>(counts: &mut [u64], kinds: &[D], done: &[D]) {
+    for (count, kind) in counts.iter_mut().zip(kinds) {
+        *count += u64::from(done.contains(kind));
+    }
+}
