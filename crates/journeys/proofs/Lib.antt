@@ -5,3 +5,4 @@ pub mod Ready
 pub mod Ends
 pub mod Laid
 pub mod Sameness
+pub mod Gathering

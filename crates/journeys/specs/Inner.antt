@@ -24,6 +24,7 @@ use Rattle.journeys.specs.Calls.{noRoom, cleared}
 use Rattle.journeys.specs.declared.offered.Offered.{Offered}
 use Rattle.journeys.specs.declared.prepare.Prepared.{Prepared}
 pub mod Walk
+pub mod Goal
 
 -- the arrival that a row of five numbers stands for
 abbrev pub rowOf : List ℕ → Arrival

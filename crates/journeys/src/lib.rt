@@ -10,6 +10,7 @@ use sheet::reader::read;
 use sheet::writer::write;
 
 pub mod offered; // offered.rt: the front off the arrivals table
+pub mod goal; // goal.rt: the goal's rows of the arrivals table, gathered before the front is read off them
 pub mod walk; // walk.rt: the journey of a front cost
 pub mod prepare; // prepare.rt: a sheet read and searched, for the front and the journeys
 pub mod calls; // calls.rt: the front and a journey of a sheet
