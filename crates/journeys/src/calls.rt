@@ -10,9 +10,9 @@ ghost use Rattle.journeys.specs.Inner.{Layable, LaysOut, LaidOut};
 ghost use Rattle.journeys.specs.Calls.{cleared, frontEnd, frontRefused, frontCall, journeyEnd, journeyRefused, journeyCall};
 use crate::FrontAnswer;
 use crate::JourneyAnswer;
-use crate::offered::count_costs;
-use crate::offered::list_costs;
-use crate::offered::nth_cost;
+use crate::goal::count_front;
+use crate::goal::list_front;
+use crate::goal::nth_front;
 use crate::prepare::Prepared;
 use crate::prepare::prepare;
 use crate::prepare::usable_of;
@@ -42,12 +42,12 @@ pub fn front(sheet: &[u8], table: &mut [u32], list: &mut [u32]) -> FrontAnswer
         return refuse_front(p.refusal, p.line);
     }
     let n = p.arrivals;
-    let costs = count_costs(table, n, p.goal, p.last);
+    let costs = count_front(table, n, p.goal, p.last);
     if usable_of(list.len(), 4) / 4 < costs {
         clear_from(table, 0);
         return refuse_front(9, 0);
     }
-    list_costs(table, n, p.goal, p.last, list);
+    list_front(table, n, p.goal, p.last, list);
     FrontAnswer {
         refusal: 0,
         line: 0,
@@ -121,7 +121,7 @@ pub fn journey(sheet: &[u8], number: u32, table: &mut [u32], path: &mut [u32]) -
     if p.refusal != 0 {
         return refuse_journey(p.refusal, p.line);
     }
-    let o = nth_cost(table, p.arrivals, p.goal, p.last, number as usize);
+    let o = nth_front(table, p.arrivals, p.goal, p.last, number as usize);
     if !o.found {
         return refuse_searched(10, table);
     }

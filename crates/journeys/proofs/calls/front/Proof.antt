@@ -25,8 +25,8 @@ returns c =
     let a = c .before .before .before .before .before .before .before .before .before .before .args in
     front-refused (a .sheet .now) (a .table .now) (a .list .now) (q .last .1 .0) (q .result) (c .refuse-front .result) (c .refuse-front .ensures) (q .ensures) (c .before .if1 .taken)
 
-count-costs-requires : tie.Need-count-costs-requires
-count-costs-requires c κs =
+count-front-requires : tie.Need-count-front-requires
+count-front-requires c κs =
     let q = c .before .before .before .before .before .prepare in
     let a = c .before .before .before .before .before .before .before .before .before .before .args in
     let p = prepared-ready (a .sheet .now) (a .table .now) (q .last .1 .0) (q .result) (q .ensures) (c .before .if1 .left) in
@@ -49,23 +49,23 @@ returns-2 c =
     let q = c .before .before .before .before .before .before .before .before .before .before .before .before .before .prepare in
     let a = c .before .before .before .before .before .before .before .before .before .before .before .before .before .before .before .before .before .before .args in
     let p = prepared-ready (a .sheet .now) (a .table .now) (q .last .1 .0) (q .result) (q .ensures) (c .before .before .before .before .before .before .before .before .before .if1 .left) in
-    let k = c .before .before .before .before .before .before .before .count-costs in
+    let k = c .before .before .before .before .before .before .before .count-front in
     let h = subst (λ (n : ℕ). n / 4 < k .result) (c .before .before .before .before .before .before .usable-of .ensures) (c .before .before .before .before .before .if2 .taken) in
     front-nine (a .sheet .now) (a .table .now) (a .list .now) (q .last .1 .0) (q .result) p (k .result) (k .ensures) (c .refuse-front2 .result) (c .before .before .before .clear-from .last .0) (c .refuse-front2 .ensures) (c .before .before .before .clear-from .ensures) h
 
-list-costs-requires : tie.Need-list-costs-requires
-list-costs-requires c κs =
+list-front-requires : tie.Need-list-front-requires
+list-front-requires c κs =
     let q = c .before .before .before .before .before .before .before .before .before .before .prepare in
     let a = c .before .before .before .before .before .before .before .before .before .before .before .before .before .before .before .args in
     let p = prepared-ready (a .sheet .now) (a .table .now) (q .last .1 .0) (q .result) (q .ensures) (c .before .before .before .before .before .before .if1 .left) in
-    let k = c .before .before .before .before .count-costs in
+    let k = c .before .before .before .before .count-front in
     let h = subst (λ (n : ℕ). k .result ≤ n / 4) (c .before .before .before .usable-of .ensures) (c .before .before .if2 .left) in
     (omega (arith, p .few), p .holds .room, omega (arith, h, k .ensures, front-room (length (a .list .now)) .1))
 
 cast-t23 : tie.Need-cast-t23
 cast-t23 c =
     let a = c .before .before .before .before .before .before .before .before .before .before .before .before .before .before .before .before .before .before .args in
-    let h = subst (λ (n : ℕ). c .before .before .before .before .before .before .before .count-costs .result ≤ n / 4) (c .before .before .before .before .before .before .usable-of .ensures) (c .before .before .before .before .before .if2 .left) in
+    let h = subst (λ (n : ℕ). c .before .before .before .before .before .before .before .count-front .result ≤ n / 4) (c .before .before .before .before .before .before .usable-of .ensures) (c .before .before .before .before .before .if2 .left) in
     omega (arith, h, front-room (length (a .list .now)) .0)
 
 cast-t24 : tie.Need-cast-t24
@@ -86,9 +86,9 @@ returns-3 c =
     let q = c .before .before .before .before .before .before .before .before .before .before .before .before .before .prepare in
     let a = c .before .before .before .before .before .before .before .before .before .before .before .before .before .before .before .before .before .before .args in
     let p = prepared-ready (a .sheet .now) (a .table .now) (q .last .1 .0) (q .result) (q .ensures) (c .before .before .before .before .before .before .before .before .before .if1 .left) in
-    let k = c .before .before .before .before .before .before .before .count-costs in
+    let k = c .before .before .before .before .before .before .before .count-front in
     let h = subst (λ (n : ℕ). k .result ≤ n / 4) (c .before .before .before .before .before .before .usable-of .ensures) (c .before .before .before .before .before .if2 .left) in
-    front-end (a .sheet .now) (a .table .now) (a .list .now) (q .last .1 .0) (q .result) p (k .result) (k .ensures) (c .before .before .list-costs .last .1 .1 .1 .1 .0) (c .before .before .list-costs .ensures) h
+    front-end (a .sheet .now) (a .table .now) (a .list .now) (q .last .1 .0) (q .result) p (k .result) (k .ensures) (c .before .before .list-front .last .1 .1 .1 .1 .0) (c .before .before .list-front .ensures) h
 
 pub front-spec : {M : Type 1} → statement M
 front-spec =
@@ -98,13 +98,13 @@ front-spec =
     refuse-front-requires
     same-length
     returns
-    count-costs-requires
+    count-front-requires
     usable-of-requires
     clear-from-requires
     refuse-front-requires-2
     same-length-2
     returns-2
-    list-costs-requires
+    list-front-requires
     cast-t23
     cast-t24
     same-length-3

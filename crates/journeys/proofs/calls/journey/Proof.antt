@@ -23,8 +23,8 @@ returns c =
     let a = c .before .before .before .before .before .before .before .before .before .before .args in
     journey-refused (a .sheet .now) (a .number) (a .table .now) (a .path .now) (q .last .1 .0) (q .result) (c .refuse-journey .result) (c .refuse-journey .ensures) (q .ensures) (c .before .if1 .taken)
 
-nth-cost-requires : tie.Need-nth-cost-requires
-nth-cost-requires c κs =
+nth-front-requires : tie.Need-nth-front-requires
+nth-front-requires c κs =
     let q = c .before .before .before .before .before .prepare in
     let a = c .before .before .before .before .before .before .before .before .before .before .args in
     let p = prepared-ready (a .sheet .now) (a .table .now) (q .last .1 .0) (q .result) (q .ensures) (c .before .if1 .left) in
@@ -41,7 +41,7 @@ returns-2 c =
     let q = c .before .before .before .before .before .before .before .before .before .before .before .before .prepare in
     let a = c .before .before .before .before .before .before .before .before .before .before .before .before .before .before .before .before .before .args in
     let p = prepared-ready (a .sheet .now) (a .table .now) (q .last .1 .0) (q .result) (q .ensures) (c .before .before .before .before .before .before .before .before .if1 .left) in
-    let o = c .before .before .before .before .before .before .nth-cost in
+    let o = c .before .before .before .before .before .before .nth-front in
     let r = c .before .before .refuse-searched in
     journey-ten (a .sheet .now) (a .number) (a .table .now) (a .path .now) (q .last .1 .0) (q .result) p (o .result) (o .ensures) (r .result) (r .last .1 .0) (r .ensures .0) (r .ensures .1) (not-true _ (c .before .before .before .before .if2 .taken))
 
@@ -59,7 +59,7 @@ returns-3 c =
     let q = c .before .before .before .before .before .before .before .before .before .before .before .before .before .prepare in
     let a = c .before .before .before .before .before .before .before .before .before .before .before .before .before .before .before .before .before .before .args in
     let p = prepared-ready (a .sheet .now) (a .table .now) (q .last .1 .0) (q .result) (q .ensures) (c .before .before .before .before .before .before .before .before .before .if1 .left) in
-    let o = c .before .before .before .before .before .before .before .nth-cost in
+    let o = c .before .before .before .before .before .before .before .nth-front in
     let r = c .before .before .refuse-searched2 in
     journey-eleven (a .sheet .now) (a .number) (a .table .now) (a .path .now) (q .last .1 .0) (q .result) p (o .result) (o .ensures) (r .result) (r .last .1 .0) (r .ensures .0) (r .ensures .1) (not-false _ (c .before .before .before .before .before .if2 .left)) (c .before .before .before .before .if3 .taken)
 
@@ -68,7 +68,7 @@ lay-journey-requires c κs =
     let q = c .before .before .before .before .before .before .before .before .before .before .before .before .prepare in
     let a = c .before .before .before .before .before .before .before .before .before .before .before .before .before .before .before .before .before .args in
     let p = prepared-ready (a .sheet .now) (a .table .now) (q .last .1 .0) (q .result) (q .ensures) (c .before .before .before .before .before .before .before .before .if1 .left) in
-    let o = c .before .before .before .before .before .before .nth-cost in
+    let o = c .before .before .before .before .before .before .nth-front in
     layable (a .sheet .now) (a .table .now) (q .last .1 .0) (q .result) p (a .number) (o .result) (o .ensures) (a .path .now) (not-false _ (c .before .before .before .before .if2 .left)) (c .before .before .before .if3 .left)
 
 same-length-4 : tie.Need-same-length-4
@@ -82,7 +82,7 @@ returns-4 c =
     let q = c .before .before .before .before .before .before .before .before .before .before .before .before .before .before .before .prepare in
     let a = c .before .before .before .before .before .before .before .before .before .before .before .before .before .before .before .before .before .before .before .before .args in
     let p = prepared-ready (a .sheet .now) (a .table .now) (q .last .1 .0) (q .result) (q .ensures) (c .before .before .before .before .before .before .before .before .before .before .before .if1 .left) in
-    let o = c .before .before .before .before .before .before .before .before .before .nth-cost in
+    let o = c .before .before .before .before .before .before .before .before .before .nth-front in
     let l = c .before .before .lay-journey in
     journey-end (a .sheet .now) (a .number) (a .table .now) (a .path .now) (q .last .1 .0) (q .result) p (o .result) (o .ensures) (l .last .1 .1 .1 .1 .0) (not-false _ (c .before .before .before .before .before .before .before .if2 .left)) (c .before .before .before .before .before .before .if3 .left) (l .ensures)
 
@@ -94,7 +94,7 @@ journey-spec =
     refuse-journey-requires
     same-length
     returns
-    nth-cost-requires
+    nth-front-requires
     refuse-searched-requires
     same-length-2
     returns-2
