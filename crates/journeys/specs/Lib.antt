@@ -3,6 +3,7 @@ pub mod Front
 pub mod Computed
 pub mod Calls
 pub mod Page
+pub mod Demand2
 pub mod Demand3
 pub mod Inner
 pub mod Laws
