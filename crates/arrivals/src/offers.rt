@@ -45,6 +45,9 @@ pub fn thin_row(table: &mut [u32], a: usize, i: usize, k: usize, g: [u32; 3]) ->
     if at_most(g, row_cost(table, a + i)) {
         return k;
     }
+    if k == i {
+        return k + 1;
+    }
     move_row(table, a + i, a + k);
     k + 1
 }

@@ -220,6 +220,9 @@ thinned-keep g a i k xs ys l n p =
       kept = λ qs x. subst (Thin g (rowAt xs (a + i) ∷ qs)) (sym (put-tail a k p)) (thin-keep n x);
     }
 
+pub thinned-stay : (g : List ℕ) (a i k : ℕ) (xs : List ℕ) → k ≡ i → (AtMost g (rowAt xs (a + i) .cost) → ⊥) → Thinned g a i k xs xs (k + 1)
+thinned-stay g a i k xs e n = thinned-keep g a i k xs xs (omega arith) n (record { below = λ j m. refl; above = λ j m. refl; row = ap (λ (j : ℕ). rowAt xs (a + j)) e })
+
 pub thin-more : (g : List ℕ) (a i k : ℕ) (xs ys zs : List ℕ) (r : ℕ) → ((j : ℕ) → (a + i) * 5 ≤ j → getD ys j 0 ≡ getD xs j 0) → Thin g (tailOf xs a i) (tailOf ys a k) → Thinned g a i k ys zs r → Thin g (tailOf xs a (i + 1)) (tailOf zs a r)
 thin-more g a i k xs ys zs r same x y =
     subst (λ (qs : List Row). Thin g qs (tailOf zs a r)) (ap (λ (q : Row). q ∷ tailOf xs a i) (row-kept xs ys (a + i) (λ j l m. same j l)) ∙ sym (tail-more xs a i)) (y .kept (tailOf xs a i) x)
