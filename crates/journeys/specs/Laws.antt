@@ -7,6 +7,7 @@ pub mod Offered
 pub mod Tie
 pub mod Horizon
 pub mod Served
+pub mod Demand2
 pub mod Demand3
 pub mod Page
 pub mod Marked

@@ -1,9 +1,9 @@
 -- Demand 3, one claim about what two calls of the front handed back and left in the lists that they were lent. A served list holds the front, figure
 -- by figure, so equal lists are equal fronts; and two sheets have one front exactly when they meet the same allowances (Laws.Front, `same-front`).
 use mathlib.Core.Path.{_≡_, refl, sym, _∙_, ap, subst}
-use mathlib.Core.Logic.{_↔_, inl, inr}
+use mathlib.Core.Logic.{_↔_}
 use mathlib.Core.List.{List, [], _∷_}
-use Prim.Native.Nat.{ℕ, zero, suc, _<_}
+use Prim.Native.Nat.{ℕ, _<_}
 use native.Mathlib.Omega.{arith}
 use lib.ListN.{length, getD}
 use lib.Seq.{ext-getD}
@@ -16,7 +16,7 @@ use Rattle.journeys.specs.Calls.{FrontEnd, frontServed, frontCall}
 use Rattle.journeys.specs.Demand3.{figureAt, SameLists, MeetsRead, CanMeet}
 use Rattle.journeys.specs.Laws.Journeys.{has-three}
 use Rattle.journeys.specs.Laws.Front.{front-on, same-front}
-use Rattle.journeys.specs.Laws.Served.{Served, served, listed}
+use Rattle.journeys.specs.Laws.Served.{Served, served, member, listed}
 
 -- the end e of a call on the sheet s: the count and the figures of the front
 record Handed (s : Sheet) (e : FrontEnd) : Type 0 where
@@ -32,12 +32,7 @@ same-costs : (l k : List Cost) → ((g : Cost) → g ∈ l → length g ≡ figu
     → length l ≡ length k → ((i : ℕ) → i < length l → (j : ℕ) → j < figures → fig (getD l i []) j ≡ fig (getD k i []) j) → l ≡ k
 same-costs l k p q e h =
     ext-getD [] l k e
-    (λ i m. ext-getD 0 (getD l i []) (getD k i []) (p (getD l i []) (at l i m) ∙ sym (q (getD k i []) (at k i (omega arith)))) (λ j n. h i m j (omega (arith, p (getD l i []) (at l i m)))))
-  where
-    at : (l : List Cost) (i : ℕ) → i < length l → getD l i [] ∈ l
-    at [] i m = absurd (omega arith)
-    at (x ∷ l) zero m = inl refl
-    at (x ∷ l) (suc i) m = inr (at l i (omega arith))
+    (λ i m. ext-getD 0 (getD l i []) (getD k i []) (p (getD l i []) (member l i m) ∙ sym (q (getD k i []) (member k i (omega arith)))) (λ j n. h i m j (omega (arith, p (getD l i []) (member l i m)))))
 
 -- equal lists are equal fronts
 lists-front : (s r : Sheet) (e f : FrontEnd) → Handed s e → Handed r f → SameLists e f → front s ≡ front r

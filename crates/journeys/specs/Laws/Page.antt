@@ -1,7 +1,6 @@
 -- The page is what the calls hand back: the program's page shows the refusal of the call of the front, or its counts and then, for each number in the
 -- front, the cost, the arrival and the path of the call of that journey, in the buffers that the program lends (2,000 arrivals, 200 costs, 256 places).
 use mathlib.Core.Path.{_≡_, refl, sym, _∙_, ap, ap₂}
-use mathlib.Core.Logic.{inl, inr}
 use mathlib.Core.Bool.{Bool, true, false}
 use mathlib.Core.List.{List, [], _∷_, _++_}
 use Prim.Native.Nat.{ℕ, zero, suc, _+_, _-_, _≤_, _<_}
@@ -10,7 +9,7 @@ use lib.Dec.{eqb}
 use lib.ListN.{length, getD, take, replicate, length-replicate}
 use lib.Seq.{take-at}
 use borrow.Author.Tests.{ne-eqb, le-ltb, lt-leb}
-use Rattle.sheet.specs.Lists.{_∈_, pick, bind}
+use Rattle.sheet.specs.Lists.{pick, bind}
 use Rattle.sheet.specs.Sheet.{Sheet, Outcome, refused, loaded, readOf}
 use Rattle.sheet.specs.Valid.{Valid}
 use Rattle.sheet.specs.Laws.RoundTrip.{read-refused, read-valid}
@@ -22,6 +21,7 @@ use Rattle.journeys.specs.Page.{printed, refusalLine, frontLine, journey
 use Rattle.journeys.specs.Laws.Counts.{counts-within}
 use Rattle.journeys.specs.Laws.Journeys.{journeyOf-selected}
 use Rattle.journeys.specs.Laws.Front.{front-on}
+use Rattle.journeys.specs.Laws.Served.{member}
 
 -- n numbers from i on
 abbrev pub numbers : ℕ → ℕ → List ℕ
@@ -55,11 +55,6 @@ by-number (x ∷ l) i f g h =
     let b : bind l f ≡ bind (numbers (suc i) (length l)) g =
     by-number l (suc i) f g (λ j k. h (suc j) (omega arith) ∙ ap g (let e : i + suc j ≡ suc i + j = omega arith in e)) in
     ap₂ (λ (p q : List ℕ). p ++ q) a b
-
-member : (l : List Cost) (i : ℕ) → i < length l → getD l i [] ∈ l
-member [] i m = absurd (omega arith)
-member (x ∷ l) zero m = inl refl
-member (x ∷ l) (suc i) m = inr (member l i (omega arith))
 
 -- a journey of a valid sheet has a place for each step 0 to its arrival, at most 256 in all
 pub journey-length : (s : Sheet) (g : Cost) → HasCost s g → length (journeyOf s g) ≡ suc (arrivalOf s g)

@@ -76,24 +76,37 @@ rows-wide s l m =
     let r = map-mem (frontRow s) l (front s) m in
     ap length (r .2) ∙ length-append (r .0) (arrivalOf s (r .0) ∷ []) ∙ ap (λ (n : ℕ). n + 1) (has-three s (r .0) (front-on s (r .0) (r .1) .has))
 
+-- what has a number in a list of costs is a member
+pub member : (l : List Cost) (i : ℕ) → i < length l → getD l i [] ∈ l
+member [] i m = absurd (omega arith)
+member (x ∷ l) zero m = inl refl
+member (x ∷ l) (suc i) m = inr (member l i (omega arith))
+
 -- four numbers a front cost
 pub list-length : (s : Sheet) → length (bind (front s) (frontRow s)) ≡ length (front s) * 4
 list-length s =
     ap length (bind-flat (frontRow s) (front s)) ∙ flat-length 4 (map (frontRow s) (front s)) (rows-wide s) ∙ ap (λ (m : ℕ). m * 4) (length-map (front s) (frontRow s))
 
--- the list as a served call returned it, figure by figure
-pub listed : (s : Sheet) (table list : List ℕ) (i j : ℕ) → i < length (front s) → j < figures → figureAt (frontServed s table list) i j ≡ fig (getD (front s) i []) j
+-- the list as a served call returned it, number by number of its rows
+pub row-listed : (s : Sheet) (table list : List ℕ) (i j : ℕ) → i < length (front s) → j < 4 → figureAt (frontServed s table list) i j ≡ number (frontRow s (getD (front s) i [])) j
 unfolding frontServed
-listed s table list i j h k =
+row-listed s table list i j h k =
     let r = bind (front s) (frontRow s) in
     let e : r ≡ flat (map (frontRow s) (front s)) = bind-flat (frontRow s) (front s) in
     let c : length (map (frontRow s) (front s)) ≡ length (front s) = length-map (front s) (frontRow s) in
     List·getD-append r (replicate (length list - length r) 0) 0 (i * 4 + j) (omega (arith, h, k, list-length s))
     ∙ ap (λ (l : List ℕ). number l (i * 4 + j)) e
-    ∙ flat-at 4 (map (frontRow s) (front s)) (rows-wide s) i j (omega (arith, h, c)) (omega (arith, k))
-    ∙ at (front s) i h (λ g m. has-three s g (front-on s g m .has))
+    ∙ flat-at 4 (map (frontRow s) (front s)) (rows-wide s) i j (omega (arith, h, c)) k
+    ∙ ap (λ (l : List ℕ). number l j) (at (front s) i h)
   where
-    at : (l : List Cost) (i : ℕ) → i < length l → ((g : Cost) → g ∈ l → length g ≡ figures) → number (getD (map (frontRow s) l) i []) j ≡ fig (getD l i []) j
-    at [] i h f = absurd (omega arith)
-    at (g ∷ l) zero h f = List·getD-append g (arrivalOf s g ∷ []) 0 j (omega (arith, k, f g (inl refl)))
-    at (g ∷ l) (suc i) h f = at l i (omega arith) (λ x m. f x (inr m))
+    at : (l : List Cost) (i : ℕ) → i < length l → getD (map (frontRow s) l) i [] ≡ frontRow s (getD l i [])
+    at [] i h = absurd (omega arith)
+    at (g ∷ l) zero h = refl
+    at (g ∷ l) (suc i) h = at l i (omega arith)
+
+-- and figure by figure
+pub listed : (s : Sheet) (table list : List ℕ) (i j : ℕ) → i < length (front s) → j < figures → figureAt (frontServed s table list) i j ≡ fig (getD (front s) i []) j
+listed s table list i j h k =
+    let g = getD (front s) i [] in
+    row-listed s table list i j h (omega (arith, k))
+    ∙ List·getD-append g (arrivalOf s g ∷ []) 0 j (omega (arith, k, has-three s g (front-on s g (member (front s) i h) .has)))

@@ -1,0 +1,183 @@
+-- Demand 2, one claim about what the calls hand back. A call of the front that is not refused lists the computed front row by row (Laws.Served),
+-- which holds exactly the front costs, ascending (Laws.Front); a call of the journey that is not refused hands back the cost with its number there
+-- and the computed journey of it, which is the one that the tie rule selects (Laws.Journeys); and sheets are read and written back by the laws of
+-- the calls (sheet's Laws.RoundTrip). Bytes that read as a sheet read as one sheet, so all calls on them speak of it.
+use mathlib.Core.Path.{_≡_, refl, sym, _∙_, ap, subst}
+use mathlib.Core.Logic.{inl, inr}
+use mathlib.Core.Bool.{Bool, true, false, not, _||_}
+use mathlib.Core.List.{List, [], _∷_}
+use Prim.Native.Nat.{ℕ, zero, suc, _*_, _-_, _<_}
+use native.Mathlib.Omega.{arith}
+use lib.Dec.{eqb, leb}
+use lib.ListN.{length, getD, take, drop, replicate}
+use lib.Seq.{take-at, take-append-seam, getD-at}
+use Rattle.sheet.specs.Lists.{_∈_, pick, Lex, Ascending}
+use Rattle.sheet.specs.Kinds.{kindC, kindO}
+use Rattle.sheet.specs.Sheet.{Sheet, Outcome, loaded, readOf}
+use Rattle.sheet.specs.Calls.{leftOver, WriteEnd, writeRefused, writeJudged, writeCall}
+use Rattle.sheet.specs.declared.SheetRead.{SheetRead}
+use Rattle.sheet.specs.Laws.Ascending.{before-all}
+use Rattle.sheet.specs.Laws.Judge.{loaded-inj}
+use Rattle.sheet.specs.Laws.Rows.{filled-full}
+use Rattle.sheet.specs.Laws.RoundTrip.{groupsJudged, whole-of, write-read-calls, read-write-calls}
+use Rattle.costs.specs.Costs.{Cost, figures}
+use Rattle.costs.specs.Laws.Figures.{is-from}
+use Rattle.journeys.specs.Journeys.{HasCost, Selected}
+use Rattle.journeys.specs.Front.{OnFront}
+use Rattle.journeys.specs.Computed.{self, journeyOf, arrivalOf, front}
+use Rattle.journeys.specs.Calls.{noRoom, cleared, FrontEnd, frontServed, frontCall, JourneyEnd, journeyRefused, tooShort, journeyServed, journeyOn, journeyRead, journeyCall}
+use Rattle.journeys.specs.Demand2.{costAt, stepAt, Listed, ListsFront, GivesJourney, Demand2}
+use Rattle.journeys.specs.Laws.Journeys.{has-three, journeyOf-selected}
+use Rattle.journeys.specs.Laws.Front.{front-on, on-front, front-ascending, front-empty}
+use Rattle.journeys.specs.Laws.Served.{served, member, row-listed, listed}
+use Rattle.journeys.specs.Laws.Page.{journey-length}
+
+-- a member of a list of costs has a number in it
+position : (g : Cost) (l : List Cost) → g ∈ l → (i : ℕ) × (i < length l) × (getD l i [] ≡ g)
+position g [] m = absurd m
+position g (x ∷ l) (inl e) = (0, omega arith, sym e)
+position g (x ∷ l) (inr m) = let r = position g l m in (suc (r .0), omega (arith, r .1), r .2)
+
+-- of an ascending list, the member with the lower number stands before
+ascending-at : (l : List Cost) → Ascending self l → (i j : ℕ) → i < j → j < length l → Lex (getD l i []) (getD l j [])
+ascending-at [] a i j h k = absurd (omega arith)
+ascending-at (x ∷ l) a i zero h k = absurd (omega arith)
+ascending-at (x ∷ l) a zero (suc j) h k = before-all self x l (a .0) (a .1) (getD l j []) (member l j (omega arith))
+ascending-at (x ∷ l) a (suc i) (suc j) h k = ascending-at l (a .1) i j (omega arith) (omega arith)
+
+no-costs : (l : List Cost) → length l ≡ 0 → l ≡ []
+no-costs [] e = refl
+no-costs (x ∷ l) e = absurd (omega (arith, e))
+
+-- a number in the front has a lawful journey's cost
+has-at : (s : Sheet) (i : ℕ) → i < length (front s) → HasCost s (getD (front s) i [])
+has-at s i h = front-on s (getD (front s) i []) (member (front s) i h) .has
+
+-- a row of the served list: the cost, and its arrival step
+module _ (s : Sheet) (table list : List ℕ) (i : ℕ) (h : i < length (front s)) where
+  cost-listed : costAt (frontServed s table list) i ≡ getD (front s) i []
+  cost-listed =
+      sym (is-from figures (i * 4) (getD (front s) i []) (frontServed s table list .list)
+      (record { sized = has-three s (getD (front s) i []) (has-at s i h); so-far = λ j k. sym (listed s table list i j h k) }))
+
+  step-listed : stepAt (frontServed s table list) i ≡ arrivalOf s (getD (front s) i [])
+  step-listed =
+      let g = getD (front s) i [] in
+      row-listed s table list i 3 h (omega arith)
+      ∙ getD-at g (arrivalOf s g) [] 0 3 (has-three s g (has-at s i h))
+
+lex-as : (a b c d : Cost) → a ≡ c → b ≡ d → Lex c d → Lex a b
+lex-as a b c d p q h = subst (λ (x : Cost). Lex x b) (sym p) (subst (Lex c) (sym q) h)
+
+-- the served list is the front: its members by their numbers
+lists-front : (s : Sheet) (table list : List ℕ) → ListsFront s (frontServed s table list)
+unfolding frontServed
+lists-front s table list =
+    record {
+      listed-on = λ i h. subst (OnFront s) (sym (cost-listed s table list i h)) (front-on s (getD (front s) i []) (member (front s) i h));
+      on-listed = λ g o. at g (position g (front s) (on-front s g o));
+      ascending = λ i j h k.
+          lex-as (costAt e i) (costAt e j) (getD (front s) i []) (getD (front s) j [])
+          (cost-listed s table list i (omega (arith, h, k))) (cost-listed s table list j k) (ascending-at (front s) (front-ascending s) i j h k);
+      empty = (
+        λ z p g j. front-empty s .0 (no-costs (front s) z) g (p, j),
+        λ n. ap length (front-empty s .1 (λ g h. n (h .0) g (h .1))),
+      );
+    }
+  where
+    e : FrontEnd
+    e = frontServed s table list
+
+    at : (g : Cost) → (i : ℕ) × (i < length (front s)) × (getD (front s) i [] ≡ g) → Listed e g
+    at g r = record { at = r .0; inside = r .1; same = cost-listed s table list (r .0) (r .1) ∙ r .2 }
+
+-- bytes read as one sheet, and a call of the front on them that is not refused serves it
+front-served : (b table list : List ℕ) (s : Sheet) → readOf b ≡ loaded s → frontCall b table list .answer .refusal ≡ 0 → frontCall b table list ≡ frontServed s table list
+front-served b table list s r z =
+    let v = served b table list z in
+    v .end ∙ ap (λ (x : Sheet). frontServed x table list) (loaded-inj (v .fits .sheet) s (sym (v .fits .reads) ∙ r))
+
+-- a journey that is not refused is served, by the three tests in turn
+journey-served : (s : Sheet) (i : ℕ) (table path : List ℕ) → journeyOn s i table path .answer .refusal ≡ 0 → journeyOn s i table path ≡ journeyServed s (getD (front s) i []) table path
+unfolding journeyOn
+journey-served s i table path z = go (noRoom s (length table)) (leb (length (front s)) i) (tooShort s (getD (front s) i []) (length path)) z
+  where
+    end : Bool → Bool → Bool → JourneyEnd
+    end t u v =
+        pick t (journeyRefused 8 0 (cleared table) path)
+        (pick u (journeyRefused 10 0 (cleared table) path) (pick v (journeyRefused 11 0 (cleared table) path) (journeyServed s (getD (front s) i []) table path)))
+
+    go : (t u v : Bool) → end t u v .answer .refusal ≡ 0 → end t u v ≡ journeyServed s (getD (front s) i []) table path
+    go true u v z = absurd (omega (arith, z))
+    go false true v z = absurd (omega (arith, z))
+    go false false true z = absurd (omega (arith, z))
+    go false false false z = refl
+
+-- so a call of a journey on the bytes that is not refused serves it
+journey-call : (b : List ℕ) (i : ℕ) (table path : List ℕ) (s : Sheet) → readOf b ≡ loaded s → journeyCall b i table path .answer .refusal ≡ 0
+    → journeyCall b i table path ≡ journeyServed s (getD (front s) i []) table path
+unfolding journeyCall
+journey-call b i table path s r z =
+    let e : journeyRead (readOf b) i table path ≡ journeyOn s i table path = ap (λ (o : Outcome). journeyRead o i table path) r in
+    e ∙ journey-served s i table path (subst (λ (x : JourneyEnd). x .answer .refusal ≡ 0) e z)
+
+-- what a served call of a journey gives
+gives : (s : Sheet) (g : Cost) (table path : List ℕ) → HasCost s g → GivesJourney s g (journeyServed s g table path)
+unfolding journeyServed
+gives s g table path h =
+    record {
+      cost-is = refl;
+      selected = subst (Selected s g) (sym (take-at (journeyOf s g) (replicate (length path - length (journeyOf s g)) 0) (suc (arrivalOf s g)) (journey-length s g h))) (journeyOf-selected s g h);
+    }
+
+-- the ends of a call of the front and of the journey with number i in it agree
+abbrev Agree : Sheet → ℕ → FrontEnd → JourneyEnd → Type 0
+Agree s i e f = GivesJourney s (costAt e i) f × (f .answer .arrival ≡ stepAt e i)
+
+agree : (s : Sheet) (table list table′ path : List ℕ) (i : ℕ) → i < frontServed s table list .answer .costs → Agree s i (frontServed s table list) (journeyServed s (getD (front s) i []) table′ path)
+unfolding frontServed journeyServed
+agree s table list table′ path i h =
+    let g = getD (front s) i [] in
+    (subst (λ (c : Cost). GivesJourney s c (journeyServed s g table′ path)) (sym (cost-listed s table list i h)) (gives s g table′ path (has-at s i h)), sym (step-listed s table list i h))
+
+-- a writer that does not refuse took a head of 7 numbers
+seven : (h cs os out : List ℕ) → writeCall h cs os out .answer .refusal ≡ 0 → length h ≡ 7
+unfolding writeCall
+seven h cs os out z = go (not (eqb (length h) 7) || leftOver kindC cs || leftOver kindO os) refl z
+  where
+    go : (t : Bool) → not (eqb (length h) 7) || leftOver kindC cs || leftOver kindO os ≡ t
+        → (pick t (writeRefused 2 0 out) (writeJudged (groupsJudged h cs os) out)) .answer .refusal ≡ 0 → length h ≡ 7
+    go true q z = absurd (omega (arith, z))
+    go false q z = whole-of h cs os q .seven
+
+-- For any bytes and any lent arrays, one buffer that serves several calls in turn among them.
+pub demand-2 : Demand2
+demand-2 =
+    record {
+      front = fronts;
+      journeys = each;
+      read-written = λ b out z l.
+          let e = read-write-calls b out z l in
+          (ap (λ (w : WriteEnd). w .answer .refusal) e, ap (λ (w : WriteEnd). w .answer .bytes) e, ap (λ (w : WriteEnd). take (length b) (w .out)) e ∙ take-append-seam b (drop (length b) out));
+      written-read = λ h cs os out z.
+          let e = write-read-calls h cs os out z in (
+            ap (λ (r : SheetRead). r .refusal) e,
+            ap (λ (r : SheetRead). r .lines) e,
+            ap (λ (r : SheetRead). r .head) e ∙ filled-full 7 h (seven h cs os out z),
+            ap (λ (r : SheetRead). r .corridors) e,
+            ap (λ (r : SheetRead). r .occupancies) e,
+          );
+    }
+  where
+    fronts : (b table list : List ℕ) → frontCall b table list .answer .refusal ≡ 0 → (s : Sheet) × (readOf b ≡ loaded s) × ListsFront s (frontCall b table list)
+    fronts b table list z =
+        let v = served b table list z in
+        (v .fits .sheet, v .fits .reads, subst (ListsFront (v .fits .sheet)) (sym (v .end)) (lists-front (v .fits .sheet) table list))
+
+    each : (b table list table′ path : List ℕ) (i : ℕ) (s : Sheet) → readOf b ≡ loaded s → frontCall b table list .answer .refusal ≡ 0
+        → i < frontCall b table list .answer .costs → journeyCall b i table′ path .answer .refusal ≡ 0 → Agree s i (frontCall b table list) (journeyCall b i table′ path)
+    each b table list table′ path i s r y h z =
+        let e = front-served b table list s r y in
+        let f = journey-call b i table′ path s r z in
+        let k = subst (λ (x : FrontEnd). i < x .answer .costs) e h in
+        subst (λ (x : FrontEnd). Agree s i x (journeyCall b i table′ path)) (sym e) (subst (Agree s i (frontServed s table list)) (sym f) (agree s table list table′ path i k))
