@@ -1,6 +1,6 @@
 // The leading arrivals of a sheet (document 01, "Safe intervals and leading arrivals").
 ghost use mathlib.Core.Path.{_≡_};
-ghost use Prim.Native.Nat.{ℕ, _%_};
+ghost use Prim.Native.Nat.{_%_};
 ghost use lib.ListN.{length};
 ghost use Rattle.sheet.specs.Calls.{sheetOfGroups};
 ghost use Rattle.sheet.specs.Valid.{Valid};

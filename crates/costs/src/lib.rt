@@ -1,6 +1,6 @@
 // Costs: three figures, added and compared place by place as one value (document 01, "Lawful journeys"); the cost of a wait and of a crossing.
 ghost use mathlib.Core.Path.{_≡_};
-ghost use Prim.Native.Nat.{ℕ, _+_, _*_, _%_, _≤_};
+ghost use Prim.Native.Nat.{_+_, _*_, _%_, _≤_};
 ghost use lib.ListN.{length, take, drop};
 ghost use Rattle.sheet.specs.Lists.{lexb};
 ghost use Rattle.costs.specs.Costs.{add, times, Within};

@@ -4,7 +4,7 @@ use mathlib.Core.Path.{_≡_, refl, sym, _∙_, ap, ap₂, subst}
 use mathlib.Core.Logic.{_≢_, inl, inr}
 use mathlib.Core.Bool.{true, false}
 use mathlib.Core.List.{List, [], _∷_, _++_}
-use Prim.Native.Nat.{ℕ, zero, suc, _*_, _-_, _≤_, _<_, _/_}
+use Prim.Native.Nat.{ℕ, suc, _*_, _-_, _≤_, _<_, _/_}
 use native.Mathlib.Omega.{arith}
 use native.Mathlib.Nat.{div-add-mod'}
 use lib.ListN.{length, getD, take, replicate}
@@ -29,6 +29,7 @@ use Rattle.journeys.specs.declared.offered.Offered.{Offered}
 use Rattle.journeys.specs.declared.prepare.Prepared.{Prepared}
 use Rattle.journeys.specs.Laws.Front.{front-on}
 use Rattle.journeys.specs.Laws.Page.{journey-length}
+use Rattle.journeys.specs.Laws.Served.{member}
 use Rattle.journeys.specs.Laws.Offered.{holds-front, holds-step, table-holds}
 use Rattle.journeys.proofs.Ready.{rows-length, room-fits, usable-most, part, GroupsOf, groups-of, groups-sheet}
 
@@ -175,11 +176,6 @@ pub record FoundOn (s : Sheet) (i : ℕ) (o : Offered) : Type 0 where
   pub step-is : o .step ≡ arrivalOf s (o .cost)
   pub on-front : OnFront s (o .cost)
   pub journey-long : length (journeyOf s (o .cost)) ≡ suc (o .step)
-
-member : (l : List Cost) (i : ℕ) → i < length l → getD l i [] ∈ l
-member [] i m = absurd (omega arith)
-member (x ∷ l) zero m = inl refl
-member (x ∷ l) (suc i) m = inr (member l i (omega arith))
 
 module _ (b table table′ : List ℕ) (r : Prepared) (p : ReadyIs b table table′ r) (i : ℕ) (o : Offered) (h : NumberIs (offers r table′) i o) where
   pub found-on : o .found ≡ true → FoundOn (p .sheet) i o

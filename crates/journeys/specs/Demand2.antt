@@ -36,6 +36,7 @@ pub record ListsFront (s : Sheet) (e : FrontEnd) : Type 0 where
 -- the call of a journey handed back the cost g and, one place for each step up to the arrival, the journey that the tie rule selects for it
 pub record GivesJourney (s : Sheet) (g : Cost) (e : JourneyEnd) : Type 0 where
   pub cost-is : e .answer .cost ≡ g
+  pub long : suc (e .answer .arrival) ≤ length (e .path)
   pub selected : Selected s g (take (suc (e .answer .arrival)) (e .path))
 
 -- Demand 2, of any bytes and any lent arrays. A call of the front that is not refused lists the front of the sheet with these bytes; a call of the

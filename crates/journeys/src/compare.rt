@@ -1,7 +1,7 @@
 // Two sheets' fronts compared: demand 3, by two calls of the front and the lists that they return.
 ghost use mathlib.Core.Path.{_≡_};
 ghost use mathlib.Core.List.{[]};
-ghost use Prim.Native.Nat.{ℕ, _+_, _*_, _≤_};
+ghost use Prim.Native.Nat.{_+_, _*_, _≤_};
 ghost use lib.ListN.{length};
 ghost use Rattle.costs.specs.Costs.{figures};
 ghost use Rattle.arrivals.specs.Inner.Facts.{Decided};

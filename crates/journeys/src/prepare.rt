@@ -1,6 +1,6 @@
 // A sheet read and searched: what the front and every journey of it begin with.
 ghost use mathlib.Core.Path.{_≡_};
-ghost use Prim.Native.Nat.{ℕ, _≤_};
+ghost use Prim.Native.Nat.{_≤_};
 ghost use Rattle.journeys.specs.Calls.{usable};
 ghost use Rattle.journeys.specs.Inner.{PreparedIs};
 use arrivals::cells::clear_from;

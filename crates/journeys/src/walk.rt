@@ -1,6 +1,6 @@
 // The journey of a front cost, walked back from its arrival: at each step the lowest place that can stand before.
 ghost use mathlib.Core.Path.{_≡_};
-ghost use Prim.Native.Nat.{ℕ, _+_, _*_, _≤_, _<_, _%_};
+ghost use Prim.Native.Nat.{_+_, _*_, _≤_, _<_, _%_};
 ghost use lib.ListN.{length};
 ghost use Rattle.costs.specs.Costs.{figures, add, Within, AtMost};
 ghost use Rattle.costs.specs.Inner.{asCrossing};

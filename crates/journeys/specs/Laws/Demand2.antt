@@ -9,7 +9,7 @@ use mathlib.Core.List.{List, [], _∷_}
 use Prim.Native.Nat.{ℕ, zero, suc, _*_, _-_, _<_}
 use native.Mathlib.Omega.{arith}
 use lib.Dec.{eqb, leb}
-use lib.ListN.{length, getD, take, drop, replicate}
+use lib.ListN.{length, getD, take, drop, replicate, length-append}
 use lib.Seq.{take-at, take-append-seam, getD-at}
 use Rattle.sheet.specs.Lists.{_∈_, pick, Lex, Ascending}
 use Rattle.sheet.specs.Kinds.{kindC, kindO}
@@ -127,6 +127,7 @@ unfolding journeyServed
 gives s g table path h =
     record {
       cost-is = refl;
+      long = omega (arith, length-append (journeyOf s g) (replicate (length path - length (journeyOf s g)) 0), journey-length s g h);
       selected = subst (Selected s g) (sym (take-at (journeyOf s g) (replicate (length path - length (journeyOf s g)) 0) (suc (arrivalOf s g)) (journey-length s g h))) (journeyOf-selected s g h);
     }
 

@@ -1,6 +1,6 @@
 -- `arrivals::notes::mark_next` meets its contract. The loop's invariant: the step is noted where the corridors of u from j on lead to.
 -- Assumes nothing.
-use mathlib.Core.Path.{_∙_, _≡_, refl}
+use mathlib.Core.Path.{_≡_, refl}
 use Prim.Native.Nat.{_≤_}
 use native.Mathlib.Omega.{arith}
 use lib.ListN.{length}
