@@ -2,10 +2,10 @@
 use mathlib.Core.Path.{_≡_}
 use mathlib.Core.Bool.{Bool, true, false, _&&_}
 use mathlib.Core.List.{List}
-use Prim.Native.Nat.{ℕ, zero, suc, _+_, _*_, _≤_, _<_, _%_}
+use Prim.Native.Nat.{ℕ, _+_, _*_, _≤_, _<_, _%_}
 use lib.Dec.{leb, eqb}
 use lib.ListN.{length}
-use Rattle.sheet.specs.Lists.{_∈_, pick, number}
+use Rattle.sheet.specs.Lists.{_∈_, number}
 use Rattle.sheet.specs.Kinds.{kindO}
 use Rattle.sheet.specs.Sheet.{Sheet, placeOf, last}
 use Rattle.sheet.specs.Calls.{groupRows}
@@ -57,15 +57,13 @@ pub record Marked (occupancies : List ℕ) (n : ℕ) (since : List ℕ) : Type 0
   pub hit : (v t k : ℕ) → v < 64 → t < 256 → k < n → coversb occupancies v t k ≡ true → entry since v t ≡ 256
   pub free : (v t : ℕ) → v < 64 → t < 256 → ((k : ℕ) → k < n → coversb occupancies v t k ≡ false) → entry since v t ≡ 0
 
--- the first step of the run that holds a step, from its mark and from what was found at the step before
-abbrev pub runAt : ℕ → ℕ → ℕ → ℕ
-runAt mark before step = pick (eqb mark 256) 256 (pick (eqb step 0) 0 (pick (eqb before 256) step before))
+-- step t is in the free run of v that begins after the marked step a
+pub record InRun (since : List ℕ) (v a t : ℕ) : Type 0 where
+  pub marked : entry since v a ≡ 256
+  pub later : a < t
+  pub free : (i : ℕ) → a < i → i ≤ t → entry since v i ≡ 256 → ⊥
 
--- what was found before entry i
-abbrev pub foundAt : List ℕ → ℕ → ℕ
-foundAt marks zero = 0
-foundAt marks (suc i) = runAt (number marks i) (foundAt marks i) (i % 256)
-
--- each entry is what was found at it
-pub record Turned (marks since : List ℕ) : Type 0 where
-  pub every : (i : ℕ) → i < 16384 → number since i ≡ foundAt marks (suc i)
+-- the entries of the free run of v that begins after the marked step a are its first step after, and the others as before
+pub record FilledRun (v a : ℕ) (before after : List ℕ) : Type 0 where
+  pub hit : (t : ℕ) → t < 256 → InRun before v a t → entry after v t ≡ a + 1
+  pub kept : (w t : ℕ) → w < 64 → t < 256 → (w ≡ v → InRun before v a t → ⊥) → entry after w t ≡ entry before w t

@@ -3,7 +3,7 @@
 ghost use mathlib.Core.Path.{_≡_};
 ghost use Prim.Native.Nat.{ℕ, _+_, _*_, _≤_, _<_, _/_, _%_};
 ghost use lib.ListN.{length};
-ghost use Rattle.intervals.specs.Inner.{FreeIs, Blank, MarkableLine, MarkedLine, Marked, runAt, Turned, SinceTable, ValidGroup};
+ghost use Rattle.intervals.specs.Inner.{FreeIs, Blank, MarkableLine, MarkedLine, Marked, FilledRun, SinceTable, ValidGroup};
 use sheet::Place;
 use sheet::Step;
 
@@ -65,41 +65,50 @@ fn mark_all(occupancies: &[u32], since: &mut [u16])
     }
 }
 
-// The first step of the run that holds a step, from its mark and from what was found at the step before.
-fn run_at(mark: u16, before: u16, step: u16) -> u16
-    ensures { λ r. ⌜ r ≡ runAt mark before step ⌝ }
+// Writes the first step of the free run of a place that begins after a marked step into the run's entries. After a step that is not marked, as the
+// last of a line that ends before it begins may be, it writes nothing.
+fn fill_run(since: &mut [u16], place: usize, marked: usize)
+    requires { ⌜ (length (now since) ≡ 16384) × (place < 64) × (marked ≤ 255) ⌝ }
+    ensures { λ _. ⌜ FilledRun place marked (now (since .entry)) (now (since .exit)) ⌝ }
 {
-    if mark == 256 {
-        return 256;
+    let row = place * 256;
+    let first = marked + 1;
+    if since[row + marked] != 256 {
+        return;
     }
-    if step == 0 {
-        return 0;
+    let mut t = first;
+    while t < 256 {
+        if since[row + t] == 256 {
+            return;
+        }
+        since[row + t] = first as u16;
+        t += 1;
     }
-    if before == 256 {
-        return step;
-    }
-    before
 }
 
-// Turns the marks into first steps.
-fn turn(since: &mut [u16])
-    requires { ⌜ length (now since) ≡ 16384 ⌝ }
-    ensures { λ _. ⌜ Turned (now (since .entry)) (now (since .exit)) ⌝ }
+// Writes the first steps of the free runs that begin after an occupancy, into the table of marks.
+fn turn(occupancies: &[u32], since: &mut [u16])
+    requires { ⌜ (ValidGroup (now occupancies)) × (length (now since) ≡ 16384) × (Marked (now occupancies) (length (now occupancies) / 3) (now since)) ⌝ }
+    ensures { λ _. ⌜ SinceTable (now (occupancies .entry)) (now (since .exit)) ⌝ }
 {
-    let mut before = 0;
-    for i in 0..16384 {
-        before = run_at(since[i], before, (i % 256) as u16);
-        since[i] = before;
+    let n = occupancies.len() / 3;
+    let mut k = 0;
+    while k < n {
+        let place = occupancies[k * 3] as usize;
+        let last = occupancies[k * 3 + 2] as usize;
+        fill_run(since, place, last);
+        k += 1;
     }
 }
 
 // Fills the table of first steps: the entry of place v and step t, at v * 256 + t, is the first step of the free run of v that holds t, and 256
-// where v is occupied at t. The time grows with the steps that the occupancies cover and with the 16,384 entries.
+// where v is occupied at t. The time grows with the steps that the occupancies cover, with the free runs that begin after them, and with the
+// 16,384 entries.
 pub fn fill_since(occupancies: &[u32], since: &mut [u16; 16384])
     requires { ⌜ ValidGroup (now occupancies) ⌝ }
     ensures { λ _. ⌜ SinceTable (now (occupancies .entry)) (now (since .exit)) ⌝ }
 {
     clear(since);
     mark_all(occupancies, since);
-    turn(since);
+    turn(occupancies, since);
 }

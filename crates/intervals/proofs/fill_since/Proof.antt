@@ -1,7 +1,6 @@
--- `intervals::fill_since` meets its contract: the turned marks of the group are the first steps.
+-- `intervals::fill_since` meets its contract: a table of zeros is marked, and the marked table filled.
 -- Assumes nothing.
 use borrow.Author.Needs.{needs}
-use Rattle.intervals.proofs.Tables.{since-table}
 use Rattle.intervals.proofs.fill_since.Statement.{statement}
 use Rattle.intervals.proofs.fill_since.Tie as tie
 
@@ -15,7 +14,7 @@ turn-requires : tie.Need-turn-requires
 turn-requires c κs = search needs
 
 returns : tie.Need-returns
-returns c = since-table _ _ _ (c .before .before .mark-all .ensures) (c .turn .ensures) (search needs)
+returns c = c .turn .ensures
 
 pub fill-since-spec : {M : Type 1} → statement M
 fill-since-spec = tie.close (tie.spec clear-requires mark-all-requires turn-requires returns)

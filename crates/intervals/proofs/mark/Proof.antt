@@ -4,12 +4,12 @@
 use Prim.Native.Nat.{_+_, _*_, _-_, _≤_}
 use native.Mathlib.Omega.{arith}
 use borrow.Author.Needs.{needs}
-use Rattle.intervals.proofs.Tables.{MarkedSteps, steps-none, steps-more, line-marked}
+use Rattle.intervals.proofs.Tables.{Steps, steps-none, steps-more, line-marked}
 use Rattle.intervals.proofs.mark.Statement.{statement}
 use Rattle.intervals.proofs.mark.Tie as tie
 
 abbrev Inv-loop : tie.InvT-loop
-Inv-loop occupancies k since₀ row last t₀ since t = (t₀ ≤ t) × (t ≤ t₀ + (last + 1 - t₀)) × MarkedSteps row t₀ t since₀ since
+Inv-loop occupancies k since₀ row last t₀ since t = (t₀ ≤ t) × (t ≤ t₀ + (last + 1 - t₀)) × Steps 256 row t₀ t since₀ since
 
 abbrev μ-loop : tie.MeasureT-loop
 μ-loop occupancies k since₀ row last t₀ since t = last + 1 - t
@@ -60,7 +60,7 @@ cast-t : tie.Need-cast-t Inv-loop μ-loop
 cast-t c = omega (arith, c .shared-slice-known3 .given (c .before .before .before .args .k * 3 + 1))
 
 loop-holds : tie.Need-loop-holds Inv-loop μ-loop
-loop-holds c = (omega arith, omega arith, steps-none _ _ _ (search needs))
+loop-holds c = (omega arith, omega arith, steps-none _ _ _ _ (search needs))
 
 add-since : tie.Need-add-since Inv-loop μ-loop
 add-since c = search needs
@@ -78,7 +78,7 @@ loop-less : tie.Need-loop-less Inv-loop μ-loop
 loop-less c = search needs
 
 loop-again : tie.Need-loop-again Inv-loop μ-loop
-loop-again c = (omega arith, omega arith, steps-more _ _ (c .before .loop .t) (c .before .before .before .before .before .args .since .now) (c .before .loop .since) (omega arith) (omega arith) (c .before .loop .inv .2))
+loop-again c = (omega arith, omega arith, steps-more _ _ _ (c .before .loop .t) (c .before .before .before .before .before .args .since .now) (c .before .loop .since) (omega arith) (omega arith) (c .before .loop .inv .2))
 
 same-length : tie.Need-same-length Inv-loop μ-loop
 same-length c = search needs
