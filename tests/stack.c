@@ -1,0 +1,101 @@
+/* Measures how many bytes of stack each call of the planner uses, on a sheet with all places and steps: the call runs on a thread whose stack was
+ * filled with a pattern, and what it wrote over is counted. Prints a Markdown table; fails when a call uses more than LIMIT bytes. */
+#include <pthread.h>
+#include <stdint.h>
+#include <stdio.h>
+#include <stdlib.h>
+#include <string.h>
+#include <sys/mman.h>
+
+enum { LIMIT = 262144, STACK = 4 << 20, PATTERN = 0xA5, ARRIVALS = 200000, COSTS = 4000, BYTES = 10240 };
+
+typedef struct { uint32_t refusal, line, costs, arrivals; } FrontAnswer;
+typedef struct { uint32_t refusal, line, cost[3], arrival; } JourneyAnswer;
+typedef struct { uint32_t refusal, line, lines[3], head[7], corridors[1280], occupancies[768]; } SheetRead;
+typedef struct { uint32_t refusal, line, bytes; } SheetWritten;
+
+SheetRead planner_read(const uint8_t *, size_t);
+SheetWritten planner_write(const uint32_t *, size_t, const uint32_t *, size_t, const uint32_t *, size_t, uint8_t *, size_t);
+FrontAnswer planner_front(const uint8_t *, size_t, uint32_t *, size_t, uint32_t *, size_t);
+JourneyAnswer planner_journey(const uint8_t *, size_t, uint32_t, uint32_t *, size_t, uint32_t *, size_t);
+
+static uint8_t sheet[BYTES], written[BYTES];
+static size_t sheet_len;
+static uint32_t arrivals[ARRIVALS], list[COSTS];
+static SheetRead answer;
+static uint32_t refusal;
+
+/* The sheet: a grid of 8 by 8 places, each occupied for three steps, and 255 steps. */
+static void write_sheet(void)
+{
+    char *at = (char *)sheet;
+    at += sprintf(at, "S,64,255,0,63,1,0,0\n");
+    for (int v = 0; v < 64; v++) {
+        if (v % 8 < 7) at += sprintf(at, "C,%d,%d,%d,1,0\n", v, v + 1, 1 + v % 3);
+        if (v < 56) at += sprintf(at, "C,%d,%d,1,%d,1\n", v, v + 8, v % 4);
+    }
+    for (int v = 0; v < 64; v++) at += sprintf(at, "O,%d,%d,%d\n", v, 20 + v, 22 + v);
+    sheet_len = (size_t)(at - (char *)sheet);
+}
+
+static void *idle(void *unused) { return unused; }
+
+static void *run_read(void *unused)
+{
+    answer = planner_read(sheet, sheet_len);
+    refusal = answer.refusal;
+    return unused;
+}
+
+static void *run_write(void *unused)
+{
+    refusal = planner_write(answer.head, 7, answer.corridors, answer.lines[1] * 5, answer.occupancies, answer.lines[2] * 3, written, BYTES).refusal;
+    return unused;
+}
+
+static void *run_front(void *unused)
+{
+    refusal = planner_front(sheet, sheet_len, arrivals, ARRIVALS, list, COSTS).refusal;
+    return unused;
+}
+
+static void *run_journey(void *unused)
+{
+    refusal = planner_journey(sheet, sheet_len, 0, arrivals, ARRIVALS, list, COSTS).refusal;
+    return unused;
+}
+
+/* The bytes of a new thread's stack that differ from the pattern after the function ran. */
+static size_t touched(void *(*run)(void *))
+{
+    uint8_t *stack = mmap(NULL, STACK, PROT_READ | PROT_WRITE, MAP_PRIVATE | MAP_ANONYMOUS, -1, 0);
+    pthread_attr_t attributes;
+    pthread_t thread;
+    size_t kept = 0;
+    if (stack == MAP_FAILED) abort();
+    memset(stack, PATTERN, STACK);
+    pthread_attr_init(&attributes);
+    if (pthread_attr_setstack(&attributes, stack, STACK) || pthread_create(&thread, &attributes, run, NULL) || pthread_join(thread, NULL)) abort();
+    while (kept < STACK && stack[kept] == PATTERN) kept++;
+    munmap(stack, STACK);
+    return STACK - kept;
+}
+
+int main(void)
+{
+    struct { const char *name; void *(*run)(void *); } calls[] = {
+        {"planner_read", run_read}, {"planner_write", run_write}, {"planner_front", run_front}, {"planner_journey", run_journey}};
+    size_t empty = touched(idle);
+    int status = 0;
+    write_sheet();
+    printf("| call | bytes of stack |\n|---|---:|\n");
+    for (size_t i = 0; i < sizeof calls / sizeof *calls; i++) {
+        size_t use = touched(calls[i].run) - empty;
+        printf("| `%s` | %zu |\n", calls[i].name, use);
+        if (refusal != 0 || use > LIMIT) {
+            printf("FAILED: %s, refusal %u, at most %d bytes\n", calls[i].name, refusal, LIMIT);
+            status = 1;
+        }
+    }
+    return status;
+}
