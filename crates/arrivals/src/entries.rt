@@ -94,7 +94,7 @@ pub fn from_place(
     while (floor as usize) < s {
         s -= 1;
         let lo = ix[s * 64 + u] as usize;
-        let hi = ix[16384 + s * 64 + u] as usize;
+        let hi = (ix[16384 + s * 64 + u] / 512) as usize;
         let r = from_rows(table, a, e, ix, lo, hi, v, t, since, wait, c);
         let ok = r.ok;
         e = r.rows;

@@ -70,7 +70,7 @@ pub fn visit(
     if t < runs[v as usize * 256 + t as usize] as u32 {
         return Outcome { ok: true, rows: n };
     }
-    if 21474836475 < table.len() {
+    if 41943039 < table.len() {
         return fill_place(table, n, links, m, runs, t, wait, v, places, start);
     }
     let r = fill_fast(table, n, ix, links, m, ch, runs, t, wait, v, places, start);
@@ -186,7 +186,7 @@ pub fn search_all(
     let mut ch = [0; 640];
     chain(links, m, 0, &mut ch);
     chain(links, m, 1, &mut ch);
-    let mut ix = [0; 49280];
+    let mut ix = [0; 32896];
     let r = first_row(table, &mut ix, links, m, &ch, runs, wait, places, start);
     let ok = r.ok;
     let rows = r.rows;

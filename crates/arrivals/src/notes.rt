@@ -8,21 +8,22 @@ ghost use Rattle.arrivals.specs.Inner.Index.{newestOf, dueOf, lastOf, Ol
 
 // The step past the rows of place v before step s, as far as the index shows.
 pub fn older(ix: &[u32], s: usize, v: usize) -> usize
-    requires { ⌜ (s ≤ 255) × (v < 64) × (49216 ≤ length (now ix)) ⌝ }
+    requires { ⌜ (s ≤ 255) × (v < 64) × (32832 ≤ length (now ix)) ⌝ }
     ensures { λ r. ⌜ Older (now (ix .entry)) s v r ⌝ }
 {
-    if ix[s * 64 + v] < ix[16384 + s * 64 + v] {
-        return ix[32768 + s * 64 + v] as usize;
+    let packed = ix[16384 + s * 64 + v];
+    if ix[s * 64 + v] < packed / 512 {
+        return (packed % 512) as usize;
     }
     s
 }
 
 // The step past the rows of place u, or t where that is less.
 pub fn latest(ix: &[u32], u: usize, t: usize) -> usize
-    requires { ⌜ (u < 64) × (49216 ≤ length (now ix)) ⌝ }
+    requires { ⌜ (u < 64) × (32832 ≤ length (now ix)) ⌝ }
     ensures { λ r. ⌜ (r ≤ t) × ((newestOf (now (ix .entry)) u ≤ r) ⊎ (r ≡ t)) ⌝ }
 {
-    let s = ix[49152 + u] as usize;
+    let s = ix[32768 + u] as usize;
     if s < t {
         return s;
     }
@@ -31,13 +32,13 @@ pub fn latest(ix: &[u32], u: usize, t: usize) -> usize
 
 // Has place u no rows at step t - 1, where the safe interval that is entered began before t?
 pub fn idle(ix: &[u32], u: usize, t: usize, since: usize) -> bool
-    requires { ⌜ (u < 64) × (49216 ≤ length (now ix)) ⌝ }
+    requires { ⌜ (u < 64) × (32832 ≤ length (now ix)) ⌝ }
     ensures { λ r. ⌜ (r ≡ true → ((since ≡ t → ⊥) × (newestOf (now (ix .entry)) u < t))) ⌝ }
 {
     if since == t {
         return false;
     }
-    if (ix[49152 + u] as usize) < t {
+    if (ix[32768 + u] as usize) < t {
         return true;
     }
     false
@@ -45,25 +46,24 @@ pub fn idle(ix: &[u32], u: usize, t: usize, since: usize) -> bool
 
 // Notes the rows from lo to hi as those of step s and place v.
 pub fn note(ix: &mut [u32], lo: usize, hi: usize, s: usize, v: usize)
-    requires { ⌜ (s ≤ 255) × (v < 64) × (49216 ≤ length (now ix)) × (lo ≤ hi) × (hi ≤ 4294967295) ⌝ }
+    requires { ⌜ (s ≤ 255) × (v < 64) × (32832 ≤ length (now ix)) × (lo ≤ hi) × (hi ≤ 8388607) ⌝ }
     ensures { λ _. ⌜ NotedAs (now (ix .entry)) (now (ix .exit)) lo hi s v ⌝ }
 {
     let b = latest(ix, v, s);
-    ix[32768 + s * 64 + v] = b as u32;
-    ix[49152 + v] = (s + 1) as u32;
+    ix[32768 + v] = (s + 1) as u32;
     ix[s * 64 + v] = lo as u32;
-    ix[16384 + s * 64 + v] = hi as u32;
+    ix[16384 + s * 64 + v] = (hi * 512 + b) as u32;
 }
 
 // Is place v to be passed over at step t: no place before it has rows at step t - 1, and its safe interval began before t?
 pub fn rests(ix: &[u32], v: usize, t: usize, since: usize) -> bool
-    requires { ⌜ (v < 64) × (49280 ≤ length (now ix)) ⌝ }
+    requires { ⌜ (v < 64) × (32896 ≤ length (now ix)) ⌝ }
     ensures { λ r. ⌜ (r ≡ true → ((since ≡ t → ⊥) × (dueOf (now (ix .entry)) v < t))) ⌝ }
 {
     if since == t {
         return false;
     }
-    if (ix[49216 + v] as usize) < t {
+    if (ix[32832 + v] as usize) < t {
         return true;
     }
     false
@@ -90,17 +90,17 @@ pub fn next_link(ch: &[usize], links: &[u32], m: usize, q: usize, j: usize, v: u
 
 // Place p may be entered at step s.
 pub fn mark(ix: &mut [u32], p: u32, s: u32)
-    requires { ⌜ 49280 ≤ length (now ix) ⌝ }
+    requires { ⌜ 32896 ≤ length (now ix) ⌝ }
     ensures { λ _. ⌜ MarkedOne (now (ix .entry)) (now (ix .exit)) p s ⌝ }
 {
     if p < 64 {
-        ix[49216 + p as usize] = s;
+        ix[32832 + p as usize] = s;
     }
 }
 
 // The places that corridors lead to from u may be entered at step s.
 pub fn mark_next(ix: &mut [u32], links: &[u32], m: usize, ch: &[usize], u: u32, s: u32)
-    requires { ⌜ (49280 ≤ length (now ix)) × (m * 5 ≤ length (now links)) × (Chained (now links) 0 m (now ch)) × (u < 64) ⌝ }
+    requires { ⌜ (32896 ≤ length (now ix)) × (m * 5 ≤ length (now links)) × (Chained (now links) 0 m (now ch)) × (u < 64) ⌝ }
     ensures { λ _. ⌜ Marked (now (ix .entry)) (now (ix .exit)) (now (links .entry)) 0 m u s ⌝ }
 {
     let mut j = last_link(ch, 0, u);

@@ -128,17 +128,13 @@ pub fn led_walk(
     requires { ⌜ (n * 5 ≤ length (now table)) × (Within 60000 wait) × (v < 64) × (Indexed (now table) n (now ix) t) ⌝ }
     ensures { λ r. ⌜ Decided (Led (rowsOf (now (table .entry)) n) v t since wait g) r ⌝ }
 {
-    let mut s = ix[49152 + v] as usize;
+    let mut s = ix[32768 + v] as usize;
     while (since as usize) < s {
         s -= 1;
         let lag = multiple((t - s) as u32, wait);
-        if led_group(
-            table,
-            ix[s * 64 + v] as usize,
-            ix[16384 + s * 64 + v] as usize,
-            lag,
-            g,
-        ) {
+        let lo = ix[s * 64 + v] as usize;
+        let hi = (ix[16384 + s * 64 + v] / 512) as usize;
+        if led_group(table, lo, hi, lag, g) {
             return true;
         }
         s = older(ix, s, v);

@@ -1,10 +1,10 @@
--- Where the rows of each step and place stand: for step s and place v, at s * 64 + v, the first row; 16384 further, the row past the last;
--- 32768 further, one more than the last step before s at which v has rows. At 49152 + v, one more than the last step at which v has rows.
+-- Where the rows of each step and place stand: for step s and place v, at s * 64 + v, the first row; 16384 further, the row past the last, times
+-- 512, and one more than the last step before s at which v has rows. At 32768 + v, one more than the last step at which v has rows.
 use mathlib.Core.Path.{_≡_, refl, sym, ap, _∙_, subst}
 use mathlib.Core.List.{List}
 use mathlib.Core.Bool.{Bool, true}
 use mathlib.Core.Logic.{_⊎_, inl, inr, ⊎-elim}
-use Prim.Native.Nat.{ℕ, zero, suc, _+_, _*_, _-_, _≤_, _<_}
+use Prim.Native.Nat.{ℕ, zero, suc, _+_, _*_, _-_, _/_, _%_, _≤_, _<_}
 use native.Mathlib.Omega.{arith}
 use native.Mathlib.Decide.{ℕ-discrete}
 use lib.ListN.{length, getD, set, length-set, replicate, length-replicate}
@@ -21,16 +21,16 @@ abbrev pub lowOf : List ℕ → ℕ → ℕ → ℕ
 lowOf ix s v = getD ix (s * 64 + v) 0
 
 abbrev pub highOf : List ℕ → ℕ → ℕ → ℕ
-highOf ix s v = getD ix (16384 + s * 64 + v) 0
+highOf ix s v = getD ix (16384 + s * 64 + v) 0 / 512
 
 abbrev pub backOf : List ℕ → ℕ → ℕ → ℕ
-backOf ix s v = getD ix (32768 + s * 64 + v) 0
+backOf ix s v = getD ix (16384 + s * 64 + v) 0 % 512
 
 abbrev pub newestOf : List ℕ → ℕ → ℕ
-newestOf ix v = getD ix (49152 + v) 0
+newestOf ix v = getD ix (32768 + v) 0
 
 pub record Indexed (xs : List ℕ) (n : ℕ) (ix : List ℕ) (t : ℕ) : Type 0 where
-  pub size : 49216 ≤ length ix
+  pub size : 32832 ≤ length ix
   pub now : t ≤ 255
   pub places : (i : ℕ) → i < n → rowAt xs i .place < 64
   pub steps : (i : ℕ) → i < n → rowAt xs i .step ≤ t
@@ -47,18 +47,18 @@ pub record Indexed (xs : List ℕ) (n : ℕ) (ix : List ℕ) (t : ℕ) : Type 0 
 abbrev pub linkOf : List ℕ → ℕ → ℕ → ℕ
 linkOf links q j = getD links (j * 5 + q) 0
 
--- at 49216 + v, one more than the last step at which a place from which a corridor leads to v has rows, or more: where that is below t, v is not
+-- at 32832 + v, one more than the last step at which a place from which a corridor leads to v has rows, or more: where that is below t, v is not
 -- entered at step t from a row of step t - 1
 abbrev pub dueOf : List ℕ → ℕ → ℕ
-dueOf ix v = getD ix (49216 + v) 0
+dueOf ix v = getD ix (32832 + v) 0
 
 pub record Due (links : List ℕ) (m : ℕ) (ix : List ℕ) : Type 0 where
-  pub size : 49280 ≤ length ix
+  pub size : 32896 ≤ length ix
   pub due : (j : ℕ) → j < m → linkOf links 0 j < 64 → linkOf links 1 j < 64 → newestOf ix (linkOf links 0 j) ≤ dueOf ix (linkOf links 1 j)
 
--- the index is kept for tables whose rows can be numbered with 32 bits
+-- the index is kept for tables whose rows can be numbered with 23 bits
 abbrev pub IndexedShort : List ℕ → ℕ → List ℕ → ℕ → List ℕ → ℕ → Type 0
-IndexedShort xs n ix t links m = length xs ≤ 21474836475 → (Indexed xs n ix t) × (Due links m ix)
+IndexedShort xs n ix t links m = length xs ≤ 41943039 → (Indexed xs n ix t) × (Due links m ix)
 
 -- the step past the rows of v before step s, as far as the index shows
 abbrev pub Older : List ℕ → ℕ → ℕ → ℕ → Type 0
@@ -374,41 +374,41 @@ pub record NotedAs (ix iy : List ℕ) (lo hi s v : ℕ) : Type 0 where
   pub past : (newestOf ix v ≤ last) ⊎ (last ≡ s)
   pub noted : Noted ix iy lo hi s v last
 
-pub noted : (ix : List ℕ) (lo hi s v b : ℕ) → s ≤ 255 → v < 64 → 49216 ≤ length ix → Noted ix (set (set (set (set ix (32768 + s * 64 + v) b) (49152 + v) (s + 1)) (s * 64 + v) lo) (16384 + s * 64 + v) hi) lo hi s v b
-noted ix lo hi s v b l m size =
+pub noted : (ix : List ℕ) (lo hi s v b : ℕ) → s ≤ 255 → v < 64 → b ≤ s → 32832 ≤ length ix → Noted ix (set (set (set ix (32768 + v) (s + 1)) (s * 64 + v) lo) (16384 + s * 64 + v) (hi * 512 + b)) lo hi s v b
+noted ix lo hi s v b l m bs size =
     record {
       size = simp length-set (omega arith);
-      low = skip4 (s * 64 + v) (λ e. omega arith) ∙ getD-set-same i2 (s * 64 + v) lo 0 (simp length-set (omega arith));
-      high = getD-set-same i3 (16384 + s * 64 + v) hi 0 (simp length-set (omega arith));
-      back = skip4 (32768 + s * 64 + v) (λ e. omega arith) ∙ skip3 (32768 + s * 64 + v) (λ e. omega arith) ∙ skip2 (32768 + s * 64 + v) (λ e. omega arith) ∙ getD-set-same ix (32768 + s * 64 + v) b 0 (omega arith);
-      newest = skip4 (49152 + v) (λ e. omega arith) ∙ skip3 (49152 + v) (λ e. omega arith) ∙ getD-set-same i1 (49152 + v) (s + 1) 0 (simp length-set (omega arith));
-      lows = λ r u a c n. skip4 (r * 64 + u) (λ e. omega arith) ∙ skip3 (r * 64 + u) (λ e. n (omega arith) (omega arith)) ∙ skip2 (r * 64 + u) (λ e. omega arith) ∙ skip1 (r * 64 + u) (λ e. omega arith);
-      highs = λ r u a c n. skip4 (16384 + r * 64 + u) (λ e. n (omega arith) (omega arith)) ∙ skip3 (16384 + r * 64 + u) (λ e. omega arith) ∙ skip2 (16384 + r * 64 + u) (λ e. omega arith) ∙ skip1 (16384 + r * 64 + u) (λ e. omega arith);
-      backs = λ r u a c n. skip4 (32768 + r * 64 + u) (λ e. omega arith) ∙ skip3 (32768 + r * 64 + u) (λ e. omega arith) ∙ skip2 (32768 + r * 64 + u) (λ e. omega arith) ∙ skip1 (32768 + r * 64 + u) (λ e. n (omega arith) (omega arith));
-      dues = λ u. skip4 (49216 + u) (λ e. omega arith) ∙ skip3 (49216 + u) (λ e. omega arith) ∙ skip2 (49216 + u) (λ e. omega arith) ∙ skip1 (49216 + u) (λ e. omega arith);
-      newests = λ u c n. skip4 (49152 + u) (λ e. omega arith) ∙ skip3 (49152 + u) (λ e. omega arith) ∙ skip2 (49152 + u) (λ e. n (omega arith)) ∙ skip1 (49152 + u) (λ e. omega arith);
+      low = skip3 (s * 64 + v) (λ e. omega arith) ∙ getD-set-same i1 (s * 64 + v) lo 0 (simp length-set (omega arith));
+      high = omega (arith, packed);
+      back = omega (arith, packed);
+      newest = skip3 (32768 + v) (λ e. omega arith) ∙ skip2 (32768 + v) (λ e. omega arith) ∙ getD-set-same ix (32768 + v) (s + 1) 0 (omega arith);
+      lows = λ r u a c n. skip3 (r * 64 + u) (λ e. omega arith) ∙ skip2 (r * 64 + u) (λ e. n (omega arith) (omega arith)) ∙ skip1 (r * 64 + u) (λ e. omega arith);
+      highs = λ r u a c n. ap (λ (x : ℕ). x / 512) (cell r u a c n);
+      backs = λ r u a c n. ap (λ (x : ℕ). x % 512) (cell r u a c n);
+      newests = λ u c n. skip3 (32768 + u) (λ e. omega arith) ∙ skip2 (32768 + u) (λ e. omega arith) ∙ skip1 (32768 + u) (λ e. n (omega arith));
+      dues = λ u. skip3 (32832 + u) (λ e. omega arith) ∙ skip2 (32832 + u) (λ e. omega arith) ∙ skip1 (32832 + u) (λ e. omega arith);
     }
   where
     i1 : List ℕ
-    i1 = set ix (32768 + s * 64 + v) b
+    i1 = set ix (32768 + v) (s + 1)
 
     i2 : List ℕ
-    i2 = set i1 (49152 + v) (s + 1)
+    i2 = set i1 (s * 64 + v) lo
 
-    i3 : List ℕ
-    i3 = set i2 (s * 64 + v) lo
+    packed : getD (set i2 (16384 + s * 64 + v) (hi * 512 + b)) (16384 + s * 64 + v) 0 ≡ hi * 512 + b
+    packed = getD-set-same i2 (16384 + s * 64 + v) (hi * 512 + b) 0 (simp length-set (omega arith))
 
-    skip1 : (j : ℕ) → (j ≡ 32768 + s * 64 + v → ⊥) → getD i1 j 0 ≡ getD ix j 0
-    skip1 j n = getD-set-other ix (32768 + s * 64 + v) j b 0 n
+    skip1 : (j : ℕ) → (j ≡ 32768 + v → ⊥) → getD i1 j 0 ≡ getD ix j 0
+    skip1 j n = getD-set-other ix (32768 + v) j (s + 1) 0 n
 
-    skip2 : (j : ℕ) → (j ≡ 49152 + v → ⊥) → getD i2 j 0 ≡ getD i1 j 0
-    skip2 j n = getD-set-other i1 (49152 + v) j (s + 1) 0 n
+    skip2 : (j : ℕ) → (j ≡ s * 64 + v → ⊥) → getD i2 j 0 ≡ getD i1 j 0
+    skip2 j n = getD-set-other i1 (s * 64 + v) j lo 0 n
 
-    skip3 : (j : ℕ) → (j ≡ s * 64 + v → ⊥) → getD i3 j 0 ≡ getD i2 j 0
-    skip3 j n = getD-set-other i2 (s * 64 + v) j lo 0 n
+    skip3 : (j : ℕ) → (j ≡ 16384 + s * 64 + v → ⊥) → getD (set i2 (16384 + s * 64 + v) (hi * 512 + b)) j 0 ≡ getD i2 j 0
+    skip3 j n = getD-set-other i2 (16384 + s * 64 + v) j (hi * 512 + b) 0 n
 
-    skip4 : (j : ℕ) → (j ≡ 16384 + s * 64 + v → ⊥) → getD (set i3 (16384 + s * 64 + v) hi) j 0 ≡ getD i3 j 0
-    skip4 j n = getD-set-other i3 (16384 + s * 64 + v) j hi 0 n
+    cell : (r u : ℕ) → r ≤ 255 → u < 64 → (r ≡ s → u ≡ v → ⊥) → getD (set i2 (16384 + s * 64 + v) (hi * 512 + b)) (16384 + r * 64 + u) 0 ≡ getD ix (16384 + r * 64 + u) 0
+    cell r u a c n = skip3 (16384 + r * 64 + u) (λ e. n (omega arith) (omega arith)) ∙ skip2 (16384 + r * 64 + u) (λ e. omega arith) ∙ skip1 (16384 + r * 64 + u) (λ e. omega arith)
 
 module _ (xs ys : List ℕ) (n m : ℕ) (ix iy : List ℕ) (t v b : ℕ) (w : Indexed xs n ix t) (g : Grown xs ys n m v t) (inside : v < 64) (fresh : (i : ℕ) → i < n → rowAt xs i .place ≡ v → rowAt xs i .step < t) (d : Noted ix iy n m t v b) (bt : b ≤ t) (bn : (newestOf ix v ≤ b) ⊎ (b ≡ t)) where
   same-row : (i : ℕ) → i < n → rowAt xs i ≡ rowAt ys i
@@ -591,7 +591,7 @@ pub chained-none : (links : List ℕ) (q : ℕ) (ch : List ℕ) → q * 320 + 32
 chained-none links q ch l zeros =
     record { size = l; few = omega arith; head = λ v j b x y z. omega arith; heads = λ v b. omega (arith, zeros (q * 320 + v) (omega arith)); next = λ i j b o x y z. omega arith; nexts = λ j b. absurd (omega arith) }
 
-pub indexed-none : (xs : List ℕ) (n t : ℕ) → 49216 ≤ n → t ≤ 255 → Indexed xs 0 (replicate n 0) t
+pub indexed-none : (xs : List ℕ) (n t : ℕ) → 32832 ≤ n → t ≤ 255 → Indexed xs 0 (replicate n 0) t
 indexed-none xs n t l m =
     record {
       size = omega (arith, length-replicate {A = ℕ} n 0);
@@ -603,9 +603,9 @@ indexed-none xs n t l m =
       order = λ s v a b. (omega (arith, zeros-at n (s * 64 + v)), omega (arith, zeros-at n (16384 + s * 64 + v)));
       only = λ s v i a b c d. absurd (omega (arith, zeros-at n (16384 + s * 64 + v)));
       newest = λ i b. absurd (omega arith);
-      latest = λ v b. omega (arith, zeros-at n (49152 + v));
+      latest = λ v b. omega (arith, zeros-at n (32768 + v));
       back = λ i j b. absurd (omega arith);
-      down = λ s v a b. omega (arith, zeros-at n (32768 + s * 64 + v));
+      down = λ s v a b. omega (arith, zeros-at n (16384 + s * 64 + v));
     }
 
 -- a place without rows at step t - 1 sends nothing into a safe interval that began earlier
@@ -619,18 +619,18 @@ idle-none xs a ix t free v since wait h l w n m z =
 -- step s is noted for place p
 pub record MarkedOne (ix iy : List ℕ) (p s : ℕ) : Type 0 where
   pub size : length iy ≡ length ix
-  pub others : (i : ℕ) → (i ≡ 49216 + p → ⊥) → getD iy i 0 ≡ getD ix i 0
+  pub others : (i : ℕ) → (i ≡ 32832 + p → ⊥) → getD iy i 0 ≡ getD ix i 0
   pub own : p < 64 → dueOf iy p ≡ s
   pub past : 64 ≤ p → dueOf iy p ≡ dueOf ix p
 
-pub marked-one : (ix : List ℕ) (p s : ℕ) → 49280 ≤ length ix → p < 64 → MarkedOne ix (set ix (49216 + p) s) p s
+pub marked-one : (ix : List ℕ) (p s : ℕ) → 32896 ≤ length ix → p < 64 → MarkedOne ix (set ix (32832 + p) s) p s
 marked-one ix p s l b =
-    record { size = length-set ix (49216 + p) s; others = λ i n. getD-set-other ix (49216 + p) i s 0 n; own = λ _. getD-set-same ix (49216 + p) s 0 (omega arith); past = λ c. absurd (omega arith) }
+    record { size = length-set ix (32832 + p) s; others = λ i n. getD-set-other ix (32832 + p) i s 0 n; own = λ _. getD-set-same ix (32832 + p) s 0 (omega arith); past = λ c. absurd (omega arith) }
 
 -- step s is noted where the corridors of u from corridor j on lead to; nothing else is changed but entries that become s
 pub record Marked (ix iy links : List ℕ) (j m u s : ℕ) : Type 0 where
   pub size : length iy ≡ length ix
-  pub index : (i : ℕ) → i < 49216 → getD iy i 0 ≡ getD ix i 0
+  pub index : (i : ℕ) → i < 32832 → getD iy i 0 ≡ getD ix i 0
   pub dues : (v : ℕ) → (dueOf iy v ≡ s) ⊎ (dueOf iy v ≡ dueOf ix v)
   pub marked : (i : ℕ) → j ≤ i → i < m → linkOf links 0 i ≡ u → linkOf links 1 i < 64 → dueOf iy (linkOf links 1 i) ≡ s
 
@@ -654,12 +654,12 @@ marked-more ix iy iz links j r m u s o n a w =
 
     after : (v : ℕ) → Dec (v ≡ linkOf links 1 (j - 1)) → (dueOf iz v ≡ s) ⊎ (dueOf iz v ≡ dueOf iy v)
     after v (yes e) = subst (λ (k : ℕ). (dueOf iz k ≡ s) ⊎ (dueOf iz k ≡ dueOf iy k)) (sym e) here
-    after v (no e) = inr (a .others (49216 + v) (λ f. e (omega arith)))
+    after v (no e) = inr (a .others (32832 + v) (λ f. e (omega arith)))
 
 pub marked-end : (ix iy links : List ℕ) (j m u s : ℕ) → j ≤ 0 → Marked ix iy links j m u s → Marked ix iy links 0 m u s
 marked-end ix iy links j m u s l w = let e : j ≡ 0 = omega arith in subst (λ (i : ℕ). Marked ix iy links i m u s) e w
 
-pub indexed-same : {xs : List ℕ} {n : ℕ} {ix iy : List ℕ} {t : ℕ} → length iy ≡ length ix → ((i : ℕ) → i < 49216 → getD iy i 0 ≡ getD ix i 0) → Indexed xs n ix t → Indexed xs n iy t
+pub indexed-same : {xs : List ℕ} {n : ℕ} {ix iy : List ℕ} {t : ℕ} → length iy ≡ length ix → ((i : ℕ) → i < 32832 → getD iy i 0 ≡ getD ix i 0) → Indexed xs n ix t → Indexed xs n iy t
 indexed-same {xs} {n} {ix} {iy} {t} e same w =
     record {
       size = omega (arith, w .size);
@@ -670,10 +670,10 @@ indexed-same {xs} {n} {ix} {iy} {t} e same w =
       high = λ i l. omega (arith, same (16384 + rowAt xs i .step * 64 + rowAt xs i .place) (omega (arith, inside i l)), w .high i l);
       order = λ s v a b. let o = w .order s v a b in let x = same (s * 64 + v) (omega arith) in let y = same (16384 + s * 64 + v) (omega arith) in (omega (arith, o .0), omega (arith, o .1));
       only = λ s v i a b c d. w .only s v i a b (omega (arith, same (s * 64 + v) (omega arith))) (omega (arith, same (16384 + s * 64 + v) (omega arith)));
-      newest = λ i l. omega (arith, same (49152 + rowAt xs i .place) (omega (arith, w .places i l)), w .newest i l);
-      latest = λ v b. omega (arith, same (49152 + v) (omega arith), w .latest v b);
-      back = λ i j l m p q. omega (arith, same (32768 + rowAt xs j .step * 64 + rowAt xs j .place) (omega (arith, inside j m)), w .back i j l m p q);
-      down = λ s v a b. omega (arith, same (32768 + s * 64 + v) (omega arith), w .down s v a b);
+      newest = λ i l. omega (arith, same (32768 + rowAt xs i .place) (omega (arith, w .places i l)), w .newest i l);
+      latest = λ v b. omega (arith, same (32768 + v) (omega arith), w .latest v b);
+      back = λ i j l m p q. omega (arith, same (16384 + rowAt xs j .step * 64 + rowAt xs j .place) (omega (arith, inside j m)), w .back i j l m p q);
+      down = λ s v a b. omega (arith, same (16384 + s * 64 + v) (omega arith), w .down s v a b);
     }
   where
     inside : (i : ℕ) → i < n → rowAt xs i .step * 64 + rowAt xs i .place < 16384
@@ -688,15 +688,15 @@ due-more ix iy iz links lo hi m t v w d a b =
     }
   where
     go : (j : ℕ) → j < m → linkOf links 0 j < 64 → linkOf links 1 j < 64 → Dec (linkOf links 0 j ≡ v) → newestOf iz (linkOf links 0 j) ≤ dueOf iz (linkOf links 1 j)
-    go j l c e (yes f) = omega (arith, b .index (49152 + linkOf links 0 j) (omega arith), subst (λ (k : ℕ). newestOf iy k ≡ t + 1) (sym f) (a .noted .newest), b .marked j (omega arith) l f e)
+    go j l c e (yes f) = omega (arith, b .index (32768 + linkOf links 0 j) (omega arith), subst (λ (k : ℕ). newestOf iy k ≡ t + 1) (sym f) (a .noted .newest), b .marked j (omega arith) l f e)
     go j l c e (no f) =
         ⊎-elim
-        (λ x. omega (arith, b .index (49152 + linkOf links 0 j) (omega arith), a .noted .newests (linkOf links 0 j) c f, w .latest (linkOf links 0 j) c))
-        (λ x. omega (arith, b .index (49152 + linkOf links 0 j) (omega arith), a .noted .newests (linkOf links 0 j) c f, a .noted .dues (linkOf links 1 j), d .due j l c e))
+        (λ x. omega (arith, b .index (32768 + linkOf links 0 j) (omega arith), a .noted .newests (linkOf links 0 j) c f, w .latest (linkOf links 0 j) c))
+        (λ x. omega (arith, b .index (32768 + linkOf links 0 j) (omega arith), a .noted .newests (linkOf links 0 j) c f, a .noted .dues (linkOf links 1 j), d .due j l c e))
         (b .dues (linkOf links 1 j))
 
-pub due-none : (links : List ℕ) (m n : ℕ) → 49280 ≤ n → Due links m (replicate n 0)
-due-none links m n l = record { size = omega (arith, length-replicate {A = ℕ} n 0); due = λ j b c d. omega (arith, zeros-at n (49152 + linkOf links 0 j), zeros-at n (49216 + linkOf links 1 j)) }
+pub due-none : (links : List ℕ) (m n : ℕ) → 32896 ≤ n → Due links m (replicate n 0)
+due-none links m n l = record { size = omega (arith, length-replicate {A = ℕ} n 0); due = λ j b c d. omega (arith, zeros-at n (32768 + linkOf links 0 j), zeros-at n (32832 + linkOf links 1 j)) }
 
 -- a place that is not due is not entered, unless its safe interval begins
 pub due-rests : (xs : List ℕ) (a : ℕ) (ix : List ℕ) (t : ℕ) (free links : List ℕ) (m v since : ℕ) (wait h : List ℕ) → Indexed xs a ix t → Due links m ix → All Link (rowsOf links m) → v < 64 → (since ≡ t → ⊥) → dueOf ix v < t → Any (Enters free (rowsOf xs a) v t since wait h) (rowsOf links m) → ⊥

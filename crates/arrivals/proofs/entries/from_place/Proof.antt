@@ -17,7 +17,7 @@ use Rattle.arrivals.proofs.entries.from_place.Statement.{statement}
 use Rattle.arrivals.proofs.entries.from_place.Tie as tie
 
 abbrev Inv-loop : tie.InvT-loop
-Inv-loop table₀ a d ix u floor v t since wait c e₀ s₀ table e s = (s ≤ t) × (t ≤ 255) × (49216 ≤ length ix) × (length table ≡ length table₀) × Swept (Via table₀ a u floor s t wait c) (Led (rowsOf table₀ a) v t since wait) v t a table₀ table d true e
+Inv-loop table₀ a d ix u floor v t since wait c e₀ s₀ table e s = (s ≤ t) × (t ≤ 255) × (32832 ≤ length ix) × (length table ≡ length table₀) × Swept (Via table₀ a u floor s t wait c) (Led (rowsOf table₀ a) v t since wait) v t a table₀ table d true e
 
 abbrev μ-loop : tie.MeasureT-loop
 μ-loop table₀ a d ix u floor v t since wait c e₀ s₀ table e s = s

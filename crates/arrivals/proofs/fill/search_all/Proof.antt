@@ -28,7 +28,7 @@ slice-aggregate-first-row-2 : tie.Need-slice-aggregate-first-row-2
 slice-aggregate-first-row-2 c = search needs
 
 first-row-requires : tie.Need-first-row-requires
-first-row-requires c κs = let p = c .before .before .before .before .before .before .before .before .before .before .before .before .pre in let a = c .before .before .before .before .before .before .before .chain .ensures in let b = c .before .before .before .before .chain2 .ensures in (p .0, p .2, indexed-none (c .before .before .before .before .before .before .before .before .before .before .before .before .args .table .now) 49280 0 (omega arith) (omega arith), chained-aside _ 1 0 _ _ _ (omega arith) (search needs) (b .1) (a .0), due-none _ _ 49280 (omega arith))
+first-row-requires c κs = let p = c .before .before .before .before .before .before .before .before .before .before .before .before .pre in let a = c .before .before .before .before .before .before .before .chain .ensures in let b = c .before .before .before .before .chain2 .ensures in (p .0, p .2, indexed-none (c .before .before .before .before .before .before .before .before .before .before .before .before .args .table .now) 32896 0 (omega arith) (omega arith), chained-aside _ 1 0 _ _ _ (omega arith) (search needs) (b .1) (a .0), due-none _ _ 32896 (omega arith))
 
 slice-aggregate-fill-steps : tie.Need-slice-aggregate-fill-steps
 slice-aggregate-fill-steps c = search needs

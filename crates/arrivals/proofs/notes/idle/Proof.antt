@@ -21,7 +21,7 @@ shared-slice-read-if2 : tie.Need-shared-slice-read-if2
 shared-slice-read-if2 c = search needs
 
 cast-if2 : tie.Need-cast-if2
-cast-if2 c = omega (arith, c .shared-slice-known .given (49152 + c .before .before .args .u))
+cast-if2 c = omega (arith, c .shared-slice-known .given (32768 + c .before .before .args .u))
 
 returns-2 : tie.Need-returns-2
 returns-2 c = search needs

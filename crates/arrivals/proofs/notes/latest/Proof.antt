@@ -18,7 +18,7 @@ shared-slice-read-s : tie.Need-shared-slice-read-s
 shared-slice-read-s c = search needs
 
 cast-s : tie.Need-cast-s
-cast-s c = omega (arith, c .shared-slice-known .given (49152 + c .before .args .u))
+cast-s c = omega (arith, c .shared-slice-known .given (32768 + c .before .args .u))
 
 returns : tie.Need-returns
 returns c = (omega arith, inl (omega arith))

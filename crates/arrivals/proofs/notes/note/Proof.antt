@@ -10,32 +10,29 @@ use Rattle.arrivals.proofs.notes.note.Tie as tie
 latest-requires : tie.Need-latest-requires
 latest-requires c κs = search needs
 
-cast-ix : tie.Need-cast-ix
-cast-ix c = search needs
-
-mul-ix : tie.Need-mul-ix
-mul-ix c = search needs
-
 add-ix : tie.Need-add-ix
 add-ix c = search needs
+
+cast-ix : tie.Need-cast-ix
+cast-ix c = search needs
 
 add-ix-2 : tie.Need-add-ix-2
 add-ix-2 c = search needs
 
-mul-ix-2 : tie.Need-mul-ix-2
-mul-ix-2 c = search needs
+mul-ix : tie.Need-mul-ix
+mul-ix c = search needs
 
 slice-write-ix : tie.Need-slice-write-ix
 slice-write-ix c = search needs
 
-add-ix-3 : tie.Need-add-ix-3
-add-ix-3 c = search needs
-
 cast-ix-2 : tie.Need-cast-ix-2
 cast-ix-2 c = search needs
 
-add-ix-4 : tie.Need-add-ix-4
-add-ix-4 c = search needs
+mul-ix-2 : tie.Need-mul-ix-2
+mul-ix-2 c = search needs
+
+add-ix-3 : tie.Need-add-ix-3
+add-ix-3 c = search needs
 
 mul-ix-3 : tie.Need-mul-ix-3
 mul-ix-3 c = search needs
@@ -43,71 +40,58 @@ mul-ix-3 c = search needs
 slice-write-ix-2 : tie.Need-slice-write-ix-2
 slice-write-ix-2 c = simp length-set (omega arith)
 
-cast-ix-3 : tie.Need-cast-ix-3
-cast-ix-3 c = search needs
-
 mul-ix-4 : tie.Need-mul-ix-4
 mul-ix-4 c = search needs
 
-add-ix-5 : tie.Need-add-ix-5
-add-ix-5 c = search needs
+add-ix-4 : tie.Need-add-ix-4
+add-ix-4 c = search needs
+
+cast-ix-3 : tie.Need-cast-ix-3
+cast-ix-3 c = search needs
 
 mul-ix-5 : tie.Need-mul-ix-5
 mul-ix-5 c = search needs
 
-slice-write-ix-3 : tie.Need-slice-write-ix-3
-slice-write-ix-3 c = simp length-set (omega arith)
-
-cast-ix-4 : tie.Need-cast-ix-4
-cast-ix-4 c = search needs
-
-mul-ix-6 : tie.Need-mul-ix-6
-mul-ix-6 c = search needs
+add-ix-5 : tie.Need-add-ix-5
+add-ix-5 c = search needs
 
 add-ix-6 : tie.Need-add-ix-6
 add-ix-6 c = search needs
 
-add-ix-7 : tie.Need-add-ix-7
-add-ix-7 c = search needs
+mul-ix-6 : tie.Need-mul-ix-6
+mul-ix-6 c = search needs
 
-mul-ix-7 : tie.Need-mul-ix-7
-mul-ix-7 c = search needs
-
-slice-write-ix-4 : tie.Need-slice-write-ix-4
-slice-write-ix-4 c = simp length-set (omega arith)
+slice-write-ix-3 : tie.Need-slice-write-ix-3
+slice-write-ix-3 c = simp length-set (omega arith)
 
 same-length : tie.Need-same-length
 same-length c = search needs
 
 returns : tie.Need-returns
-returns c = record { last = c .latest .result; most = c .latest .ensures .0; past = c .latest .ensures .1; noted = noted _ _ _ _ _ _ (c .before .before .before .pre .0) (c .before .before .before .pre .1) (c .before .before .before .pre .2) }
+returns c = record { last = c .latest .result; most = c .latest .ensures .0; past = c .latest .ensures .1; noted = noted _ _ _ _ _ _ (c .before .before .before .pre .0) (c .before .before .before .pre .1) (c .latest .ensures .0) (c .before .before .before .pre .2) }
 
 pub note-spec : {M : Type 1} → statement M
 note-spec =
     tie.close
     (tie.spec
     latest-requires
-    cast-ix
-    mul-ix
     add-ix
+    cast-ix
     add-ix-2
-    mul-ix-2
+    mul-ix
     slice-write-ix
-    add-ix-3
     cast-ix-2
-    add-ix-4
+    mul-ix-2
+    add-ix-3
     mul-ix-3
     slice-write-ix-2
-    cast-ix-3
     mul-ix-4
-    add-ix-5
+    add-ix-4
+    cast-ix-3
     mul-ix-5
-    slice-write-ix-3
-    cast-ix-4
-    mul-ix-6
+    add-ix-5
     add-ix-6
-    add-ix-7
-    mul-ix-7
-    slice-write-ix-4
+    mul-ix-6
+    slice-write-ix-3
     same-length
     returns)

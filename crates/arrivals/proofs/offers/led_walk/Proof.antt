@@ -13,7 +13,7 @@ use Rattle.arrivals.proofs.offers.led_walk.Statement.{statement}
 use Rattle.arrivals.proofs.offers.led_walk.Tie as tie
 
 abbrev Inv-loop : tie.InvT-loop
-Inv-loop table n ix v t since wait g s₀ s = (s ≤ t + 1) × (t ≤ 255) × (49216 ≤ length ix) × ((i : ℕ) → i < n → rowAt table i .place ≡ v → s ≤ rowAt table i .step → RowLeads v t since wait g (rowAt table i) → ⊥)
+Inv-loop table n ix v t since wait g s₀ s = (s ≤ t + 1) × (t ≤ 255) × (32832 ≤ length ix) × ((i : ℕ) → i < n → rowAt table i .place ≡ v → s ≤ rowAt table i .step → RowLeads v t since wait g (rowAt table i) → ⊥)
 
 abbrev μ-loop : tie.MeasureT-loop
 μ-loop table n ix v t since wait g s₀ s = s
@@ -28,7 +28,7 @@ shared-slice-read-s : tie.Need-shared-slice-read-s Inv-loop μ-loop
 shared-slice-read-s c = omega (arith, c .before .before .before .pre .3 .size)
 
 cast-s : tie.Need-cast-s Inv-loop μ-loop
-cast-s c = omega (arith, c .shared-slice-known3 .given (49152 + c .before .before .before .args .v))
+cast-s c = omega (arith, c .shared-slice-known3 .given (32768 + c .before .before .before .args .v))
 
 loop-holds : tie.Need-loop-holds Inv-loop μ-loop
 loop-holds c = (c .before .before .before .pre .3 .latest (c .before .before .before .args .v) (c .before .before .before .pre .2), c .before .before .before .pre .3 .now, c .before .before .before .pre .3 .size, λ i l p q d. let z = row-newest (c .before .before .before .pre .3) i (c .before .before .before .args .v) l p in omega arith)
@@ -45,38 +45,38 @@ cast-multiple c = search needs
 multiple-requires : tie.Need-multiple-requires Inv-loop μ-loop
 multiple-requires c κs = search needs
 
-mul-led-group : tie.Need-mul-led-group Inv-loop μ-loop
-mul-led-group c = search needs
+mul-lo : tie.Need-mul-lo Inv-loop μ-loop
+mul-lo c = search needs
 
-add-led-group : tie.Need-add-led-group Inv-loop μ-loop
-add-led-group c = search needs
+add-lo : tie.Need-add-lo Inv-loop μ-loop
+add-lo c = search needs
 
-mul-led-group-2 : tie.Need-mul-led-group-2 Inv-loop μ-loop
-mul-led-group-2 c = search needs
+mul-lo-2 : tie.Need-mul-lo-2 Inv-loop μ-loop
+mul-lo-2 c = search needs
 
-shared-slice-read-led-group : tie.Need-shared-slice-read-led-group Inv-loop μ-loop
-shared-slice-read-led-group c = search needs
+shared-slice-read-lo : tie.Need-shared-slice-read-lo Inv-loop μ-loop
+shared-slice-read-lo c = search needs
 
-cast-led-group : tie.Need-cast-led-group Inv-loop μ-loop
-cast-led-group c = omega (arith, c .shared-slice-known4 .given ((c .before .before .before .loop .s - 1) * 64 + c .before .before .before .before .before .before .before .args .v))
+cast-lo : tie.Need-cast-lo Inv-loop μ-loop
+cast-lo c = omega (arith, c .shared-slice-known4 .given ((c .before .before .before .loop .s - 1) * 64 + c .before .before .before .before .before .before .before .args .v))
 
-mul-led-group-3 : tie.Need-mul-led-group-3 Inv-loop μ-loop
-mul-led-group-3 c = search needs
+mul-hi : tie.Need-mul-hi Inv-loop μ-loop
+mul-hi c = search needs
 
-add-led-group-2 : tie.Need-add-led-group-2 Inv-loop μ-loop
-add-led-group-2 c = search needs
+add-hi : tie.Need-add-hi Inv-loop μ-loop
+add-hi c = search needs
 
-add-led-group-3 : tie.Need-add-led-group-3 Inv-loop μ-loop
-add-led-group-3 c = search needs
+add-hi-2 : tie.Need-add-hi-2 Inv-loop μ-loop
+add-hi-2 c = search needs
 
-mul-led-group-4 : tie.Need-mul-led-group-4 Inv-loop μ-loop
-mul-led-group-4 c = search needs
+mul-hi-2 : tie.Need-mul-hi-2 Inv-loop μ-loop
+mul-hi-2 c = search needs
 
-shared-slice-read-led-group-2 : tie.Need-shared-slice-read-led-group-2 Inv-loop μ-loop
-shared-slice-read-led-group-2 c = search needs
+shared-slice-read-hi : tie.Need-shared-slice-read-hi Inv-loop μ-loop
+shared-slice-read-hi c = search needs
 
-cast-led-group-2 : tie.Need-cast-led-group-2 Inv-loop μ-loop
-cast-led-group-2 c = omega (arith, c .shared-slice-known5 .given (16384 + (c .before .before .before .before .loop .s - 1) * 64 + c .before .before .before .before .before .before .before .before .args .v))
+cast-hi : tie.Need-cast-hi Inv-loop μ-loop
+cast-hi c = omega (arith, c .shared-slice-known5 .given (16384 + (c .before .before .before .before .loop .s - 1) * 64 + c .before .before .before .before .before .before .before .before .args .v))
 
 led-group-requires : tie.Need-led-group-requires Inv-loop μ-loop
 led-group-requires c κs = let b = c .before .before .before .before .before .before .before .before .pre .3 .order (c .before .before .before .before .loop .s - 1) (c .before .before .before .before .before .before .before .before .args .v) (omega arith) (c .before .before .before .before .before .before .before .before .pre .2) in (b .0, omega (arith, b .1))
@@ -111,17 +111,17 @@ led-walk-spec =
     sub-multiple
     cast-multiple
     multiple-requires
-    mul-led-group
-    add-led-group
-    mul-led-group-2
-    shared-slice-read-led-group
-    cast-led-group
-    mul-led-group-3
-    add-led-group-2
-    add-led-group-3
-    mul-led-group-4
-    shared-slice-read-led-group-2
-    cast-led-group-2
+    mul-lo
+    add-lo
+    mul-lo-2
+    shared-slice-read-lo
+    cast-lo
+    mul-hi
+    add-hi
+    add-hi-2
+    mul-hi-2
+    shared-slice-read-hi
+    cast-hi
     led-group-requires
     returns
     older-requires
