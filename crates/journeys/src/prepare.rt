@@ -30,20 +30,27 @@ pub fn usable_of(len: usize, w: usize) -> usize
     len
 }
 
+// A refusal: its number and its line.
+fn refuse(number: u32, line: u32, sheet: SheetRead) -> Prepared
+    ensures { λ r. ⌜ (r .refusal ≡ number) × (r .line ≡ line) ⌝ }
+{
+    Prepared {
+        refusal: number,
+        line,
+        arrivals: 0,
+        goal: 0,
+        last: 0,
+        sheet,
+    }
+}
+
 // Reads the sheet and searches its leading arrivals into the table.
 pub fn prepare(src: &[u8], table: &mut [u32]) -> Prepared
     ensures { λ r. ⌜ PreparedIs (now (src .entry)) (now (table .entry)) (now (table .exit)) r ⌝ }
 {
     let sheet = read(src);
     if sheet.refusal != 0 {
-        return Prepared {
-            refusal: sheet.refusal,
-            line: sheet.line,
-            arrivals: 0,
-            goal: 0,
-            last: 0,
-            sheet,
-        };
+        return refuse(sheet.refusal, sheet.line, sheet);
     }
     let head = sheet.head;
     let corridors = sheet.corridors;
@@ -55,14 +62,7 @@ pub fn prepare(src: &[u8], table: &mut [u32]) -> Prepared
     let r = search(&head, &corridors[..c], &occupancies[..o], &mut table[..m]);
     clear_from(table, m);
     if !r.served {
-        return Prepared {
-            refusal: 8,
-            line: 0,
-            arrivals: 0,
-            goal: 0,
-            last: 0,
-            sheet,
-        };
+        return refuse(8, 0, sheet);
     }
     let arrivals = r.arrivals;
     Prepared {

@@ -19,8 +19,13 @@ use Rattle.journeys.proofs.prepare.prepare.Tie as tie
 read-requires : tie.Need-read-requires
 read-requires c κs = search needs
 
+refuse-requires : tie.Need-refuse-requires
+refuse-requires c κs = search needs
+
 returns : tie.Need-returns
-returns c = let r = not-read _ _ (c .before .before .read .ensures) (c .if1 .taken) in unread _ _ (r .reads) (record { number-is = refl; line-is = refl; table-is = refl })
+returns c =
+    let r = not-read _ _ (c .before .before .before .read .ensures) (c .before .if1 .taken) in
+    unread _ _ (r .reads) (record { number-is = c .refuse .ensures .0; line-is = c .refuse .ensures .1; table-is = refl })
 
 array-read-c : tie.Need-array-read-c
 array-read-c c = search needs
@@ -77,16 +82,19 @@ clear-from-requires c κs =
     let h = searched _ _ r (c .before .before .before .before .before .before .before .before .usable-of .result) (c .before .before .before .before .before .before .before .before .before .before .before .before .before .before .before .before .before .before .args .table .now) (s .result .served) (s .result .arrivals) (s .last .1 .1 .1 .0) (c .before .before .before .before .before .before .before .before .usable-of .ensures) (s .ensures) in
     omega (arith, h .size, length-append (s .last .1 .1 .1 .0) (drop (c .before .before .before .before .before .before .before .before .usable-of .result) (c .before .before .before .before .before .before .before .before .before .before .before .before .before .before .before .before .before .before .args .table .now)))
 
+refuse-requires-2 : tie.Need-refuse-requires-2
+refuse-requires-2 c κs = search needs
+
 same-length : tie.Need-same-length
 same-length c = search needs
 
 returns-2 : tie.Need-returns-2
 returns-2 c =
-    let s = c .before .before .before .before .before .before .before .before .search in
-    let r = read-as _ _ (c .before .before .before .before .before .before .before .before .before .before .before .before .before .before .before .before .before .before .before .before .read .ensures) (c .before .before .before .before .before .before .before .before .before .before .before .before .before .before .before .before .before .before .if1 .left) in
-    let h = searched _ _ r (c .before .before .before .before .before .before .before .before .before .before .before .before .before .usable-of .result) (c .before .before .before .before .before .before .before .before .before .before .before .before .before .before .before .before .before .before .before .before .before .before .before .args .table .now) (s .result .served) (s .result .arrivals) (s .last .1 .1 .1 .0) (c .before .before .before .before .before .before .before .before .before .before .before .before .before .usable-of .ensures) (s .ensures) in
-    let f = h .when-full (not-true _ (c .if2 .taken)) in
-    full (r .sheet) (r .reads) (f .0) (record { number-is = refl; line-is = refl; table-is = c .before .before .before .before .clear-from .ensures ∙ f .1 })
+    let s = c .before .before .before .before .before .before .before .before .before .search in
+    let r = read-as _ _ (c .before .before .before .before .before .before .before .before .before .before .before .before .before .before .before .before .before .before .before .before .before .read .ensures) (c .before .before .before .before .before .before .before .before .before .before .before .before .before .before .before .before .before .before .before .if1 .left) in
+    let h = searched _ _ r (c .before .before .before .before .before .before .before .before .before .before .before .before .before .before .usable-of .result) (c .before .before .before .before .before .before .before .before .before .before .before .before .before .before .before .before .before .before .before .before .before .before .before .before .args .table .now) (s .result .served) (s .result .arrivals) (s .last .1 .1 .1 .0) (c .before .before .before .before .before .before .before .before .before .before .before .before .before .before .usable-of .ensures) (s .ensures) in
+    let f = h .when-full (not-true _ (c .before .if2 .taken)) in
+    full (r .sheet) (r .reads) (f .0) (record { number-is = c .refuse2 .ensures .0; line-is = c .refuse2 .ensures .1; table-is = c .before .before .before .before .before .clear-from .ensures ∙ f .1 })
 
 array-read-t16 : tie.Need-array-read-t16
 array-read-t16 c = search needs
@@ -110,6 +118,7 @@ prepare-spec =
     tie.close
     (tie.spec
     read-requires
+    refuse-requires
     returns
     array-read-c
     cast-c
@@ -127,6 +136,7 @@ prepare-spec =
     slice-aggregate-search-4
     search-requires
     clear-from-requires
+    refuse-requires-2
     same-length
     returns-2
     array-read-t16
