@@ -17,17 +17,22 @@ const SEEDS: std::ops::RangeInclusive<u32> = 1..=12;
 const ROUNDS: usize = 21;
 const ROUND: f64 = 4_000.0;
 
-/// The room for arrivals of the program that plans a sheet.
-const USUAL_ROOM: usize = 2_000;
-
-/// What was measured on a sheet, times in microseconds.
+/// What was measured on a sheet, times in microseconds: with room for twice the arrivals, and with room that just
+/// fits.
 struct Row {
     costs: f64,
     arrivals: f64,
     planner: f64,
+    fitting: f64,
     reading: f64,
     peer: f64,
-    usual_room: Option<f64>,
+}
+
+impl Row {
+    /// The planner's time without reading, beside the peer's.
+    fn ratio(&self) -> f64 {
+        (self.planner - self.reading) / self.peer
+    }
 }
 
 fn main() {
@@ -35,16 +40,15 @@ fn main() {
     let peer = Peer(folder.into());
     let load = load_average();
     print!("| family | arrivals | costs | planner, µs | of it reading, µs | peer, µs ");
-    println!("| ratio: median | least | greatest | room for 2,000 |");
-    println!("|---|---:|---:|---:|---:|---:|---:|---:|---:|---:|");
+    println!("| ratio: median | least | greatest | with reading | table that just fits |");
+    println!("|---|---:|---:|---:|---:|---:|---:|---:|---:|---:|---:|");
     let ratios: Vec<f64> = FAMILIES.iter().map(|family| print_family(&peer, family)).collect();
     println!();
+    println!("planner_front from the sheet's bytes to the list, with room for twice the arrivals, beside mosipp --all");
     println!(
-        "planner_front from the sheet's bytes to the list, with an arrivals table that just fits (in the last column"
+        "--eager, whose time leaves the reading out and whose memory grows. Ratios are without reading; in the last"
     );
-    println!(
-        "with room for 2,000 rows, where they suffice), beside mosipp --all --eager, which leaves the reading out."
-    );
+    println!("two columns the median ratio with reading, and that with an arrivals table that just fits.");
     println!(
         "Medians over the seeds {} to {} of a family; for each sheet the least of {ROUNDS} rounds' medians.",
         SEEDS.start(),
@@ -68,58 +72,39 @@ fn load_average() -> String {
 fn print_family(peer: &Peer, family: &str) -> f64 {
     let rows: Vec<Row> = SEEDS.map(|seed| measured(peer, seed, family)).collect();
     let middle = |of: fn(&Row) -> f64| median(rows.iter().map(of).collect());
-    let mut ratios: Vec<f64> = rows.iter().map(|row| row.planner / row.peer).collect();
-    ratios.sort_by(f64::total_cmp);
-    let ratio = median(ratios.clone());
+    let ratios = || rows.iter().map(Row::ratio);
     println!(
-        "| {family} | {:.0} | {:.0} | {:.1} | {:.1} | {:.1} | {ratio:.2} | {:.2} | {:.2} | {} |",
+        "| {family} | {:.0} | {:.0} | {:.1} | {:.1} | {:.1} | {:.2} | {:.2} | {:.2} | {:.2} | {:.2} |",
         middle(|row| row.arrivals),
         middle(|row| row.costs),
         middle(|row| row.planner),
         middle(|row| row.reading),
         middle(|row| row.peer),
-        ratios[0],
-        ratios[ratios.len() - 1],
-        in_usual_room(&rows)
+        middle(Row::ratio),
+        ratios().fold(f64::INFINITY, f64::min),
+        ratios().fold(0.0, f64::max),
+        middle(|row| row.planner / row.peer),
+        middle(|row| (row.fitting - row.reading) / row.peer)
     );
-    ratio
-}
-
-/// The median ratio with the usual room, over the sheets that it suffices for.
-fn in_usual_room(rows: &[Row]) -> String {
-    let ratios: Vec<f64> = rows.iter().filter_map(|row| Some(row.usual_room? / row.peer)).collect();
-    match ratios.len() {
-        0 => "–".to_string(),
-        count if count == rows.len() => format!("{:.2}", median(ratios)),
-        count => format!("{:.2} ({count} of {})", median(ratios), rows.len()),
-    }
+    middle(Row::ratio)
 }
 
 /// Measures a sheet on both sides, once their answers agree.
 fn measured(peer: &Peer, seed: u32, family: &str) -> Row {
     let text = peer.sheet(seed, family);
     let expected = peer.searched(&text, 1);
-    let room = expected.arrivals;
+    let (room, costs) = (expected.arrivals, expected.costs.len());
     assert_same_front(&text, &expected, room, &format!("seed {seed} of {family}"));
     let repetitions = (ROUND / expected.micros).clamp(1.0, 200.0) as u32;
-    let usual = (room <= USUAL_ROOM).then_some(USUAL_ROOM);
     let mut times = [const { Vec::new() }; 4];
     for _ in 0..ROUNDS {
         times[0].push(peer.searched(&text, repetitions).micros);
-        times[1].push(front_micros(&text, room, expected.costs.len(), repetitions));
-        times[2].push(micros(repetitions, || planner::read_sheet(black_box(&text)).refusal));
-        times[3].extend(usual.map(|room| front_micros(&text, room, expected.costs.len(), repetitions)));
+        times[1].push(front_micros(&text, 2 * room, costs, repetitions));
+        times[2].push(front_micros(&text, room, costs, repetitions));
+        times[3].push(micros(repetitions, || planner::read_sheet(black_box(&text)).refusal));
     }
-    let usual_room = usual.map(|_| least(&times[3]));
-    let [peer, planner, reading, _] = times;
-    Row {
-        costs: expected.costs.len() as f64,
-        arrivals: room as f64,
-        planner: least(&planner),
-        reading: least(&reading),
-        peer: least(&peer),
-        usual_room,
-    }
+    let [peer, planner, fitting, reading] = times.map(|times| least(&times));
+    Row { costs: costs as f64, arrivals: room as f64, planner, fitting, reading, peer }
 }
 
 /// The least of some times.
