@@ -1,0 +1,152 @@
+/* The planner's calls for a host in C or C++, in target/staticlib/libjourneys.a (made by `rt staticlib journeys`).
+ *
+ * The sheet, the front, the tie rule and the refusals are those of document 01, "The corridor sheet and the journeys
+ * it offers"; its open points are decided in docs/DECISIONS.md. What each call hands back and leaves in every lent
+ * buffer is proved of the calls in crates/journeys/src/lib.rt. That this header declares those calls is not proved:
+ * tests/host checks it.
+ *
+ * Holds for every call:
+ * - An array is passed as a pointer and a length, the count of its elements. A pointer is never null, not even where
+ *   the length is 0 (pass a valid pointer), and a pointer to uint32_t is aligned as one.
+ * - A buffer lent to be written overlaps neither the other buffers lent to the same call nor the sheet or the groups.
+ *   This is not checked, and nothing is promised where it is broken.
+ * - A call ends, writes only what it is lent to be written, and refuses rather than fails: `refusal` is 0 or one
+ *   number of PlannerRefusal, `line` is the line at fault, counted from 1, or 0 where no line is at fault. With a
+ *   refusal every other field is 0.
+ * - Kept, of a buffer, means: each element holds what it held before the call.
+ * - A call keeps nothing between calls, allocates nothing and needs of the C library memcpy and memset alone. Calls may
+ *   run on several threads at once, each with buffers of its own; they may share a sheet that none of them writes.
+ * - A call's memory is the stack, at most PLANNER_MOST_STACK bytes; measured, not proved (tests/stack). The figure at
+ *   each call is the one in docs/DECISIONS.md, "Stack".
+ */
+#ifndef PLANNER_H
+#define PLANNER_H
+
+#include <stddef.h>
+#include <stdint.h>
+
+#ifdef __cplusplus
+extern "C" {
+#endif
+
+#define PLANNER_MOST_BYTES 10240    /* of a sheet that is read; every sheet that can be written fits too */
+#define PLANNER_MOST_LINES 256      /* of corridors, and of occupancies */
+#define PLANNER_MOST_PATH 256       /* places of a journey: steps 0 to 255 */
+#define PLANNER_MOST_TABLE 41943039 /* numbers of an arrivals table; past them the search is hundreds of times slower */
+#define PLANNER_MOST_STACK 262144   /* bytes of stack of any call */
+#define PLANNER_FIGURES 3           /* of a cost: charge, noise, doors */
+#define PLANNER_HEAD_WIDTH 7        /* places, steps, start, goal, w1, w2, w3 */
+#define PLANNER_CORRIDOR_WIDTH 5    /* from, to, c1, c2, c3 */
+#define PLANNER_OCCUPANCY_WIDTH 3   /* place, first, last */
+#define PLANNER_ARRIVAL_WIDTH 5     /* a row of the arrivals table: place, step, c1, c2, c3 */
+#define PLANNER_COST_WIDTH 4        /* a row of the front list: c1, c2, c3, arrival step */
+
+/* The refusals. PLANNER_TOO_LONG comes first; then the first faulty line is named, tested in the order 2, 3, 7, 4, 6,
+ * 5; then 8 and 9, or 8, 10 and 11 for a journey. The writer: 2, then 7, 4, 6, 5 line by line, then 12. */
+enum PlannerRefusal {
+    PLANNER_SERVED = 0,           /* no refusal */
+    /* caused by the writer of the sheet */
+    PLANNER_TOO_LONG = 1,         /* more than PLANNER_MOST_BYTES bytes; line 0 */
+    PLANNER_MALFORMED = 2,        /* a first field other than S, C, O; a wrong count of fields; a bad number; an empty
+                                     line; a line feed missing */
+    PLANNER_OUT_OF_ORDER = 3,     /* no S line first, a second S, or C after O; empty input, at line 1 */
+    PLANNER_OUT_OF_RANGE = 4,     /* a number outside its range */
+    PLANNER_NOT_ASCENDING = 5,    /* a C or O line not above the one before */
+    PLANNER_REVERSED = 6,         /* a corridor from a place to itself, or last below first */
+    PLANNER_TOO_MANY_LINES = 7,   /* a 257th C or O line */
+    /* caused by the host; line 0 */
+    PLANNER_ROOM_ARRIVALS = 8,    /* more leading arrivals than room in the arrivals table */
+    PLANNER_ROOM_COSTS = 9,       /* more front costs than room in the front list */
+    PLANNER_NOT_ON_FRONT = 10,    /* a journey number not on the front */
+    PLANNER_ROOM_PATH = 11,       /* a path buffer shorter than the arrival step + 1 */
+    PLANNER_ROOM_SHEET = 12       /* a buffer shorter than the sheet to be written */
+};
+
+/* What planner_read hands back: the sheet as three groups of numbers, zeros past the last line of each. */
+typedef struct {
+    uint32_t refusal;
+    uint32_t line;
+    uint32_t lines[3];                                                   /* count of S lines (1), C lines, O lines */
+    uint32_t head[PLANNER_HEAD_WIDTH];                                   /* the S line */
+    uint32_t corridors[PLANNER_MOST_LINES * PLANNER_CORRIDOR_WIDTH];     /* the C lines, one after the other */
+    uint32_t occupancies[PLANNER_MOST_LINES * PLANNER_OCCUPANCY_WIDTH];  /* the O lines, one after the other */
+} PlannerSheetRead;
+
+/* What planner_write hands back. */
+typedef struct {
+    uint32_t refusal;
+    uint32_t line;
+    uint32_t bytes;  /* count of bytes written */
+} PlannerSheetWritten;
+
+/* What planner_front hands back. */
+typedef struct {
+    uint32_t refusal;
+    uint32_t line;
+    uint32_t costs;     /* count of front costs; 0 exactly when no lawful journey exists */
+    uint32_t arrivals;  /* number of leading arrivals */
+} PlannerFrontAnswer;
+
+/* What planner_journey hands back. */
+typedef struct {
+    uint32_t refusal;
+    uint32_t line;
+    uint32_t cost[PLANNER_FIGURES];  /* the figures of the front cost with the number asked for */
+    uint32_t arrival;                /* the arrival step: the journey has arrival + 1 places */
+} PlannerJourneyAnswer;
+
+/* Reads a sheet.
+ *
+ * Hands back: the three groups by value, which planner_write turns back into the same bytes.
+ * Refuses with: 1 (line 0); 2 to 7 (the first line at fault).
+ * Lent to be written: nothing.
+ * Stack: 36,664 bytes measured. */
+PlannerSheetRead planner_read(const uint8_t *sheet, size_t sheet_len);
+
+/* Writes the sheet of three groups: the S line's seven numbers, five for each corridor, three for each occupancy. The
+ * lengths are counts of numbers, of a read sheet: PLANNER_HEAD_WIDTH, lines[1] * PLANNER_CORRIDOR_WIDTH and
+ * lines[2] * PLANNER_OCCUPANCY_WIDTH.
+ *
+ * Hands back: the count of bytes written; planner_read turns them back into the same groups.
+ * Refuses with: 2 (line 0: head_len is not 7, corridors_len no multiple of 5 or occupancies_len none of 3); 4 to 7
+ * (the first line at fault, as counted in the sheet to be written); 12 (line 0). PLANNER_MOST_BYTES bytes are always
+ * enough.
+ * out: the bytes of the sheet, and past them kept. Refused: kept.
+ * Stack: 788 bytes measured. */
+PlannerSheetWritten planner_write(const uint32_t *head, size_t head_len, const uint32_t *corridors,
+                                  size_t corridors_len, const uint32_t *occupancies, size_t occupancies_len,
+                                  uint8_t *out, size_t out_len);
+
+/* Works out the front of a sheet: every cost of a lawful journey that no lawful journey's cost dominates, each once.
+ * Room for arrivals is arrivals_len / PLANNER_ARRIVAL_WIDTH, for costs list_len / PLANNER_COST_WIDTH, rounded down.
+ *
+ * Hands back: the count of front costs and the number of leading arrivals. An empty front is no refusal.
+ * Refuses with: 1 (line 0); 2 to 7 (the first line at fault); 8 (line 0); 9 (line 0).
+ * arrivals: a row for each leading arrival (place, step, c1, c2, c3), ascending by step, place, cost, then zeros to
+ * its end. Refused with 1 to 7: kept. Refused with 8 or 9: zeros from its first element to its last.
+ * list: a row for each front cost (c1, c2, c3, arrival step), ascending by c1, c2, c3, then zeros to its end. The
+ * arrival step is the earliest at which a lawful journey has that cost. Refused: kept.
+ * Stack: 221,940 bytes measured. */
+PlannerFrontAnswer planner_front(const uint8_t *sheet, size_t sheet_len, uint32_t *arrivals, size_t arrivals_len,
+                                 uint32_t *list, size_t list_len);
+
+/* Works out the journey of a front cost, the one that the tie rule selects: of the journeys with that cost the
+ * earliest arrival; of those, compared from the last step backwards, the one with the lower place number at the first
+ * difference. `number` is the cost's number in the front, from 0. The journey is worked out from the sheet anew:
+ * nothing that planner_front left is read.
+ *
+ * Hands back: the cost and the arrival step.
+ * Refuses with: 1 (line 0); 2 to 7 (the first line at fault); 8 (line 0); 10 (line 0; every number, where the front is
+ * empty); 11 (line 0). PLANNER_MOST_PATH places are always enough.
+ * arrivals: as planner_front leaves it. Refused with 1 to 7: kept. Refused with 8, 10 or 11: zeros from its first
+ * element to its last.
+ * path: a place for each step from 0 to the arrival step, then zeros to its end. Refused: kept.
+ * Stack: 252,708 bytes measured. */
+PlannerJourneyAnswer planner_journey(const uint8_t *sheet, size_t sheet_len, uint32_t number, uint32_t *arrivals,
+                                     size_t arrivals_len, uint32_t *path, size_t path_len);
+
+#ifdef __cplusplus
+}
+#endif
+
+#endif

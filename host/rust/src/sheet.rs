@@ -1,0 +1,100 @@
+//! The values of a sheet, read and written.
+
+use crate::{Cost, Place, Refusal, Step, calls};
+
+/// No sheet that can be written is longer.
+const MOST_BYTES: usize = 10_240;
+
+/// The values of a sheet.
+#[derive(Clone, Debug, PartialEq, Eq)]
+pub struct Sheet {
+    /// Count of places, 1 to 64.
+    pub places: u32,
+    /// The last step, 0 to 255.
+    pub steps: Step,
+    /// Where a journey starts.
+    pub start: Place,
+    /// Where a journey ends.
+    pub goal: Place,
+    /// The cost of waiting one step.
+    pub waiting: Cost,
+    /// Up to 256, strictly ascending by (from, to).
+    pub corridors: Vec<Corridor>,
+    /// Up to 256, strictly ascending by (place, first, last).
+    pub occupancies: Vec<Occupancy>,
+}
+
+/// A one-way corridor, crossed in one step.
+#[derive(Clone, Copy, Debug, PartialEq, Eq)]
+pub struct Corridor {
+    /// Where it begins.
+    pub from: Place,
+    /// Where it ends.
+    pub to: Place,
+    /// The cost of crossing it.
+    pub cost: Cost,
+}
+
+/// A place that is occupied from the first step to the last, both included.
+#[derive(Clone, Copy, Debug, PartialEq, Eq)]
+pub struct Occupancy {
+    /// The place.
+    pub place: Place,
+    /// The first step at which it is occupied.
+    pub first: Step,
+    /// The last step at which it is occupied.
+    pub last: Step,
+}
+
+/// The values of a sheet's text. Refuses with 1 to 7.
+pub fn read(text: &[u8]) -> Result<Sheet, Refusal> {
+    let answer = calls::read(text);
+    Refusal::check(answer.refusal, answer.line)?;
+    let [_, corridors, occupancies] = answer.lines.map(|count| count as usize);
+    let [places, steps, start, goal, waiting @ ..] = answer.head;
+    Ok(Sheet {
+        places,
+        steps: Step(steps),
+        start: Place(start),
+        goal: Place(goal),
+        waiting,
+        corridors: rows(&answer.corridors, corridors).map(corridor).collect(),
+        occupancies: rows(&answer.occupancies, occupancies).map(occupancy).collect(),
+    })
+}
+
+/// The text of a sheet, which reads back as the same values. Refuses with 4 to 7; the line is the one that the text
+/// would have.
+pub fn write(sheet: &Sheet) -> Result<Vec<u8>, Refusal> {
+    let [w1, w2, w3] = sheet.waiting;
+    let head = [sheet.places, sheet.steps.0, sheet.start.0, sheet.goal.0, w1, w2, w3];
+    let corridors: Vec<u32> = sheet.corridors.iter().flat_map(corridor_numbers).collect();
+    let occupancies: Vec<u32> = sheet.occupancies.iter().flat_map(occupancy_numbers).collect();
+    let mut text = vec![0; MOST_BYTES];
+    let answer = calls::write(&head, &corridors, &occupancies, &mut text);
+    Refusal::check(answer.refusal, answer.line)?;
+    text.truncate(answer.bytes as usize);
+    Ok(text)
+}
+
+/// The first rows of an array, each of `N` numbers.
+pub(crate) fn rows<const N: usize>(numbers: &[u32], count: usize) -> impl Iterator<Item = [u32; N]> {
+    numbers.as_chunks().0[..count].iter().copied()
+}
+
+fn corridor([from, to, cost @ ..]: [u32; 5]) -> Corridor {
+    Corridor { from: Place(from), to: Place(to), cost }
+}
+
+fn corridor_numbers(corridor: &Corridor) -> [u32; 5] {
+    let [c1, c2, c3] = corridor.cost;
+    [corridor.from.0, corridor.to.0, c1, c2, c3]
+}
+
+fn occupancy([place, first, last]: [u32; 3]) -> Occupancy {
+    Occupancy { place: Place(place), first: Step(first), last: Step(last) }
+}
+
+fn occupancy_numbers(occupancy: &Occupancy) -> [u32; 3] {
+    [occupancy.place.0, occupancy.first.0, occupancy.last.0]
+}

@@ -1,0 +1,157 @@
+//! Document 01's "Sheets to try", through the wrapper.
+
+use crate::{Cost, Place, Refusal, Room, Step, front, journey, read, write};
+
+const A: &str = "S,4,6,0,3,1,0,0\nC,0,1,1,0,4\nC,0,2,1,3,0\nC,1,3,1,0,4\nC,2,3,1,3,0\nO,1,1,2\n";
+const B: &str = "S,5,4,0,4,1,0,0\nC,0,1,1,0,0\nC,0,3,1,0,0\nC,1,2,1,0,0\nC,2,3,0,0,0\nC,3,4,0,0,0\nO,4,0,3\n";
+const D: &str = "S,6,3,0,5,0,0,0\nC,0,1,1,0,0\nC,0,2,1,0,0\nC,1,4,1,0,0\nC,2,3,1,0,0\nC,3,5,1,0,0\nC,4,5,1,0,0\n";
+
+/// A journey's cost, arrival step and places.
+type Told<'a> = (Cost, u32, &'a [u32]);
+
+/// Sheet A with one piece of its text replaced.
+fn a_with(old: &str, new: &str) -> String {
+    assert_eq!(A.matches(old).count(), 1);
+    A.replace(old, new)
+}
+
+/// Holds the front and every journey of a text against the count of leading arrivals and the journeys expected.
+fn assert_offers(text: &str, arrivals: usize, expected: &[Told]) {
+    let front = front(text.as_bytes(), Room::default()).expect("the sheet is served");
+    assert_eq!(front.arrivals.len(), arrivals);
+    let costs: Vec<(Cost, Step)> = front.costs.iter().map(|offer| (offer.cost, offer.arrival)).collect();
+    assert_eq!(costs, expected.iter().map(|told| (told.0, Step(told.1))).collect::<Vec<_>>());
+    for (number, told) in (0..).zip(expected) {
+        assert_journey(text, number, *told);
+    }
+    let past = journey(text.as_bytes(), expected.len() as u32, Room::default());
+    assert_eq!(past, Err(Refusal { number: 10, line: 0 }));
+}
+
+/// Holds one journey of a text against the one expected.
+fn assert_journey(text: &str, number: u32, (cost, arrival, places): Told) {
+    let journey = journey(text.as_bytes(), number, Room::default()).expect("the number is on the front");
+    assert_eq!((journey.cost, journey.arrival), (cost, Step(arrival)));
+    assert_eq!(journey.places, places.iter().copied().map(Place).collect::<Vec<_>>());
+}
+
+/// The refusal of the front of a text, as its number and line.
+fn refused(text: &str, room: Room) -> (u32, u32) {
+    let refusal = front(text.as_bytes(), room).expect_err("the sheet is refused");
+    (refusal.number, refusal.line)
+}
+
+#[test]
+fn sheet_a() {
+    assert_offers(A, 5, &[([2, 6, 0], 2, &[0, 2, 3]), ([4, 0, 8], 4, &[0, 0, 0, 1, 3])]);
+}
+
+#[test]
+fn the_leading_arrivals_of_a() {
+    let rows: Vec<(u32, u32, Cost)> = front(A.as_bytes(), Room::default())
+        .expect("the sheet is served")
+        .arrivals
+        .iter()
+        .map(|arrival| (arrival.place.0, arrival.step.0, arrival.cost))
+        .collect();
+    let expected = [(0, 0, [0, 0, 0]), (2, 1, [1, 3, 0]), (3, 2, [2, 6, 0]), (1, 3, [3, 0, 4]), (3, 4, [4, 0, 8])];
+    assert_eq!(rows, expected);
+}
+
+#[test]
+fn a_with_place_1_always_occupied() {
+    assert_offers(&a_with("O,1,1,2", "O,1,0,6"), 3, &[([2, 6, 0], 2, &[0, 2, 3])]);
+}
+
+#[test]
+fn a_with_goal_0() {
+    assert_offers(&a_with("S,4,6,0,3", "S,4,6,0,0"), 5, &[([0, 0, 0], 0, &[0])]);
+}
+
+#[test]
+fn a_with_3_steps() {
+    assert_offers(&a_with("S,4,6", "S,4,3"), 4, &[([2, 6, 0], 2, &[0, 2, 3])]);
+}
+
+#[test]
+fn a_with_4_steps() {
+    assert_offers(&a_with("S,4,6", "S,4,4"), 5, &[([2, 6, 0], 2, &[0, 2, 3]), ([4, 0, 8], 4, &[0, 0, 0, 1, 3])]);
+}
+
+#[test]
+fn a_with_the_start_occupied_at_step_0_alone() {
+    assert_offers(&a_with("O,1,1,2", "O,0,0,0"), 0, &[]);
+}
+
+#[test]
+fn a_with_the_goal_always_occupied() {
+    assert_offers(&a_with("O,1,1,2\n", "O,1,1,2\nO,3,0,6\n"), 3, &[]);
+}
+
+#[test]
+fn sheet_b() {
+    let front = front(B.as_bytes(), Room::default()).expect("the sheet is served");
+    assert_eq!(front.costs.len(), 1);
+    assert_journey(B, 0, ([2, 0, 0], 4, &[0, 1, 2, 3, 4]));
+}
+
+#[test]
+fn sheet_d() {
+    assert_journey(D, 0, ([3, 0, 0], 3, &[0, 2, 3, 5]));
+}
+
+#[test]
+fn a_sheet_read_and_written_gives_its_own_bytes() {
+    for text in [A, B, D] {
+        let sheet = read(text.as_bytes()).expect("the sheet is served");
+        assert_eq!(write(&sheet), Ok(text.as_bytes().to_vec()));
+    }
+}
+
+#[test]
+fn the_values_of_b() {
+    let sheet = read(B.as_bytes()).expect("the sheet is served");
+    assert_eq!((sheet.places, sheet.steps, sheet.start, sheet.goal), (5, Step(4), Place(0), Place(4)));
+    assert_eq!((sheet.waiting, sheet.corridors.len(), sheet.occupancies.len()), ([1, 0, 0], 5, 1));
+    let (corridor, occupancy) = (sheet.corridors[2], sheet.occupancies[0]);
+    assert_eq!((corridor.from, corridor.to, corridor.cost), (Place(1), Place(2), [1, 0, 0]));
+    assert_eq!((occupancy.place, occupancy.first, occupancy.last), (Place(4), Step(0), Step(3)));
+}
+
+#[test]
+fn the_writer_names_the_line_that_the_text_would_have() {
+    let mut sheet = read(A.as_bytes()).expect("the sheet is served");
+    sheet.corridors[1].to = Place(0);
+    assert_eq!(write(&sheet), Err(Refusal { number: 6, line: 3 }));
+}
+
+#[test]
+fn the_refusals_of_a_sheet() {
+    let refused = |text: &str| refused(text, Room::default());
+    assert_eq!(refused(&"\n".repeat(10_241)), (1, 0));
+    assert_eq!(refused(&a_with("O,1,1,2", "O,1,007,2")), (2, 6));
+    assert_eq!(refused(""), (3, 1));
+    assert_eq!(refused(&a_with("O,1,1,2", "O,4,1,2")), (4, 6));
+    assert_eq!(refused(&a_with("C,0,2,", "C,0,1,")), (5, 3));
+    assert_eq!(refused(&a_with("O,1,1,2", "O,1,5,4")), (6, 6));
+    let occupied: String = (0..257).map(|n| format!("O,{},{},255\n", n / 100, n % 100)).collect();
+    assert_eq!(refused(&format!("S,4,6,0,3,1,0,0\n{occupied}")), (7, 258));
+}
+
+#[test]
+fn the_refusals_of_a_room() {
+    assert!(front(A.as_bytes(), Room { arrivals: 5, costs: 2 }).is_ok());
+    assert_eq!(refused(A, Room { arrivals: 4, costs: 2 }), (8, 0));
+    assert_eq!(refused(A, Room { arrivals: 5, costs: 1 }), (9, 0));
+    assert_eq!(refused(A, Room { arrivals: 0, costs: 0 }), (8, 0));
+    assert!(journey(A.as_bytes(), 1, Room { arrivals: 5, costs: 0 }).is_ok());
+    let too_many = journey(A.as_bytes(), 2, Room { arrivals: 4, costs: 0 });
+    assert_eq!(too_many, Err(Refusal { number: 8, line: 0 }));
+}
+
+#[test]
+fn a_refusal_in_words() {
+    let words = |number, line| Refusal { number, line }.to_string();
+    assert_eq!(words(4, 3), "refusal 4 at line 3: a number is outside its range");
+    assert_eq!(words(8, 0), "refusal 8: there are more leading arrivals than room");
+}
