@@ -2,8 +2,8 @@
  *
  * The sheet, the front, the tie rule and the refusals are those of document 01, "The corridor sheet and the journeys
  * it offers"; its open points are decided in docs/DECISIONS.md. What each call hands back and leaves in every lent
- * buffer is proved of the calls in crates/journeys/src/lib.rt. That this header declares those calls is not proved:
- * tests/host checks it.
+ * buffer is proved of the calls in crates/journeys/src/lib.rt. That this header declares those calls is not proved;
+ * tests/host runs each of them through it.
  *
  * Holds for every call:
  * - An array is passed as a pointer and a length, the count of its elements. A pointer is never null, not even where
@@ -16,8 +16,8 @@
  * - Kept, of a buffer, means: each element holds what it held before the call.
  * - A call keeps nothing between calls, allocates nothing and needs of the C library memcpy and memset alone. Calls may
  *   run on several threads at once, each with buffers of its own; they may share a sheet that none of them writes.
- * - A call's memory is the stack, at most PLANNER_MOST_STACK bytes; measured, not proved (tests/stack). The figure at
- *   each call is the one in docs/DECISIONS.md, "Stack".
+ * - A call's own memory is the stack, at most PLANNER_MOST_STACK bytes. That and the figure at each call are measured
+ *   (tests/stack, on a sheet with all places and steps; docs/DECISIONS.md, "Stack"), not proved.
  */
 #ifndef PLANNER_H
 #define PLANNER_H
@@ -118,14 +118,15 @@ PlannerSheetWritten planner_write(const uint32_t *head, size_t head_len, const u
                                   uint8_t *out, size_t out_len);
 
 /* Works out the front of a sheet: every cost of a lawful journey that no lawful journey's cost dominates, each once.
- * Room for arrivals is arrivals_len / PLANNER_ARRIVAL_WIDTH, for costs list_len / PLANNER_COST_WIDTH, rounded down.
+ * Room for arrivals is arrivals_len / PLANNER_ARRIVAL_WIDTH, for costs list_len / PLANNER_COST_WIDTH, rounded down,
+ * and neither is more than 4,294,967,295.
  *
  * Hands back: the count of front costs and the number of leading arrivals. An empty front is no refusal.
  * Refuses with: 1 (line 0); 2 to 7 (the first line at fault); 8 (line 0); 9 (line 0).
  * arrivals: a row for each leading arrival (place, step, c1, c2, c3), ascending by step, place, cost, then zeros to
  * its end. Refused with 1 to 7: kept. Refused with 8 or 9: zeros from its first element to its last.
  * list: a row for each front cost (c1, c2, c3, arrival step), ascending by c1, c2, c3, then zeros to its end. The
- * arrival step is the earliest at which a lawful journey has that cost. Refused: kept.
+ * arrival step is the earliest at which a lawful journey with that cost arrives. Refused: kept.
  * Stack: 221,940 bytes measured. */
 PlannerFrontAnswer planner_front(const uint8_t *sheet, size_t sheet_len, uint32_t *arrivals, size_t arrivals_len,
                                  uint32_t *list, size_t list_len);
@@ -133,7 +134,7 @@ PlannerFrontAnswer planner_front(const uint8_t *sheet, size_t sheet_len, uint32_
 /* Works out the journey of a front cost, the one that the tie rule selects: of the journeys with that cost the
  * earliest arrival; of those, compared from the last step backwards, the one with the lower place number at the first
  * difference. `number` is the cost's number in the front, from 0. The journey is worked out from the sheet anew:
- * nothing that planner_front left is read.
+ * nothing that planner_front left is read. Room for arrivals is that of planner_front.
  *
  * Hands back: the cost and the arrival step.
  * Refuses with: 1 (line 0); 2 to 7 (the first line at fault); 8 (line 0); 10 (line 0; every number, where the front is

@@ -123,7 +123,7 @@ mod tests {
     use super::*;
     use std::mem::{align_of, offset_of, size_of};
 
-    /// The numbers that tests/layout.c holds the C structs against.
+    /// The numbers that tests/header.c holds the C structs against.
     #[test]
     fn the_structs_are_laid_out_as_in_c() {
         assert_eq!((size_of::<SheetRead>(), align_of::<SheetRead>()), (8240, 4));

@@ -1,6 +1,8 @@
-/* The layout of the structs in host/planner.h, against the numbers that the Rust wrapper's test asserts
- * (host/rust/src/calls.rs). Compiled, never run. */
+/* host/planner.h against the archive: the layout of its structs, with the numbers that the Rust wrapper's test asserts
+ * (host/rust/src/calls.rs), and a sheet on standard input read and written back to standard output. */
 #include "../host/planner.h"
+
+#include <stdio.h>
 
 #define AT(type, field, offset) _Static_assert(offsetof(type, field) == (offset), #type "." #field)
 #define SIZE(type, size) _Static_assert(sizeof(type) == (size) && _Alignof(type) == 4, #type)
@@ -29,3 +31,17 @@ AT(PlannerJourneyAnswer, refusal, 0);
 AT(PlannerJourneyAnswer, line, 4);
 AT(PlannerJourneyAnswer, cost, 8);
 AT(PlannerJourneyAnswer, arrival, 20);
+
+static uint8_t text[PLANNER_MOST_BYTES], copy[PLANNER_MOST_BYTES];
+
+int main(void)
+{
+    size_t len = fread(text, 1, sizeof text, stdin);
+    PlannerSheetRead read = planner_read(text, len);
+    PlannerSheetWritten written = planner_write(
+        read.head, PLANNER_HEAD_WIDTH, read.corridors, read.lines[1] * PLANNER_CORRIDOR_WIDTH, read.occupancies,
+        read.lines[2] * PLANNER_OCCUPANCY_WIDTH, copy, sizeof copy);
+    if (read.refusal != PLANNER_SERVED || written.refusal != PLANNER_SERVED || read.lines[0] != 1)
+        return 1;
+    return fwrite(copy, 1, written.bytes, stdout) == written.bytes ? 0 : 1;
+}
