@@ -1,5 +1,7 @@
 /* Measures how many bytes of stack each call of the planner uses, on a sheet with all places and steps: the call runs on a thread whose stack was
  * filled with a pattern, and what it wrote over is counted. Prints a Markdown table; fails when a call uses more than LIMIT bytes. */
+#include "../host/planner.h"
+
 #include <pthread.h>
 #include <stdint.h>
 #include <stdio.h>
@@ -7,22 +9,12 @@
 #include <string.h>
 #include <sys/mman.h>
 
-enum { LIMIT = 262144, STACK = 4 << 20, PATTERN = 0xA5, ARRIVALS = 200000, COSTS = 4000, BYTES = 10240 };
-
-typedef struct { uint32_t refusal, line, costs, arrivals; } FrontAnswer;
-typedef struct { uint32_t refusal, line, cost[3], arrival; } JourneyAnswer;
-typedef struct { uint32_t refusal, line, lines[3], head[7], corridors[1280], occupancies[768]; } SheetRead;
-typedef struct { uint32_t refusal, line, bytes; } SheetWritten;
-
-SheetRead planner_read(const uint8_t *, size_t);
-SheetWritten planner_write(const uint32_t *, size_t, const uint32_t *, size_t, const uint32_t *, size_t, uint8_t *, size_t);
-FrontAnswer planner_front(const uint8_t *, size_t, uint32_t *, size_t, uint32_t *, size_t);
-JourneyAnswer planner_journey(const uint8_t *, size_t, uint32_t, uint32_t *, size_t, uint32_t *, size_t);
+enum { LIMIT = PLANNER_MOST_STACK, STACK = 4 << 20, PATTERN = 0xA5, ARRIVALS = 200000, COSTS = 4000, BYTES = PLANNER_MOST_BYTES };
 
 static uint8_t sheet[BYTES], written[BYTES];
 static size_t sheet_len;
 static uint32_t arrivals[ARRIVALS], list[COSTS];
-static SheetRead answer;
+static PlannerSheetRead answer;
 static uint32_t refusal;
 
 /* The sheet: a grid of 8 by 8 places, each occupied for three steps, and 255 steps. */
