@@ -13,11 +13,11 @@ use Rattle.costs.specs.Costs.{Cost, figures}
 use Rattle.arrivals.specs.Arrivals.{Arrival, arrival}
 use Rattle.arrivals.specs.Laws.Leading.{arrival-path}
 use Rattle.arrivals.specs.Inner.Facts.{from-same}
-use Rattle.arrivals.specs.Inner.Rows.{costAt}
+use Rattle.arrivals.specs.Inner.Rows.{costAt, rowAt}
 use Rattle.arrivals.specs.Inner.Group.{Put}
 use Rattle.journeys.specs.Inner.{tableRows, isGoalRow, goalRows}
 use Rattle.journeys.specs.Inner.Goal.{GatheredIs}
-use Rattle.journeys.specs.Laws.Offered.{rowAt, table-more, goal-kept, goal-skipped}
+use Rattle.journeys.specs.Laws.Offered.{table-more, goal-kept, goal-skipped}
 use Rattle.journeys.specs.declared.goal.Gathered.{Gathered}
 
 -- the first n rows are made of the first n * 5 numbers

@@ -9,24 +9,25 @@ use native.Mathlib.Omega.{arith}
 use lib.Dec.{eqb, ltb}
 use lib.ListN.{length}
 use borrow.Author.Tests.{eqb-true, eq-eqb, ltb-false, le-ltb, not-false}
-use Rattle.sheet.specs.Lists.{_∈_, number, numbersFrom, rows}
+use Rattle.sheet.specs.Lists.{_∈_, number, rows}
 use Rattle.sheet.specs.Sheet.{Sheet}
 use Rattle.sheet.specs.Laws.Members.{map-mem, mem-map}
 use Rattle.sheet.specs.Laws.Passed.{or-false, false-or}
 use Rattle.costs.specs.Costs.{Cost, figures, fig, add, times, AtMost}
 use Rattle.costs.specs.Moves.{waitOf}
 use Rattle.costs.specs.Laws.Figures.{fig-add, fig-times, length-add, length-times, Stored, is-same}
-use Rattle.costs.specs.Laws.Rows.{row, row-number, mem-rows, rows-mem}
+use Rattle.costs.specs.Laws.Rows.{row, mem-rows, rows-mem}
 use Rattle.intervals.specs.Computed.{sinceOf}
 use Rattle.intervals.specs.Laws.Runs.{since-run}
-use Rattle.arrivals.specs.Arrivals.{Arrival, arrival, Leading, waited}
+use Rattle.arrivals.specs.Arrivals.{Arrival, Leading, waited}
 use Rattle.arrivals.specs.Computed.{leading}
-use Rattle.arrivals.specs.Laws.Leading.{arrival-path, leading-is, is-leading}
+use Rattle.arrivals.specs.Laws.Leading.{leading-is, is-leading}
 use Rattle.arrivals.specs.Inner.Facts.{Decided, holds, fails, from-length, from-at}
-use Rattle.arrivals.specs.Inner.Rows.{costAt}
+use Rattle.arrivals.specs.Inner.Rows.{costAt, rowAt}
 use Rattle.journeys.specs.Inner.{rowOf, Holds}
 use Rattle.journeys.specs.Inner.Walk.{Waits, Becomes, BecomesIn}
 use Rattle.journeys.specs.Laws.Exact.{Exact}
+use Rattle.journeys.specs.Laws.Offered.{rowAt-is}
 
 -- the figures of a row
 fig-waits : (xs : List ℕ) (k n : ℕ) (w : Cost) (i : ℕ) → i < 3 → fig (add (costAt xs k) (times n w)) i ≡ number xs (k * 5 + 2 + i) + n * fig w i
@@ -59,34 +60,18 @@ module _ (xs : List ℕ) (u low t : ℕ) (w h : Cost) (k : ℕ) where
   row-decided e (holds x) = let i = inside e in holds (record { place = i .0; from = i .1; until = i .2; waits = x })
   row-decided e (fails n) = fails (λ x. n (x .waits))
 
--- row k, as an arrival
-abbrev rowAt : List ℕ → ℕ → Arrival
-rowAt xs k = arrival (number xs (k * 5)) (number xs (k * 5 + 1)) (costAt xs k)
-
-row-at : (xs : List ℕ) (k : ℕ) → rowOf (row 5 xs k) ≡ rowAt xs k
-row-at xs k =
-    arrival-path (rowOf (row 5 xs k)) (rowAt xs k) (row-number 5 xs k 0 (omega arith) ∙ ap (number xs) e) (row-number 5 xs k 1 (omega arith))
-    (is-same 3 (numbersFrom 3 2 (row 5 xs k)) (costAt xs k) (from-length 3 2 (row 5 xs k)) (from-length 3 (k * 5 + 2) xs) each)
-  where
-    e : k * 5 + 0 ≡ k * 5
-    e = omega arith
-
-    each : (i : ℕ) → i < 3 → fig (numbersFrom 3 2 (row 5 xs k)) i ≡ fig (costAt xs k) i
-    each i h =
-        let d : k * 5 + (2 + i) ≡ k * 5 + 2 + i = omega arith in
-        from-at 3 2 (row 5 xs k) i h ∙ row-number 5 xs k (2 + i) (omega arith) ∙ ap (number xs) d ∙ sym (from-at 3 (k * 5 + 2) xs i h)
-
+-- row k is a leading arrival, and each is a row
 row-leads : (s : Sheet) (n : ℕ) (xs : List ℕ) → Holds s n xs → (k : ℕ) → k < n → Leading s (rowAt xs k)
 row-leads s n xs t k h =
     leading-is s (rowAt xs k)
-    (subst (λ (a : Arrival). a ∈ leading s) (row-at xs k) (subst (λ (l : List Arrival). rowOf (row 5 xs k) ∈ l) (t .rows-are) (mem-map rowOf (row 5 xs k) (rows 5 n xs) (mem-rows 5 n xs k h))))
+    (subst (λ (a : Arrival). a ∈ leading s) (rowAt-is xs k) (subst (λ (l : List Arrival). rowOf (row 5 xs k) ∈ l) (t .rows-are) (mem-map rowOf (row 5 xs k) (rows 5 n xs) (mem-rows 5 n xs k h))))
 
 leads-row : (s : Sheet) (n : ℕ) (xs : List ℕ) → Holds s n xs → (a : Arrival) → Leading s a → (k : ℕ) × (k < n) × (a ≡ rowAt xs k)
 leads-row s n xs t a o =
     let m : a ∈ map rowOf (rows 5 n xs) = subst (λ (l : List Arrival). a ∈ l) (sym (t .rows-are)) (is-leading s a o) in
     let x = map-mem rowOf a (rows 5 n xs) m in
     let y = rows-mem 5 n xs (x .0) (x .1) in
-    (y .0, y .1, x .2 ∙ ap rowOf (y .2) ∙ row-at xs (y .0))
+    (y .0, y .1, x .2 ∙ ap rowOf (y .2) ∙ rowAt-is xs (y .0))
 
 -- the rows tell what is reached exactly
 module _ (s : Sheet) (n : ℕ) (xs : List ℕ) (t : Holds s n xs) (u b : ℕ) (g : Cost) (day : b ≤ 255) where

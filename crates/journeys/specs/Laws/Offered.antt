@@ -29,6 +29,7 @@ use Rattle.arrivals.specs.Arrivals.{Arrival, arrival, keyOf, Arrives}
 use Rattle.arrivals.specs.Computed.{leading}
 use Rattle.arrivals.specs.Table.{arrivalRow, arrivalTable}
 use Rattle.arrivals.specs.Laws.Leading.{arrival-path, leading-is, is-leading, leading-ascending, arrives-three}
+use Rattle.arrivals.specs.Inner.Rows.{rowAt}
 use Rattle.journeys.specs.Computed.{countsb, arrivalOf, self, undominatedb, frontOf, front}
 use Rattle.journeys.specs.Front.{OnFront}
 use Rattle.journeys.specs.Inner.{rowOf, tableRows, isGoalRow, goalRows, costsOf, firstStep, nextIn, asOffered, above, below, Candidate, BestUpTo, NextIs, NumberIs, Holds}
@@ -37,11 +38,8 @@ use Rattle.journeys.specs.Laws.Counts.{countsb-true, counts-countsb}
 use Rattle.journeys.specs.Laws.Front.{frontOf-is, is-frontOf, frontOf-ascending, front-on}
 use Rattle.journeys.specs.Laws.Goal.{goalCosts, front-by-leading, Earliest, arrivalOf-earliest, arrivalOf-leading}
 
--- the arrival in row k, by the table's numbers
-abbrev pub rowAt : List ℕ → ℕ → Arrival
-rowAt xs k = arrival (number xs (k * 5)) (number xs (k * 5 + 1)) (numbersFrom figures (k * 5 + 2) xs)
-
-rowAt-is : (xs : List ℕ) (k : ℕ) → rowOf (row 5 xs k) ≡ rowAt xs k
+-- row k of the table, by the table's numbers
+pub rowAt-is : (xs : List ℕ) (k : ℕ) → rowOf (row 5 xs k) ≡ rowAt xs k
 rowAt-is xs k = arrival-path (rowOf (row 5 xs k)) (rowAt xs k) first (row-number 5 xs k 1 (omega arith)) rest
   where
     at : (j i : ℕ) → j < 5 → k * 5 + j ≡ i → number (row 5 xs k) j ≡ number xs i

@@ -9,9 +9,10 @@ use native.Mathlib.Omega.{arith}
 use borrow.Author.Needs.{needs}
 use Rattle.costs.specs.Costs.{Cost}
 use Rattle.costs.specs.Computed.{dominatesb}
+use Rattle.arrivals.specs.Inner.Rows.{rowAt}
 use Rattle.journeys.specs.Computed.{undominatedb}
 use Rattle.journeys.specs.Inner.{goalRows, costsOf}
-use Rattle.journeys.specs.Laws.Offered.{rowAt, goal-row, dominated, undominated-kept, undominated-skipped}
+use Rattle.journeys.specs.Laws.Offered.{goal-row, dominated, undominated-kept, undominated-skipped}
 use Rattle.journeys.proofs.offered.is_undominated.Statement.{statement}
 use Rattle.journeys.proofs.offered.is_undominated.Tie as tie
 
