@@ -1,4 +1,4 @@
-//! Links the planner's archive or, under the feature `stub`, makes the copies of the references that answer for it.
+//! Under the feature `stub`, makes the copies of the references that answer for the planner.
 
 use std::env;
 use std::fs;
@@ -8,25 +8,10 @@ use std::path::{Path, PathBuf};
 const REFERENCES: [&str; 2] = ["sheet", "step_by_step"];
 
 fn main() {
-    let here = PathBuf::from(env::var("CARGO_MANIFEST_DIR").expect("cargo sets CARGO_MANIFEST_DIR"));
     if env::var("CARGO_FEATURE_STUB").is_ok() {
+        let here = PathBuf::from(env::var("CARGO_MANIFEST_DIR").expect("cargo sets CARGO_MANIFEST_DIR"));
         write_slipped_copies(&here);
-    } else {
-        link_archive(&here.join("../target/staticlib"));
     }
-}
-
-/// Has libjourneys.a linked, as `rt staticlib journeys` leaves it.
-fn link_archive(folder: &Path) {
-    let archive = folder.join("libjourneys.a");
-    println!("cargo::rerun-if-changed={}", archive.display());
-    assert!(
-        archive.exists(),
-        "{} is not there: run `rt staticlib journeys` at the root of the repository",
-        archive.display()
-    );
-    println!("cargo::rustc-link-search=native={}", folder.display());
-    println!("cargo::rustc-link-lib=static=journeys");
 }
 
 /// Writes the references to OUT_DIR, one of them with the slip that SLIP names.

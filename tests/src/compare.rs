@@ -9,11 +9,11 @@ use crate::{planner, sheet};
 /// Both readers on a text; where it is read, the planner writes it back and must give its own bytes.
 pub fn compare_reading(text: &[u8], random: &mut Random) -> Result<SheetRead, String> {
     let lent = Lent::holding(text, random, b"0123456789,\nSCO");
-    let answer = planner::read_sheet(lent.cells());
+    let answer = planner::read(lent.cells());
     let expected = sheet::read_sheet(text);
     let input = || format!("text of {} bytes \"{}\"", text.len(), text.escape_ascii());
     if answer != expected {
-        return Err(report("the readers differ", &input(), &answer.shown(), &expected.shown()));
+        return Err(report("the readers differ", &input(), &shown_read(&answer), &shown_read(&expected)));
     }
     if answer.refusal == 0 {
         compare_written_back(text, &answer, random)?;
@@ -26,7 +26,7 @@ fn compare_written_back(text: &[u8], read: &SheetRead, random: &mut Random) -> R
     let mut out = Lent::buffer(text.len(), random);
     let mut expected_out = out.clone();
     expected_out.cells_mut().copy_from_slice(text);
-    let answer = planner::write_sheet(&read.head, read.corridor_numbers(), read.occupancy_numbers(), out.cells_mut());
+    let answer = planner::write(&read.head, read.corridor_numbers(), read.occupancy_numbers(), out.cells_mut());
     let expected = SheetWritten { refusal: 0, line: 0, bytes: text.len() as u32 };
     if answer != expected || out != expected_out {
         let input = format!("text \"{}\"", text.escape_ascii());
@@ -48,7 +48,7 @@ pub fn compare_writing(groups: &Groups, len: usize, random: &mut Random) -> Resu
         [&groups.head, &groups.corridors, &groups.occupancies].map(|group| Lent::holding(group, random, &around));
     let mut out = Lent::buffer(len, random);
     let mut expected_out = out.clone();
-    let answer = planner::write_sheet(head.cells(), corridors.cells(), occupancies.cells(), out.cells_mut());
+    let answer = planner::write(head.cells(), corridors.cells(), occupancies.cells(), out.cells_mut());
     let expected = sheet::write_sheet(&groups.head, &groups.corridors, &groups.occupancies, expected_out.cells_mut());
     let input = || format!("a buffer of {len} bytes and {groups:?}");
     if answer != expected || out != expected_out {
@@ -62,14 +62,14 @@ pub fn compare_writing(groups: &Groups, len: usize, random: &mut Random) -> Resu
 
 /// The planner's reader on what its writer wrote of valid groups.
 fn compare_read_back(groups: &Groups, text: &[u8]) -> Result<(), String> {
-    let answer = planner::read_sheet(text);
+    let answer = planner::read(text);
     let expected = read_of(groups);
     if answer != expected {
         return Err(report(
             "written and read back, the groups are others",
             &format!("{groups:?}"),
-            &answer.shown(),
-            &expected.shown(),
+            &shown_read(&answer),
+            &shown_read(&expected),
         ));
     }
     Ok(())
@@ -83,6 +83,25 @@ fn read_of(groups: &Groups) -> SheetRead {
     read.corridors[..groups.corridors.len()].copy_from_slice(&groups.corridors);
     read.occupancies[..groups.occupancies.len()].copy_from_slice(&groups.occupancies);
     read
+}
+
+/// A reader's answer, without the zeros at the end of each group.
+fn shown_read(read: &SheetRead) -> String {
+    format!(
+        "refusal {} line {} lines {:?} head {:?} corridors {:?} occupancies {:?}",
+        read.refusal,
+        read.line,
+        read.lines,
+        read.head,
+        without_last_zeros(&read.corridors),
+        without_last_zeros(&read.occupancies)
+    )
+}
+
+/// The numbers up to the last one that is not zero.
+fn without_last_zeros(numbers: &[u32]) -> &[u32] {
+    let end = numbers.iter().rposition(|&n| n != 0).map_or(0, |last| last + 1);
+    &numbers[..end]
 }
 
 /// A writer's answer and its buffer, with the bytes around it.

@@ -101,7 +101,7 @@ fn measured(peer: &Peer, seed: u32, family: &str) -> Row {
         times[0].push(peer.searched(&text, repetitions).micros);
         times[1].push(front_micros(&text, 2 * room, costs, repetitions));
         times[2].push(front_micros(&text, room, costs, repetitions));
-        times[3].push(micros(repetitions, || planner::read_sheet(black_box(&text)).refusal));
+        times[3].push(micros(repetitions, || planner::read(black_box(&text)).refusal));
     }
     let [peer, planner, fitting, reading] = times.map(|times| least(&times));
     Row { costs: costs as f64, arrivals: room as f64, planner, fitting, reading, peer }

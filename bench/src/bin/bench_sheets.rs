@@ -53,8 +53,8 @@ fn longest_with_last_line_twice() -> Vec<u8> {
 
 /// The times of reading a text, once both answers agree.
 fn reading_times(text: &[u8]) -> Times {
-    assert!(planner::read_sheet(text) == sheet::read_sheet(text), "the readers differ: run tests/run");
-    times(|| planner::read_sheet(black_box(text)), || sheet::read_sheet(black_box(text)))
+    assert!(planner::read(text) == sheet::read_sheet(text), "the readers differ: run tests/run");
+    times(|| planner::read(black_box(text)), || sheet::read_sheet(black_box(text)))
 }
 
 /// The times of writing groups to a buffer as long as their text, once both answers agree.
@@ -62,8 +62,7 @@ fn writing_times(groups: &Groups) -> Times {
     let text = groups.text();
     let [mut out, mut plain_out] = [vec![0; text.len()], vec![0; text.len()]];
     let (head, corridors, occupancies) = (&groups.head, &groups.corridors, &groups.occupancies);
-    let mut planner_write =
-        || planner::write_sheet(black_box(head), black_box(corridors), black_box(occupancies), &mut out);
+    let mut planner_write = || planner::write(black_box(head), black_box(corridors), black_box(occupancies), &mut out);
     let mut plain_write =
         || sheet::write_sheet(black_box(head), black_box(corridors), black_box(occupancies), &mut plain_out);
     assert_eq!(planner_write(), plain_write(), "the writers differ: run tests/run");

@@ -1,40 +1,93 @@
-//! The calls of host/planner.h behind safe functions on slices: the one module with `unsafe`.
+//! The calls of host/planner.h as they are: safe functions on lent slices, and answers laid out as in C. The one module
+//! with `unsafe`. The functions of the crate's root are built on it; a host that lends its own buffers calls it.
 
-/// What the reader hands back.
+/// What the reader hands back. Past its lines a group holds zeros; a refusal leaves all but its number and line zero.
 #[repr(C)]
+#[derive(Clone, Debug, PartialEq, Eq)]
 pub struct SheetRead {
+    /// 0, or the number of the refusal.
     pub refusal: u32,
+    /// The line at fault, from 1; 0 where no line is at fault.
     pub line: u32,
+    /// The count of S, C and O lines.
     pub lines: [u32; 3],
+    /// The numbers of the S line.
     pub head: [u32; 7],
+    /// The numbers of the C lines, five for each.
     pub corridors: [u32; 1280],
+    /// The numbers of the O lines, three for each.
     pub occupancies: [u32; 768],
+}
+
+impl SheetRead {
+    /// The answer with this number and line, and zero for all else.
+    pub fn refused(refusal: u32, line: u32) -> SheetRead {
+        SheetRead { refusal, line, lines: [0; 3], head: [0; 7], corridors: [0; 1280], occupancies: [0; 768] }
+    }
+
+    /// The numbers of the corridor lines.
+    pub fn corridor_numbers(&self) -> &[u32] {
+        &self.corridors[..5 * self.lines[1] as usize]
+    }
+
+    /// The numbers of the occupancy lines.
+    pub fn occupancy_numbers(&self) -> &[u32] {
+        &self.occupancies[..3 * self.lines[2] as usize]
+    }
 }
 
 /// What the writer hands back.
 #[repr(C)]
+#[derive(Clone, Debug, PartialEq, Eq)]
 pub struct SheetWritten {
+    /// 0, or the number of the refusal.
     pub refusal: u32,
+    /// The line at fault, from 1; 0 where no line is at fault.
     pub line: u32,
+    /// The count of bytes written.
     pub bytes: u32,
 }
 
 /// What a call of the front hands back.
 #[repr(C)]
+#[derive(Clone, Debug, PartialEq, Eq)]
 pub struct FrontAnswer {
+    /// 0, or the number of the refusal.
     pub refusal: u32,
+    /// The line at fault, from 1; 0 where no line is at fault.
     pub line: u32,
+    /// The count of front costs.
     pub costs: u32,
+    /// The number of leading arrivals.
     pub arrivals: u32,
+}
+
+impl FrontAnswer {
+    /// The answer with this number and line, and zero for all else.
+    pub fn refused(refusal: u32, line: u32) -> FrontAnswer {
+        FrontAnswer { refusal, line, costs: 0, arrivals: 0 }
+    }
 }
 
 /// What a call of a journey hands back.
 #[repr(C)]
+#[derive(Clone, Debug, PartialEq, Eq)]
 pub struct JourneyAnswer {
+    /// 0, or the number of the refusal.
     pub refusal: u32,
+    /// The line at fault, from 1; 0 where no line is at fault.
     pub line: u32,
+    /// The cost of the journey.
     pub cost: [u32; 3],
+    /// The step at which it arrives.
     pub arrival: u32,
+}
+
+impl JourneyAnswer {
+    /// The answer with this number and line, and zero for all else.
+    pub fn refused(refusal: u32, line: u32) -> JourneyAnswer {
+        JourneyAnswer { refusal, line, cost: [0; 3], arrival: 0 }
+    }
 }
 
 unsafe extern "C" {
@@ -71,13 +124,14 @@ unsafe extern "C" {
     ) -> JourneyAnswer;
 }
 
-/// Reads a sheet.
+/// Reads a sheet: its groups by value. Refuses with 1 to 7.
 pub fn read(sheet: &[u8]) -> SheetRead {
     // Safety: pointer and length are those of one slice, never null, and the call has no other precondition.
     unsafe { planner_read(sheet.as_ptr(), sheet.len()) }
 }
 
-/// Writes the sheet of three groups into the buffer.
+/// Writes the sheet of three groups into the buffer, which is kept past the bytes written. Refuses with 2, 4 to 7 and 12;
+/// the buffer is kept then.
 pub fn write(head: &[u32], corridors: &[u32], occupancies: &[u32], out: &mut [u8]) -> SheetWritten {
     // Safety: as for the reader; the buffer is borrowed for this call alone, so it overlaps nothing.
     unsafe {
@@ -94,7 +148,8 @@ pub fn write(head: &[u32], corridors: &[u32], occupancies: &[u32], out: &mut [u8
     }
 }
 
-/// Fills the arrivals table and the front list of a sheet.
+/// Fills the arrivals table and the front list of a sheet, with zeros to their ends. Refuses with 1 to 9; the list is kept
+/// then, the table is kept with 1 to 7 and all zeros with 8 and 9.
 pub fn front(sheet: &[u8], arrivals: &mut [u32], list: &mut [u32]) -> FrontAnswer {
     // Safety: as for the writer; the two buffers are borrowed apart.
     unsafe {
@@ -102,7 +157,8 @@ pub fn front(sheet: &[u8], arrivals: &mut [u32], list: &mut [u32]) -> FrontAnswe
     }
 }
 
-/// Fills the arrivals table of a sheet and the path of a journey.
+/// Fills the arrivals table of a sheet and the path of the journey with a number in the front, from 0, with zeros to their
+/// ends. Refuses with 1 to 8, 10 and 11; the path is kept then, the table is kept with 1 to 7 and all zeros with the rest.
 pub fn journey(sheet: &[u8], number: u32, arrivals: &mut [u32], path: &mut [u32]) -> JourneyAnswer {
     // Safety: as for the front.
     unsafe {

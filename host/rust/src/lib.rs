@@ -3,6 +3,7 @@
 //! A corridor sheet is a text in the format of document 01, "The corridor sheet and the journeys it offers". [`front`]
 //! hands back every cost of a lawful journey that nothing beats, [`journey`] the journey of one such cost, [`read()`]
 //! the sheet's values and [`write()`](fn@write) the text of a sheet. Each gives a result or one numbered [`Refusal`].
+//! [`calls`] has the calls themselves, on buffers that the caller lends.
 //!
 //! The functions keep nothing between calls and may run on several threads at once. Each uses up to 256 KiB of stack
 //! in the planner (measured; docs/DECISIONS.md, "Stack"); the arrivals table and the front list are on the heap.
@@ -12,7 +13,7 @@
 #![warn(missing_docs)]
 
 #[allow(unsafe_code)]
-mod calls;
+pub mod calls;
 mod offers;
 mod refusal;
 mod sheet;
