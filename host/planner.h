@@ -1,8 +1,8 @@
-/* The planner's calls for a host in C or C++, in target/staticlib/libjourneys.a (made by `rt staticlib journeys`).
+/* The planner's calls for a host in C or C++, in target/staticlib/libplanner.a (made by `rt staticlib planner`).
  *
  * The sheet, the front, the tie rule and the refusals are those of document 01, "The corridor sheet and the journeys
  * it offers"; its open points are decided in docs/DECISIONS.md. What each call hands back and leaves in every lent
- * buffer is proved of the calls in crates/journeys/src/lib.rt. That this header declares those calls is not proved;
+ * buffer is proved of the calls in crates/planner/src/lib.rt. That this header declares those calls is not proved;
  * tests/host runs each of them through it.
  *
  * Holds for every call:
