@@ -40,15 +40,7 @@ impl Row {
 fn main() {
     let (folder, seeds) = arguments();
     let load = load_average();
-    println!("Times in µs; the peer is mosipp --all --eager, and its time leaves the reading out. The ratio is of");
-    println!(
-        "planner_front without reading, with room for twice the arrivals, to the peer. While T or the places grow,"
-    );
-    println!(
-        "the occupancies grow with them: one for a step, four for a place. Medians over the seeds 1 to {}.",
-        seeds.end()
-    );
-    println!();
+    print_text(&seeds);
     print!("| family | grows | T | places | occupancies | arrivals | costs | planner | of it reading | peer | ratio ");
     println!("| search, ns per arrival |");
     println!("|---|---|{}", "---:|".repeat(10));
@@ -62,12 +54,25 @@ fn main() {
     println!("Both sides gave the same costs and the same number of arrivals on every sheet.");
 }
 
+/// Prints what the table holds.
+fn print_text(seeds: &RangeInclusive<u32>) {
+    println!(
+        "Times in µs; the peer is mosipp --all --eager, whose time leaves the reading out. Ratio and search are of
+planner_front without reading, with room for twice the arrivals. Where occupancies grow with T or with the places,
+there is one for a step, or four for a place. Medians over the seeds 1 to {}.
+",
+        seeds.end()
+    );
+}
+
 /// What grows, with the sizes.
-fn growing() -> [(&'static str, Vec<Size>); 3] {
+fn growing() -> [(&'static str, Vec<Size>); 4] {
     let most = Size { t: 255, side: 8, occupancies: 256 };
+    let steps = [31, 63, 127, 255];
     [
-        ("T", [31, 63, 127, 255].map(|t| Size { t, occupancies: t + 1, ..most }).to_vec()),
-        ("places", [2, 3, 4, 5, 6, 7, 8].map(|side| Size { side, occupancies: 4 * side * side, ..most }).to_vec()),
+        ("T", steps.map(|t| Size { t, occupancies: 32, ..most }).to_vec()),
+        ("T, occupancies", steps.map(|t| Size { t, occupancies: t + 1, ..most }).to_vec()),
+        ("places, occupancies", [2, 4, 6, 8].map(|side| Size { side, occupancies: 4 * side * side, ..most }).to_vec()),
         ("occupancies", [0, 32, 64, 128, 256].map(|occupancies| Size { occupancies, ..most }).to_vec()),
     ]
 }

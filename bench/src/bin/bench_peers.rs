@@ -71,21 +71,16 @@ fn main() {
 /// Prints what the table holds.
 fn print_text(seeds: &RangeInclusive<u32>) {
     println!(
-        "Times in µs; those of all peers leave the reading out. Each ratio is of planner_front without reading, with"
+        "Times in µs; those of all peers leave the reading out. Each ratio is of planner_front without reading, with room
+for twice the arrivals, to the peer. mosipp --all (with --eager) finds all leading arrivals, as the planner does; the
+others find the front alone. Of a peer with several options the fastest on each sheet counts: bgl without and with
+--time, with the building of the graph; dp without and with --sort; namoa --h and --dr --h; mosipp --h and --h --eager.
+Medians over the seeds 1 to {} of a family; for each sheet the least of the medians of {ROUNDS} rounds, or of fewer for a
+slow search. With `>` two searches had not ended after {} s; each counts as {LIMIT} s.
+",
+        seeds.end(),
+        2 * LIMIT
     );
-    println!(
-        "room for twice the arrivals, to the peer. mosipp --all (with --eager) finds all leading arrivals, as the"
-    );
-    println!(
-        "planner does; the others find the front alone. bgl: the faster of no option and --time, with the graph's"
-    );
-    println!("building; dp: of no option and --sort; namoa: of --h and --dr --h; mosipp --h: of --h and --h --eager.");
-    println!(
-        "Medians over the seeds 1 to {} of a family; for each sheet the least of at most {ROUNDS} rounds'",
-        seeds.end()
-    );
-    println!("medians, fewer for a slow search. `>`: not ended after twice {LIMIT} s for two searches.");
-    println!();
 }
 
 /// Prints the table's heading.
