@@ -54,14 +54,9 @@ pub fn median(mut values: Vec<f64>) -> f64 {
     (values[(values.len() - 1) / 2] + values[values.len() / 2]) / 2.0
 }
 
-/// A positive value with about three digits that count.
+/// A positive value with three digits that count, or with all those before the point.
 pub fn shown(value: f64) -> String {
-    let decimals = match value {
-        ..0.1 => 3,
-        ..10.0 => 2,
-        ..100.0 => 1,
-        _ => 0,
-    };
+    let decimals = (2.0 - value.log10().floor()).clamp(0.0, 6.0) as usize;
     format!("{value:.decimals$}")
 }
 

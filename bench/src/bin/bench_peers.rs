@@ -7,6 +7,7 @@ use planner_bench::front::{Front, reading_micros};
 use planner_bench::peer::{FAMILIES, Folder, LIMIT, MOSIPP, Search};
 use planner_bench::rounds::{self, ROUNDS, Side};
 use planner_bench::{arguments, load_average, median, shown};
+use std::fmt;
 use std::ops::RangeInclusive;
 
 /// A peer: its name in the table, and its searches, of which the fastest on a sheet counts there.
@@ -51,18 +52,31 @@ struct Row {
     peers: Vec<Option<f64>>,
 }
 
+/// A ratio, or a bound that it stays below.
+struct Ratio {
+    value: f64,
+    is_bound: bool,
+}
+
+impl fmt::Display for Ratio {
+    fn fmt(&self, formatter: &mut fmt::Formatter) -> fmt::Result {
+        write!(formatter, "{}{}", if self.is_bound { "< " } else { "" }, shown(self.value))
+    }
+}
+
 fn main() {
     let (folder, seeds) = arguments();
     let peers: Vec<&Peer> = PEERS.iter().filter(|peer| peer.name != "bgl" || folder.has("bgl")).collect();
     let load = load_average();
     print_text(&seeds);
     print_heading(&peers);
-    let ratios: Vec<Vec<f64>> =
+    let ratios: Vec<Vec<Ratio>> =
         FAMILIES.iter().map(|family| print_family(&folder, &peers, family, seeds.clone())).collect();
     println!();
     for (number, peer) in peers.iter().enumerate() {
-        let middle = median(ratios.iter().map(|ratios| ratios[number]).collect());
-        println!("Median of the families' median ratios to {}: {}.", peer.name, shown(middle));
+        let value = median(ratios.iter().map(|ratios| ratios[number].value).collect());
+        let middle = Ratio { value, is_bound: ratios.iter().any(|ratios| ratios[number].is_bound) };
+        println!("Median of the families' median ratios to {}: {middle}.", peer.name);
     }
     println!("Load of the machine before and after: {load}; {}.", load_average());
     println!("Every search that ended gave the planner's front, on all {} sheets.", FAMILIES.len() * seeds.count());
@@ -93,16 +107,16 @@ fn print_heading(peers: &[&Peer]) {
 }
 
 /// Measures a family and prints its row; hands back the median ratio to each peer.
-fn print_family(folder: &Folder, peers: &[&Peer], family: &str, seeds: RangeInclusive<u32>) -> Vec<f64> {
+fn print_family(folder: &Folder, peers: &[&Peer], family: &str, seeds: RangeInclusive<u32>) -> Vec<Ratio> {
     let rows: Vec<Row> = seeds.map(|seed| measured(folder, peers, seed, family)).collect();
     let middle = |of: fn(&Row) -> f64| median(rows.iter().map(of).collect());
     print!("| {family} | {:.0} | {:.0} |", middle(|row| row.arrivals), middle(|row| row.costs));
     print!(" {} | {} |", shown(middle(|row| row.planner)), shown(middle(|row| row.reading)));
-    let numbers = 0..peers.len();
-    numbers.clone().for_each(|number| print!(" {} |", time_shown(&rows, number)));
-    numbers.clone().for_each(|number| print!(" {} |", ratio_shown(&rows, number)));
+    (0..peers.len()).for_each(|number| print!(" {} |", time_shown(&rows, number)));
+    let ratios: Vec<Ratio> = (0..peers.len()).map(|number| ratio(&rows, number)).collect();
+    ratios.iter().for_each(|ratio| print!(" {ratio} |"));
     println!();
-    numbers.map(|number| median_ratio(&rows, number)).collect()
+    ratios
 }
 
 /// The limit in microseconds.
@@ -115,16 +129,11 @@ fn time_shown(rows: &[Row], number: usize) -> String {
     if 2 * past < rows.len() { shown(middle) } else { format!("> {:.0} ms", middle / 1_000.0) }
 }
 
-/// The median ratio to a peer; where a search did not end, it is less.
-fn ratio_shown(rows: &[Row], number: usize) -> String {
-    let all_ended = rows.iter().all(|row| row.peers[number].is_some());
-    format!("{}{}", if all_ended { "" } else { "< " }, shown(median_ratio(rows, number)))
-}
-
-/// The median ratio of the planner's time without reading to a peer's, or to the limit where its search did not end.
-fn median_ratio(rows: &[Row], number: usize) -> f64 {
+/// The median ratio of the planner's time without reading to a peer's. The limit stands for a search that did not end.
+fn ratio(rows: &[Row], number: usize) -> Ratio {
     let ratio = |row: &Row| (row.planner - row.reading) / row.peers[number].unwrap_or(LIMIT_MICROS);
-    median(rows.iter().map(ratio).collect())
+    let is_bound = rows.iter().any(|row| row.peers[number].is_none());
+    Ratio { value: median(rows.iter().map(ratio).collect()), is_bound }
 }
 
 /// Measures a sheet on all sides, once every answer agrees with the planner's.
