@@ -19,7 +19,7 @@ pub struct Search {
     pub options: &'static [&'static str],
 }
 
-/// The strongest search that finds all leading arrivals, as the planner does.
+/// The strongest peer that finds all leading arrivals, as the planner does.
 pub const MOSIPP: Search = Search { program: "mosipp", options: &["--all", "--eager"] };
 
 /// A peer's first run, of two searches, may take twice so many seconds.
