@@ -1,9 +1,12 @@
-//! Times of the planner's calls beside those of plain Rust and of a peer.
+//! Times of the planner's calls beside those of plain Rust and of the peers.
 
 use std::hint::black_box;
+use std::ops::RangeInclusive;
 use std::time::{Duration, Instant};
 
+pub mod front;
 pub mod peer;
+pub mod rounds;
 
 /// So many samples are taken of each call, each at least so long.
 const SAMPLES: usize = 1_001;
@@ -49,4 +52,25 @@ fn time_of_call<T>(calls: u32, call: &mut impl FnMut() -> T) -> f64 {
 pub fn median(mut values: Vec<f64>) -> f64 {
     values.sort_by(f64::total_cmp);
     (values[(values.len() - 1) / 2] + values[values.len() / 2]) / 2.0
+}
+
+/// A positive value with three digits that count, or with all those before the point.
+pub fn shown(value: f64) -> String {
+    let decimals = (2.0 - value.log10().floor()).clamp(0.0, 6.0) as usize;
+    format!("{value:.decimals$}")
+}
+
+/// What a program that searches sheets is started with: `FOLDER SEEDS`, the folder with the peers' programs and the
+/// number of sheets of each family.
+pub fn arguments() -> (peer::Folder, RangeInclusive<u32>) {
+    let arguments: Vec<String> = std::env::args().skip(1).collect();
+    let [folder, seeds] = &arguments[..] else { panic!("the arguments are FOLDER SEEDS") };
+    let last = seeds.parse().ok().filter(|&last| last > 0).expect("SEEDS is a number above 0");
+    (peer::Folder(folder.into()), 1..=last)
+}
+
+/// How many processes ran or waited for a processor in the last minute, if the system says it.
+pub fn load_average() -> String {
+    let content = std::fs::read_to_string("/proc/loadavg").unwrap_or_default();
+    content.split_whitespace().next().unwrap_or("unknown").to_string()
 }
