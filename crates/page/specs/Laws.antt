@@ -1,0 +1,5 @@
+pub mod Page
+pub mod Puts
+pub mod Room
+pub mod Marked
+pub mod Boundary
