@@ -1,5 +1,6 @@
 pub mod Page
 pub mod Puts
 pub mod Room
+pub mod Offers
 pub mod Marked
 pub mod Boundary
