@@ -9,6 +9,7 @@ use Rattle.sheet.specs.Lists.{number, numbersFrom, bind}
 use Rattle.sheet.specs.Sheet.{Sheet}
 use Rattle.sheet.specs.Valid.{Valid}
 use Rattle.sheet.specs.Calls.{sheetOfGroups}
+use Rattle.sheet.specs.declared.SheetRead.{SheetRead}
 use Rattle.costs.specs.Costs.{Cost, figures}
 use Rattle.intervals.specs.Inner.{SinceTable}
 use Rattle.arrivals.specs.Inner.Facts.{from-of}
@@ -18,9 +19,10 @@ use Rattle.journeys.specs.Inner.{Walks, Walkable, WalkIs, Layable}
 use Rattle.journeys.specs.Laws.Journeys.{has-three, journey-length, journey-short}
 use Rattle.journeys.specs.Laws.Front.{front-on}
 use Rattle.journeys.specs.Laws.Served.{member}
+use Rattle.journeys.specs.Laws.Ready.{part, GroupsOf, groups-of, groups-sheet}
 use Rattle.journeys.specs.Laws.Laid.{walks-of}
 use Rattle.page.specs.Page.{printed, journeyLines, offerLines}
-use Rattle.page.specs.Inner.{Puts, RowOf, Printable, PrintIs, Offered}
+use Rattle.page.specs.Inner.{Puts, RowOf, Printable, PrintIs, Offered, Offers, OffersPrinted}
 use Rattle.page.specs.Laws.Puts.{puts-append, puts-length, puts-more, puts-all, puts-fits}
 
 -- the row of a front cost
@@ -152,3 +154,18 @@ pub all-printed : {s : Sheet} {table : List ℕ} {n : ℕ} {list : List ℕ} {co
     → Puts (bind (take i (front s)) (journeyLines s)) out at out′ m → Puts (offerLines s) out at out′ m
 unfolding offerLines
 all-printed {s} o i h p = puts-all (journeyLines s) [] (front s) i (omega (arith, h, o .counted)) p
+
+-- the sheet that was read, off its groups
+abbrev sheetOfRead : SheetRead → Sheet
+sheetOfRead r = sheetOfGroups (r .head) (part 5 (number (r .lines) 1) (r .corridors)) (part 3 (number (r .lines) 2) (r .occupancies))
+
+module _ {r : SheetRead} {table : List ℕ} {n : ℕ} {list : List ℕ} {costs : ℕ} {out : List ℕ} {at : ℕ} (o : Offers r table n list costs out at) where
+  pub offers-groups : GroupsOf (o .sheet) r
+  offers-groups = groups-of (o .sheet) r (o .offered .valid) (o .read-sheet)
+
+  pub offers-offered : Offered (sheetOfRead r) table n list costs out at
+  offers-offered = subst (λ (s : Sheet). Offered s table n list costs out at) (sym (groups-sheet (o .sheet) r offers-groups)) (o .offered)
+
+pub offers-printed : (r : SheetRead) {out out′ : List ℕ} {at m : ℕ} → Puts (offerLines (sheetOfRead r)) out at out′ m → OffersPrinted r out at out′ m
+offers-printed r {out} {out′} {at} {m} p =
+    record { of = λ s v e. subst (λ (k : Sheet). Puts (offerLines k) out at out′ m) (groups-sheet s r (groups-of s r v e)) p }
