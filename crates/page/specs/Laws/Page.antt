@@ -99,12 +99,17 @@ page-on s table list path v a b k = go (noRoom s (length table)) (overfull s (le
         ∙ shown t u e
         ∙ sym (ap₂ (λ (x y : Bool). pagePrinted (pick x (frontRefused 8 0 (cleared table) list) (pick y (frontRefused 9 0 (cleared table) list) (frontServed s table list))) (λ i. journeyOn s i table path)) e f)
 
-pub page-calls : (b : List ℕ) → page b ≡ pagePrinted (frontProgram b) (journeyProgram b)
+-- in any buffers of these lengths
+pub page-by : (b table list path : List ℕ) → length table ≡ tableNumbers → length list ≡ listNumbers → length path ≡ 256
+    → page b ≡ pagePrinted (frontCall b table list) (λ i. journeyCall b i table path)
 unfolding page frontCall journeyCall
-page-calls b = go (readOf b) refl
+page-by b table list path t l k = go (readOf b) refl
   where
-    go : (o : Outcome) → readOf b ≡ o → pageRead o ≡ pagePrinted (frontRead o (replicate tableNumbers 0) (replicate listNumbers 0)) (λ i. journeyRead o i (replicate tableNumbers 0) (replicate 256 0))
+    go : (o : Outcome) → readOf b ≡ o → pageRead o ≡ pagePrinted (frontRead o table list) (λ i. journeyRead o i table path)
     go (refused k n) e = rw (ne-eqb k 0 (λ z. omega (arith, read-refused b k n e)))
-    go (loaded s) e =
-        page-on s (replicate tableNumbers 0) (replicate listNumbers 0) (replicate 256 0) (read-valid b s e)
-        (length-replicate {A = ℕ} tableNumbers 0) (length-replicate {A = ℕ} listNumbers 0) (length-replicate {A = ℕ} 256 0)
+    go (loaded s) e = page-on s table list path (read-valid b s e) t l k
+
+pub page-calls : (b : List ℕ) → page b ≡ pagePrinted (frontProgram b) (journeyProgram b)
+page-calls b =
+    page-by b (replicate tableNumbers 0) (replicate listNumbers 0) (replicate 256 0)
+    (length-replicate {A = ℕ} tableNumbers 0) (length-replicate {A = ℕ} listNumbers 0) (length-replicate {A = ℕ} 256 0)

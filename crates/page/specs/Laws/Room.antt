@@ -87,7 +87,7 @@ offers-long : (s : Sheet) → Valid s → length (offerLines s) ≤ length (fron
 unfolding offerLines
 offers-long s v = bind-long (journeyLines s) 816 [] (front s) (λ i k. lines-long s v (getD (front s) i []) (front-on s (getD (front s) i []) (member (front s) i k) .has))
 
-two-long : (c m n : ℕ) → length (printed c (m ∷ n ∷ [])) ≤ 24
+pub two-long : (c m n : ℕ) → length (printed c (m ∷ n ∷ [])) ≤ 24
 two-long c m n = omega (arith, printed-long c 11 (m ∷ n ∷ []) (λ i k. number-long (number (m ∷ n ∷ []) i)))
 
 front-long : (s : Sheet) → length (frontLine s) ≤ 24
@@ -99,7 +99,7 @@ unfolding refusalLine
 refusal-long k n = two-long 82 k n
 
 -- 200 costs fit
-few-costs : (s : Sheet) → overfull s listNumbers ≡ false → length (front s) ≤ 200
+pub few-costs : (s : Sheet) → overfull s listNumbers ≡ false → length (front s) ≤ 200
 unfolding overfull
 few-costs s e = ltb-false 200 (length (front s)) e
 
