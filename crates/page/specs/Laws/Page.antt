@@ -6,11 +6,11 @@ use mathlib.Core.List.{List, [], _∷_, _++_}
 use Prim.Native.Nat.{ℕ, zero, suc, _+_, _-_, _≤_, _<_}
 use native.Mathlib.Omega.{arith}
 use lib.Dec.{eqb}
-use lib.ListN.{length, getD, take, replicate, length-replicate}
+use lib.ListN.{length, getD, take, replicate, length-append, length-replicate}
 use lib.Seq.{take-at}
-use borrow.Author.Tests.{ne-eqb, le-ltb, lt-leb}
+use borrow.Author.Tests.{ne-eqb, lt-ltb, le-ltb, lt-leb}
 use Rattle.sheet.specs.Lists.{pick, bind}
-use Rattle.sheet.specs.Sheet.{Sheet, Outcome, refused, loaded, readOf}
+use Rattle.sheet.specs.Sheet.{Sheet, Outcome, refused, loaded, mostBytes, readOf}
 use Rattle.sheet.specs.Valid.{Valid}
 use Rattle.sheet.specs.Laws.RoundTrip.{read-refused, read-valid}
 use Rattle.costs.specs.Costs.{Cost}
@@ -113,3 +113,11 @@ pub page-calls : (b : List ℕ) → page b ≡ pagePrinted (frontProgram b) (jou
 page-calls b =
     page-by b (replicate tableNumbers 0) (replicate listNumbers 0) (replicate 256 0)
     (length-replicate {A = ℕ} tableNumbers 0) (length-replicate {A = ℕ} listNumbers 0) (length-replicate {A = ℕ} 256 0)
+
+-- one byte more than a sheet may have decides: what stands after it changes nothing
+pub page-cut : (b rest : List ℕ) → mostBytes < length b → page (b ++ rest) ≡ page b
+unfolding page readOf
+page-cut b rest h =
+    let e = lt-ltb mostBytes (length b) h in
+    let f = lt-ltb mostBytes (length (b ++ rest)) (omega (arith, length-append b rest, h)) in
+    rw (e, f)

@@ -15,7 +15,7 @@ use Rattle.sheet.specs.Sheet.{Sheet, loaded, readOf}
 use Rattle.sheet.specs.Calls.{readAnswer, readCall}
 use Rattle.sheet.specs.declared.SheetRead.{SheetRead}
 use Rattle.sheet.specs.Laws.RoundTrip.{read-valid}
-use Rattle.sheet.specs.Laws.Stores.{sets-filled}
+use Rattle.sheet.specs.Laws.Stores.{sets-filled, length-filled}
 use Rattle.costs.specs.Costs.{Cost, figures}
 use Rattle.arrivals.specs.Computed.{leading}
 use Rattle.arrivals.specs.Table.{arrivalTable, crowded}
@@ -29,6 +29,7 @@ use Rattle.journeys.specs.Laws.Served.{Served, served}
 use Rattle.journeys.specs.Laws.Offered.{table-holds}
 use Rattle.journeys.specs.Laws.Ready.{room-fits, usable-most}
 use Rattle.page.specs.Page.{printed, refusalLine, frontLine, offerLines, tableNumbers, listNumbers, pageOn, pageRead, page, pageRoom, held}
+use Rattle.page.specs.declared.PageText.{PageText}
 use Rattle.page.specs.Inner.{Puts, Offers, OffersPrinted}
 use Rattle.page.specs.Laws.Page.{pagePrinted, page-by}
 use Rattle.page.specs.Laws.Puts.{puts-length, puts-append}
@@ -148,3 +149,10 @@ page-held b out n p =
     let f : sets (replicate pageRoom 0) 0 (page b) ≡ filled pageRoom (page b) = sets-filled pageRoom [] (page b) 0 refl (omega (arith, page-fits b)) in
     let c : n ≡ length (page b) = omega (arith, p .next-is) in
     λ i. record { bytes = (p .out-is ∙ f) i; count = c i }
+
+pub held-within : (r : PageText) (b : List ℕ) → r ≡ held b → r .count ≤ length (r .bytes)
+unfolding held
+held-within r b e =
+    let n : r .count ≡ length (page b) = ap (λ (x : PageText). x .count) e in
+    let l : length (r .bytes) ≡ pageRoom = ap (λ (x : PageText). length (x .bytes)) e ∙ length-filled pageRoom (page b) (page-fits b) in
+    omega (arith, n, l, page-fits b)
