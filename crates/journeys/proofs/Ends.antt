@@ -28,10 +28,10 @@ use Rattle.journeys.specs.declared.JourneyAnswer.{JourneyAnswer}
 use Rattle.journeys.specs.declared.offered.Offered.{Offered}
 use Rattle.journeys.specs.declared.prepare.Prepared.{Prepared}
 use Rattle.journeys.specs.Laws.Front.{front-on}
-use Rattle.journeys.specs.Laws.Page.{journey-length}
+use Rattle.journeys.specs.Laws.Journeys.{journey-length}
 use Rattle.journeys.specs.Laws.Served.{member}
 use Rattle.journeys.specs.Laws.Offered.{holds-front, holds-step, table-holds}
-use Rattle.journeys.proofs.Ready.{rows-length, room-fits, usable-most, part, GroupsOf, groups-of, groups-sheet}
+use Rattle.journeys.specs.Laws.Ready.{rows-length, room-fits, usable-most, part, GroupsOf, groups-of, groups-sheet}
 
 -- a sheet that is ready, and what the functions over the table and the groups ask for
 pub record ReadyIs (b table table′ : List ℕ) (r : Prepared) : Type 0 where

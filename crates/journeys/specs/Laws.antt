@@ -9,6 +9,5 @@ pub mod Horizon
 pub mod Served
 pub mod Demand2
 pub mod Demand3
-pub mod Page
-pub mod Marked
-pub mod Boundary
+pub mod Ready
+pub mod Laid

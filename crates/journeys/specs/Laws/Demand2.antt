@@ -27,10 +27,9 @@ use Rattle.journeys.specs.Front.{OnFront}
 use Rattle.journeys.specs.Computed.{self, journeyOf, arrivalOf, front}
 use Rattle.journeys.specs.Calls.{noRoom, cleared, FrontEnd, frontServed, frontCall, JourneyEnd, journeyRefused, tooShort, journeyServed, journeyOn, journeyRead, journeyCall}
 use Rattle.journeys.specs.Demand2.{costAt, stepAt, Listed, ListsFront, GivesJourney, Demand2}
-use Rattle.journeys.specs.Laws.Journeys.{has-three, journeyOf-selected}
+use Rattle.journeys.specs.Laws.Journeys.{has-three, journeyOf-selected, journey-length}
 use Rattle.journeys.specs.Laws.Front.{front-on, on-front, front-ascending, front-empty}
 use Rattle.journeys.specs.Laws.Served.{served, member, row-listed, listed}
-use Rattle.journeys.specs.Laws.Page.{journey-length}
 
 -- a member of a list of costs has a number in it
 position : (g : Cost) (l : List Cost) → g ∈ l → (i : ℕ) × (i < length l) × (getD l i [] ≡ g)

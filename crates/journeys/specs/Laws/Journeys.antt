@@ -22,7 +22,7 @@ use Rattle.arrivals.specs.Computed.{Walk, walks}
 use Rattle.arrivals.specs.Laws.Trails.{Trail, walks-trail, trail-walks, trail-way, way-trail, way-three}
 use Rattle.arrivals.specs.Laws.Bounds.{way-bounded}
 use Rattle.journeys.specs.Journeys.{Counts, Journey, HasCost, rank, Selected}
-use Rattle.journeys.specs.Computed.{countsb, atGoal, journeysTo, journeys, pathOf, withCost, headOr, journeyOf}
+use Rattle.journeys.specs.Computed.{countsb, atGoal, journeysTo, journeys, pathOf, withCost, headOr, journeyOf, arrivalOf}
 use Rattle.journeys.specs.Laws.Counts.{countsb-true, counts-countsb, counts-within}
 
 -- a trail that ends at the goal, after the places `before` (the last step first), at a step that counts
@@ -162,3 +162,11 @@ journeyOf-selected s g h = go (sortUnique rank l) (λ p m. paths-journey s g p (
         from : (q : List ℕ) → q ∈ (p ∷ k) → (p ≡ q) ⊎ Lex (rank p) (rank q)
         from q (inl e) = inl (sym e)
         from q (inr m) = inr (before-all rank p k (a .0) (a .1) q m)
+
+-- a journey of a valid sheet has a place for each step 0 to its arrival, at most 256 in all
+pub journey-length : (s : Sheet) (g : Cost) → HasCost s g → length (journeyOf s g) ≡ suc (arrivalOf s g)
+unfolding arrivalOf
+journey-length s g h = let j = journeyOf-selected s g h .journey in omega (arith, j .way .places)
+
+pub journey-short : (s : Sheet) (g : Cost) → Valid s → HasCost s g → length (journeyOf s g) ≤ 256
+journey-short s g v h = let j = journeyOf-selected s g h .journey in omega (arith, j .way .places, counts-within s (j .A) (j .counts), v .most-steps)

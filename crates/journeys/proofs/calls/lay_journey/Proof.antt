@@ -4,7 +4,7 @@ use mathlib.Core.Path.{sym}
 use native.Mathlib.Omega.{arith}
 use lib.Seq.{length-take-le}
 use borrow.Author.Needs.{needs}
-use Rattle.journeys.proofs.Ready.{corridors-whole, occupancies-whole}
+use Rattle.journeys.specs.Laws.Ready.{corridors-whole, occupancies-whole}
 use Rattle.journeys.proofs.Ends.{laid-groups, laid-out, layable-groups}
 use Rattle.journeys.proofs.calls.lay_journey.Statement.{statement}
 use Rattle.journeys.proofs.calls.lay_journey.Tie as tie

@@ -3,7 +3,7 @@
 use mathlib.Core.Path.{sym, _∙_}
 use borrow.Author.Needs.{needs}
 use Rattle.sheet.specs.Calls.{sheetOfGroups}
-use Rattle.journeys.proofs.Laid.{valid-group, walks-of, laid}
+use Rattle.journeys.specs.Laws.Laid.{valid-group, walks-of, laid}
 use Rattle.journeys.proofs.calls.lay_path.Statement.{statement}
 use Rattle.journeys.proofs.calls.lay_path.Tie as tie
 

@@ -12,7 +12,7 @@ use borrow.Author.Tests.{not-true, not-false}
 use Rattle.sheet.specs.Lists.{number}
 use Rattle.sheet.specs.Valid.{Valid}
 use Rattle.journeys.specs.Inner.{unread, full, ready}
-use Rattle.journeys.proofs.Ready.{usable-most, groups-sheet, corridors-whole, occupancies-whole, searched, read-as, not-read}
+use Rattle.journeys.specs.Laws.Ready.{usable-most, groups-sheet, corridors-whole, occupancies-whole, searched, read-as, not-read}
 use Rattle.journeys.proofs.prepare.prepare.Statement.{statement}
 use Rattle.journeys.proofs.prepare.prepare.Tie as tie
 

@@ -1,6 +1,5 @@
 -- A sheet that was read and searched. The groups that the reader handed back are those of the sheet, and the parts of them up to their last lines make
 -- that sheet again; the searched part of a lent table, with zeros after it, is the whole table as the call leaves it.
--- Assumes nothing.
 use mathlib.Core.Path.{_≡_, refl, sym, _∙_, ap, ap₂, subst}
 use mathlib.Core.Logic.{_≢_}
 use mathlib.Core.Bool.{Bool, true, false, true≢false}

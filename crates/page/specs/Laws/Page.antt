@@ -6,22 +6,21 @@ use mathlib.Core.List.{List, [], _∷_, _++_}
 use Prim.Native.Nat.{ℕ, zero, suc, _+_, _-_, _≤_, _<_}
 use native.Mathlib.Omega.{arith}
 use lib.Dec.{eqb}
-use lib.ListN.{length, getD, take, replicate, length-replicate}
+use lib.ListN.{length, getD, take, replicate, length-append, length-replicate}
 use lib.Seq.{take-at}
-use borrow.Author.Tests.{ne-eqb, le-ltb, lt-leb}
+use borrow.Author.Tests.{ne-eqb, lt-ltb, le-ltb, lt-leb}
 use Rattle.sheet.specs.Lists.{pick, bind}
-use Rattle.sheet.specs.Sheet.{Sheet, Outcome, refused, loaded, readOf}
+use Rattle.sheet.specs.Sheet.{Sheet, Outcome, refused, loaded, mostBytes, readOf}
 use Rattle.sheet.specs.Valid.{Valid}
 use Rattle.sheet.specs.Laws.RoundTrip.{read-refused, read-valid}
 use Rattle.costs.specs.Costs.{Cost}
 use Rattle.journeys.specs.Journeys.{HasCost}
 use Rattle.journeys.specs.Computed.{journeyOf, arrivalOf, front}
 use Rattle.journeys.specs.Calls.{noRoom, cleared, frontRow, overfull, FrontEnd, frontRefused, frontServed, frontOn, frontRead, frontCall, JourneyEnd, tooShort, journeyServed, journeyOn, journeyRead, journeyCall}
-use Rattle.journeys.specs.Page.{printed, refusalLine, frontLine, journeyLines, tableNumbers, listNumbers, pageOn, pageRead, page}
-use Rattle.journeys.specs.Laws.Counts.{counts-within}
-use Rattle.journeys.specs.Laws.Journeys.{journeyOf-selected}
+use Rattle.page.specs.Page.{printed, refusalLine, frontLine, journeyLines, offerLines, tableNumbers, listNumbers, pageOn, pageRead, page}
+use Rattle.journeys.specs.Laws.Journeys.{journey-length, journey-short}
 use Rattle.journeys.specs.Laws.Front.{front-on}
 use Rattle.journeys.specs.Laws.Served.{member}
 
 -- n numbers from i on
 abbrev pub numbers : ℕ → ℕ → List ℕ
@@ -56,14 +55,6 @@ by-number (x ∷ l) i f g h =
     by-number l (suc i) f g (λ j k. h (suc j) (omega arith) ∙ ap g (let e : i + suc j ≡ suc i + j = omega arith in e)) in
     ap₂ (λ (p q : List ℕ). p ++ q) a b
 
--- a journey of a valid sheet has a place for each step 0 to its arrival, at most 256 in all
-pub journey-length : (s : Sheet) (g : Cost) → HasCost s g → length (journeyOf s g) ≡ suc (arrivalOf s g)
-unfolding arrivalOf
-journey-length s g h = let j = journeyOf-selected s g h .journey in omega (arith, j .way .places)
-
-journey-short : (s : Sheet) (g : Cost) → Valid s → HasCost s g → length (journeyOf s g) ≤ 256
-journey-short s g v h = let j = journeyOf-selected s g h .journey in omega (arith, j .way .places, counts-within s (j .A) (j .counts), v .most-steps)
-
 served-lines : (s : Sheet) (g : Cost) (table path : List ℕ) → HasCost s g → journeyLines s g ≡ journeyPrinted (journeyServed s g table path)
 unfolding journeyLines journeyServed
 served-lines s g table path h =
@@ -75,9 +66,9 @@ unfolding journeyOn tooShort
 journey-served s i table path c h l = rw (c, lt-leb (length (front s)) i h, le-ltb (length path) (length (journeyOf s (getD (front s) i []))) l)
 
 on-served : (s : Sheet) (table list path : List ℕ) → Valid s → noRoom s (length table) ≡ false → length path ≡ 256
-    → frontLine s ++ bind (front s) (journeyLines s)
+    → frontLine s ++ offerLines s
     ≡ frontPrinted (frontServed s table list) ++ bind (numbers 0 (length (front s))) (λ i. journeyPrinted (journeyOn s i table path))
-unfolding frontLine frontServed
+unfolding frontLine offerLines frontServed
 on-served s table list path v c k = ap (λ (p : List ℕ). frontLine s ++ p) (by-number (front s) 0 (journeyLines s) (λ i. journeyPrinted (journeyOn s i table path)) each)
   where
     each : (j : ℕ) → j < length (front s) → journeyLines s (getD (front s) j []) ≡ journeyPrinted (journeyOn s (0 + j) table path)
@@ -94,7 +85,7 @@ unfolding pageOn frontOn
 page-on s table list path v a b k = go (noRoom s (length table)) (overfull s (length list)) refl refl
   where
     shown : (t u : Bool) → noRoom s (length table) ≡ t
-        → pick t (refusalLine 8 0) (pick u (refusalLine 9 0) (frontLine s ++ bind (front s) (journeyLines s)))
+        → pick t (refusalLine 8 0) (pick u (refusalLine 9 0) (frontLine s ++ offerLines s))
         ≡ pagePrinted (pick t (frontRefused 8 0 (cleared table) list) (pick u (frontRefused 9 0 (cleared table) list) (frontServed s table list))) (λ i. journeyOn s i table path)
     shown true u e = refl
     shown false true e = refl
@@ -104,16 +95,29 @@ page-on s table list path v a b k = go (noRoom s (length table)) (overfull s (le
     go t u e f =
         let e′ : noRoom s tableNumbers ≡ t = ap (noRoom s) (sym a) ∙ e in
         let f′ : overfull s listNumbers ≡ u = ap (overfull s) (sym b) ∙ f in
-        ap₂ (λ (x y : Bool). pick x (refusalLine 8 0) (pick y (refusalLine 9 0) (frontLine s ++ bind (front s) (journeyLines s)))) e′ f′
+        ap₂ (λ (x y : Bool). pick x (refusalLine 8 0) (pick y (refusalLine 9 0) (frontLine s ++ offerLines s))) e′ f′
         ∙ shown t u e
         ∙ sym (ap₂ (λ (x y : Bool). pagePrinted (pick x (frontRefused 8 0 (cleared table) list) (pick y (frontRefused 9 0 (cleared table) list) (frontServed s table list))) (λ i. journeyOn s i table path)) e f)
 
-pub page-calls : (b : List ℕ) → page b ≡ pagePrinted (frontProgram b) (journeyProgram b)
+-- in any buffers of these lengths
+pub page-by : (b table list path : List ℕ) → length table ≡ tableNumbers → length list ≡ listNumbers → length path ≡ 256
+    → page b ≡ pagePrinted (frontCall b table list) (λ i. journeyCall b i table path)
 unfolding page frontCall journeyCall
-page-calls b = go (readOf b) refl
+page-by b table list path t l k = go (readOf b) refl
   where
-    go : (o : Outcome) → readOf b ≡ o → pageRead o ≡ pagePrinted (frontRead o (replicate tableNumbers 0) (replicate listNumbers 0)) (λ i. journeyRead o i (replicate tableNumbers 0) (replicate 256 0))
+    go : (o : Outcome) → readOf b ≡ o → pageRead o ≡ pagePrinted (frontRead o table list) (λ i. journeyRead o i table path)
     go (refused k n) e = rw (ne-eqb k 0 (λ z. omega (arith, read-refused b k n e)))
-    go (loaded s) e =
-        page-on s (replicate tableNumbers 0) (replicate listNumbers 0) (replicate 256 0) (read-valid b s e)
-        (length-replicate {A = ℕ} tableNumbers 0) (length-replicate {A = ℕ} listNumbers 0) (length-replicate {A = ℕ} 256 0)
+    go (loaded s) e = page-on s table list path (read-valid b s e) t l k
+
+pub page-calls : (b : List ℕ) → page b ≡ pagePrinted (frontProgram b) (journeyProgram b)
+page-calls b =
+    page-by b (replicate tableNumbers 0) (replicate listNumbers 0) (replicate 256 0)
+    (length-replicate {A = ℕ} tableNumbers 0) (length-replicate {A = ℕ} listNumbers 0) (length-replicate {A = ℕ} 256 0)
+
+-- one byte more than a sheet may have decides: what stands after it changes nothing
+pub page-cut : (b rest : List ℕ) → mostBytes < length b → page (b ++ rest) ≡ page b
+unfolding page readOf
+page-cut b rest h =
+    let e = lt-ltb mostBytes (length b) h in
+    let f = lt-ltb mostBytes (length (b ++ rest)) (omega (arith, length-append b rest, h)) in
+    rw (e, f)

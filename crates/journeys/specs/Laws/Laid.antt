@@ -1,5 +1,4 @@
 -- The path buffer of a journey: what the table of free runs and the walk back need of the groups of a valid sheet, and the buffer with zeros past the path.
--- Assumes nothing.
 use mathlib.Core.Path.{_≡_, refl, _∙_, ap, ap₂}
 use mathlib.Core.List.{List, _++_}
 use Prim.Native.Nat.{ℕ, _+_, _-_, _≤_, _/_, _%_}
@@ -15,7 +14,7 @@ use Rattle.costs.specs.Costs.{Cost}
 use Rattle.intervals.specs.Inner.{ValidGroup, SinceTable}
 use Rattle.journeys.specs.Computed.{journeyOf}
 use Rattle.journeys.specs.Inner.{Walks, WalkIs, Layable}
-use Rattle.journeys.specs.Laws.Page.{journey-length}
+use Rattle.journeys.specs.Laws.Journeys.{journey-length}
 
 pub valid-group : (h cs os : List ℕ) → length os % 3 ≡ 0 → Valid (sheetOfGroups h cs os) → ValidGroup os
 valid-group h cs os e v =

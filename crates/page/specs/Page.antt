@@ -3,22 +3,28 @@
 use mathlib.Core.List.{List, [], _∷_, _++_}
 use Prim.Native.Nat.{ℕ, _*_}
 use lib.ListN.{length}
-use Rattle.sheet.specs.Lists.{pick, bind}
+use Rattle.sheet.specs.Lists.{pick, bind, filled}
 use Rattle.sheet.specs.Decimal.{digitsOf}
 use Rattle.sheet.specs.Sheet.{Sheet, Outcome, refused, loaded, readOf}
 use Rattle.costs.specs.Costs.{Cost}
 use Rattle.arrivals.specs.Computed.{leading}
 use Rattle.journeys.specs.Computed.{journeyOf, arrivalOf, front}
 use Rattle.journeys.specs.Calls.{frontRow, overfull, noRoom}
+use Rattle.page.specs.declared.PageText.{PageText}
 
 -- the most digits of a printed number
 abbrev pub mostPrinted : ℕ
 mostPrinted = 10
 
+-- a comma and the digits
+unfoldable pub numberPrinted : ℕ → List ℕ
+unfolding digitsOf
+numberPrinted n = 44 ∷ digitsOf mostPrinted n
+
 -- a letter, each number after a comma, a line feed
 unfoldable pub printed : ℕ → List ℕ → List ℕ
-unfolding digitsOf
-printed c ns = c ∷ (bind ns (λ n. 44 ∷ digitsOf mostPrinted n) ++ (10 ∷ []))
+unfolding numberPrinted
+printed c ns = c ∷ (bind ns numberPrinted ++ (10 ∷ []))
 
 -- `R,number,line`
 unfoldable pub refusalLine : ℕ → ℕ → List ℕ
@@ -35,6 +41,11 @@ unfoldable pub journeyLines : Sheet → Cost → List ℕ
 unfolding printed journeyOf arrivalOf
 journeyLines s g = printed 74 (frontRow s g) ++ printed 80 (journeyOf s g)
 
+-- the lines of every front cost, in order
+unfoldable pub offerLines : Sheet → List ℕ
+unfolding front journeyLines
+offerLines s = bind (front s) (journeyLines s)
+
 -- the lent numbers: room for 2,000 arrivals and 200 costs
 abbrev pub tableNumbers : ℕ
 tableNumbers = 2000 * 5
@@ -43,9 +54,9 @@ abbrev pub listNumbers : ℕ
 listNumbers = 200 * 4
 
 unfoldable pub pageOn : Sheet → List ℕ
-unfolding noRoom overfull refusalLine frontLine journeyLines
+unfolding noRoom overfull refusalLine frontLine offerLines
 pageOn s =
-    let r = frontLine s ++ bind (front s) (journeyLines s) in
+    let r = frontLine s ++ offerLines s in
     let q = pick (overfull s listNumbers) (refusalLine 9 0) r in
     pick (noRoom s tableNumbers) (refusalLine 8 0) q
 
@@ -57,3 +68,12 @@ pageRead (loaded s) = pageOn s
 unfoldable pub page : List ℕ → List ℕ
 unfolding pageOn refusalLine readOf
 page b = pageRead (readOf b)
+
+-- the room for a page, in bytes: none is longer (Laws.Room.page-fits)
+abbrev pub pageRoom : ℕ
+pageRoom = 163840
+
+-- the page as the program holds it: its bytes, then zeros, and the count of its bytes
+unfoldable pub held : List ℕ → PageText
+unfolding page
+held b = record { bytes = filled pageRoom (page b); count = length (page b) }

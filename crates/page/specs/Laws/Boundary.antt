@@ -4,8 +4,8 @@ use mathlib.Core.List.{List, [], _∷_}
 use Prim.Native.Nat.{ℕ}
 use lib.ListN.{replicate}
 use Rattle.sheet.specs.Laws.Ascii.{bytes}
 use Rattle.journeys.specs.Calls.{FrontEnd, frontCall, JourneyEnd, journeyCall}
-use Rattle.journeys.specs.Laws.Marked.{sheetA}
+use Rattle.page.specs.Laws.Marked.{sheetA}
 
 -- a call of the front on sheet A with arrays of n and m numbers, filled with sevens: refusal, line, costs, arrivals; then both arrays
 abbrev pub frontShown : FrontEnd → List (List ℕ)

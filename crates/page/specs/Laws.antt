@@ -1,0 +1,7 @@
+pub mod Page
+pub mod Puts
+pub mod Room
+pub mod Offers
+pub mod Whole
+pub mod Marked
+pub mod Boundary

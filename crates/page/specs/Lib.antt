@@ -1,0 +1,3 @@
+pub mod Page
+pub mod Inner
+pub mod Laws
