@@ -1,14 +1,14 @@
 -- When a call of the front is served, and what it then hands back: refusal 0 exactly when the bytes read as a sheet, the leading arrivals fit the
--- room of the table and the front costs fit the room of the list. So demand 3 is not empty talk.
+-- room of the table and the front costs fit the room of the list. So demand 3 is not empty talk. The same for a call of a journey.
 use mathlib.Core.Path.{_≡_, refl, _∙_, ap}
 use mathlib.Core.Logic.{_↔_, inl, inr}
 use mathlib.Core.Bool.{Bool, true, false}
 use mathlib.Core.List.{List, [], _∷_, map}
 use Prim.Native.Nat.{ℕ, zero, suc, _+_, _*_, _-_, _≤_, _<_}
 use native.Mathlib.Omega.{arith}
-use lib.Dec.{ltb}
+use lib.Dec.{ltb, leb}
 use lib.ListN.{length, getD, replicate, length-append, length-map, List·getD-append}
-use borrow.Author.Tests.{ltb-false, le-ltb}
+use borrow.Author.Tests.{ltb-false, leb-false, le-ltb, lt-leb}
 use Rattle.sheet.specs.Lists.{_∈_, pick, number, bind, flat}
 use Rattle.sheet.specs.Sheet.{Sheet, Outcome, refused, loaded, readOf}
 use Rattle.sheet.specs.Laws.Members.{map-mem}
@@ -17,8 +17,8 @@ use Rattle.sheet.specs.Laws.RoundTrip.{read-refused}
 use Rattle.costs.specs.Costs.{Cost, figures, fig}
 use Rattle.arrivals.specs.Computed.{leading}
 use Rattle.arrivals.specs.Table.{arrivalRoom, crowded}
-use Rattle.journeys.specs.Computed.{arrivalOf, front}
-use Rattle.journeys.specs.Calls.{usable, noRoom, cleared, frontRow, frontRoom, overfull, FrontEnd, frontRefused, frontServed, frontOn, frontRead, frontCall}
+use Rattle.journeys.specs.Computed.{journeyOf, arrivalOf, front}
+use Rattle.journeys.specs.Calls.{usable, noRoom, cleared, frontRow, frontRoom, overfull, FrontEnd, frontRefused, frontServed, frontOn, frontRead, frontCall, journeyRefused, tooShort, journeyServed, journeyOn, journeyRead, journeyCall}
 use Rattle.journeys.specs.Demand3.{figureAt}
 use Rattle.journeys.specs.Laws.Journeys.{has-three}
 use Rattle.journeys.specs.Laws.Front.{front-on}
@@ -70,6 +70,48 @@ fits-served b table list f =
 -- a call of the front is served exactly when the sheet reads, the leading arrivals fit and the front fits
 pub served-exactly : (b table list : List ℕ) → (frontCall b table list .answer .refusal ≡ 0) ↔ Fits b table list
 served-exactly b table list = (λ z. served b table list z .fits, fits-served b table list)
+
+-- the sheet of the bytes, whose leading arrivals fit, on whose front there is a number i, and whose journey fits
+pub record FitsJourney (b : List ℕ) (i : ℕ) (table path : List ℕ) : Type 0 where
+  pub sheet : Sheet
+  pub reads : readOf b ≡ loaded sheet
+  pub arrivals-fit : length (leading sheet) ≤ tableRoom (length table)
+  pub numbered : i < length (front sheet)
+  pub path-fits : length (journeyOf sheet (getD (front sheet) i [])) ≤ length path
+
+on-fits : (s : Sheet) (i : ℕ) (table path : List ℕ) → journeyOn s i table path .answer .refusal ≡ 0
+    → (length (leading s) ≤ tableRoom (length table)) × (i < length (front s)) × (length (journeyOf s (getD (front s) i [])) ≤ length path)
+unfolding journeyOn noRoom crowded tooShort
+on-fits s i table path z =
+    go (ltb (tableRoom (length table)) (length (leading s))) (leb (length (front s)) i) (ltb (length path) (length (journeyOf s (getD (front s) i [])))) refl refl refl z
+  where
+    go : (t u w : Bool) → ltb (tableRoom (length table)) (length (leading s)) ≡ t → leb (length (front s)) i ≡ u → ltb (length path) (length (journeyOf s (getD (front s) i []))) ≡ w
+        → (pick t (journeyRefused 8 0 (cleared table) path) (pick u (journeyRefused 10 0 (cleared table) path) (pick w (journeyRefused 11 0 (cleared table) path) (journeyServed s (getD (front s) i []) table path)))) .answer .refusal ≡ 0
+        → (length (leading s) ≤ tableRoom (length table)) × (i < length (front s)) × (length (journeyOf s (getD (front s) i [])) ≤ length path)
+    go true u w p q r z = absurd (omega (arith, z))
+    go false true w p q r z = absurd (omega (arith, z))
+    go false false true p q r z = absurd (omega (arith, z))
+    go false false false p q r z = (ltb-false (tableRoom (length table)) (length (leading s)) p, leb-false (length (front s)) i q, ltb-false (length path) (length (journeyOf s (getD (front s) i []))) r)
+
+journey-fits : (b : List ℕ) (i : ℕ) (table path : List ℕ) → journeyCall b i table path .answer .refusal ≡ 0 → FitsJourney b i table path
+unfolding journeyCall
+journey-fits b i table path z = go (readOf b) refl z
+  where
+    go : (o : Outcome) → readOf b ≡ o → journeyRead o i table path .answer .refusal ≡ 0 → FitsJourney b i table path
+    go (refused k n) r z = absurd (omega (arith, z, read-refused b k n r))
+    go (loaded s) r z =
+        let q = on-fits s i table path z in
+        record { sheet = s; reads = r; arrivals-fit = q .0; numbered = q .1; path-fits = q .2 }
+
+fits-journey : (b : List ℕ) (i : ℕ) (table path : List ℕ) → FitsJourney b i table path → journeyCall b i table path .answer .refusal ≡ 0
+unfolding journeyCall journeyOn noRoom crowded tooShort journeyServed
+fits-journey b i table path f =
+    rw
+    (f .reads, le-ltb (tableRoom (length table)) (length (leading (f .sheet))) (f .arrivals-fit), lt-leb (length (front (f .sheet))) i (f .numbered), le-ltb (length path) (length (journeyOf (f .sheet) (getD (front (f .sheet)) i []))) (f .path-fits))
+
+-- a call of a journey is served exactly when the sheet reads, the leading arrivals fit, its number is on the front and the path buffer is long enough
+pub journey-served-exactly : (b : List ℕ) (i : ℕ) (table path : List ℕ) → (journeyCall b i table path .answer .refusal ≡ 0) ↔ FitsJourney b i table path
+journey-served-exactly b i table path = (journey-fits b i table path, fits-journey b i table path)
 
 rows-wide : (s : Sheet) (l : List ℕ) → l ∈ map (frontRow s) (front s) → length l ≡ 4
 rows-wide s l m =

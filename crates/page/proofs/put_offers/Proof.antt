@@ -43,7 +43,7 @@ slice-aggregate-put-journeys-3 : tie.Need-slice-aggregate-put-journeys-3
 slice-aggregate-put-journeys-3 c = sym (length-take-le _ _ (offers-groups (c .before .before .before .before .before .before .before .before .before .before .pre) .occupancies-of .within))
 
 put-journeys-requires : tie.Need-put-journeys-requires
-put-journeys-requires c κs = 
+put-journeys-requires c κs =
     let w = c .before .before .before .before .before .before .before .before .before .before .before .pre in
     (corridors-whole _ _ (offers-groups w), occupancies-whole _ _ (offers-groups w), offers-offered w)
 

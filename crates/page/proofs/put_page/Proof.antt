@@ -19,7 +19,7 @@ slice-aggregate-put-line : tie.Need-slice-aggregate-put-line
 slice-aggregate-put-line c = search needs
 
 put-line-requires : tie.Need-put-line-requires
-put-line-requires c κs = 
+put-line-requires c κs =
     let q = c .before .before .before .before .before .before .before .before .front in
     let z = c .before .before .before .before .before .before .before .before .before .before .before .before .before .before .before in
     let a = z .args in
@@ -35,7 +35,7 @@ same-length-3 : tie.Need-same-length-3
 same-length-3 c = search needs
 
 returns : tie.Need-returns
-returns c = 
+returns c =
     let q = c .before .before .before .before .before .before .before .before .before .before .before .front in
     let z = c .before .before .before .before .before .before .before .before .before .before .before .before .before .before .before .before .before .before in
     let a = z .args in
@@ -46,7 +46,7 @@ slice-aggregate-put-line-2 : tie.Need-slice-aggregate-put-line-2
 slice-aggregate-put-line-2 c = search needs
 
 put-line-requires-2 : tie.Need-put-line-requires-2
-put-line-requires-2 c κs = 
+put-line-requires-2 c κs =
     let q = c .before .before .before .before .before .before .before .before .front in
     let z = c .before .before .before .before .before .before .before .before .before .before .before .before .before .before .before in
     let a = z .args in
@@ -62,7 +62,7 @@ read-requires : tie.Need-read-requires
 read-requires c κs = search needs
 
 put-offers-requires : tie.Need-put-offers-requires
-put-offers-requires c κs = 
+put-offers-requires c κs =
     let q = c .before .before .before .before .before .before .before .before .before .before .before .before .before .before .before .before .before .front in
     let z = c .before .before .before .before .before .before .before .before .before .before .before .before .before .before .before .before .before .before .before .before .before .before .before .before in
     let a = z .args in
@@ -79,7 +79,7 @@ same-length-6 : tie.Need-same-length-6
 same-length-6 c = search needs
 
 returns-2 : tie.Need-returns-2
-returns-2 c = 
+returns-2 c =
     let q = c .before .before .before .before .before .before .before .before .before .before .before .before .before .before .before .before .before .before .before .before .front in
     let z = c .before .before .before .before .before .before .before .before .before .before .before .before .before .before .before .before .before .before .before .before .before .before .before .before .before .before .before in
     let a = z .args in

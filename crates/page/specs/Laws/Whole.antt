@@ -119,17 +119,17 @@ module _ (b table list : List ℕ) (r : FrontAnswer) (table′ list′ : List �
           sheet = sheet;
           read-sheet = k ∙ ap readAnswer (serves .fits .reads);
           offered =
-          record {
-            valid = v;
-            holds = subst (λ (i : ℕ). Holds sheet i table′) (sym arrivals-are) (table-holds sheet table′ n (table-is ∙ ap (arrivalTable sheet) (sym tz)));
-            counted = costs-are;
-            list-room = omega (arith, costs-are, few, lz, l);
-            listed =
-            λ i h.
-            ap (λ (x : List ℕ). take 4 (drop (i * 4) x)) list-is
-            ∙ row-at 4 (frontRow sheet) (front sheet) row-wide (replicate (length list - length (bind (front sheet) (frontRow sheet))) 0) i (omega (arith, h, costs-are));
-            room = omega (arith, p .next-is, puts-length p, oz, f, served-fits sheet v in-list);
-          };
+              record {
+                valid = v;
+                holds = subst (λ (i : ℕ). Holds sheet i table′) (sym arrivals-are) (table-holds sheet table′ n (table-is ∙ ap (arrivalTable sheet) (sym tz)));
+                counted = costs-are;
+                list-room = omega (arith, costs-are, few, lz, l);
+                listed =
+                    λ i h.
+                    ap (λ (x : List ℕ). take 4 (drop (i * 4) x)) list-is
+                    ∙ row-at 4 (frontRow sheet) (front sheet) row-wide (replicate (length list - length (bind (front sheet) (frontRow sheet))) 0) i (omega (arith, h, costs-are));
+                room = omega (arith, p .next-is, puts-length p, oz, f, served-fits sheet v in-list);
+              };
         }
 
     pub served-whole : {out out₁ out₂ : List ℕ} {m k : ℕ} (q : SheetRead) → q ≡ readCall b → Puts (printed 70 (r .costs ∷ r .arrivals ∷ [])) out 0 out₁ m

@@ -39,7 +39,7 @@ shared-slice-read-put-number : tie.Need-shared-slice-read-put-number Inv-loop μ
 shared-slice-read-put-number c = search needs
 
 put-number-requires : tie.Need-put-number-requires Inv-loop μ-loop
-put-number-requires c κs = 
+put-number-requires c κs =
     let h = c .before .before .before in
     let z = h .before .before .before in
     let ns = z .args .numbers .now in
@@ -53,7 +53,7 @@ loop-less : tie.Need-loop-less Inv-loop μ-loop
 loop-less c = search needs
 
 loop-again : tie.Need-loop-again Inv-loop μ-loop
-loop-again c = 
+loop-again c =
     let h = c .before .before .before .before .before .before in
     let ns = h .before .before .before .args .numbers .now in
     let l : h .loop .i < length ns = search needs in
@@ -65,14 +65,14 @@ all : (c : tie.After-loop Inv-loop μ-loop) → let h = c .before in let a = h .
 all c = puts-all numberPrinted 0 (c .before .before .before .before .args .numbers .now) (c .before .loop .i) (search needs) (c .before .loop .inv .1)
 
 slice-write-out-2 : tie.Need-slice-write-out-2 Inv-loop μ-loop
-slice-write-out-2 c = 
+slice-write-out-2 c =
     let h = c .before in
     let z = h .before .before .before in
     let e = all c in
     omega (arith, e .next-is, puts-length e, length-set (z .args .out .now) (z .args .at) (z .args .letter), z .pre, size z)
 
 add-result : tie.Need-add-result Inv-loop μ-loop
-add-result c = 
+add-result c =
     let h = c .before in
     let z = h .before .before .before in
     let e = all c in

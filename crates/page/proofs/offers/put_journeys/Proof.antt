@@ -52,7 +52,7 @@ slice-aggregate-put-journey : tie.Need-slice-aggregate-put-journey Inv-loop μ-l
 slice-aggregate-put-journey c = sym (c .before .before .before .before .fill-since .ensures .size)
 
 put-journey-requires : tie.Need-put-journey-requires Inv-loop μ-loop
-put-journey-requires c κs = 
+put-journey-requires c κs =
     let h = c .before .before .before .before in
     let z = h .before .before .before .before .before .before .before .before .before in
     let a = z .args in
@@ -68,14 +68,16 @@ loop-less : tie.Need-loop-less Inv-loop μ-loop
 loop-less c = search needs
 
 loop-again : tie.Need-loop-again Inv-loop μ-loop
-loop-again c = 
+loop-again c =
     let h = c .before .before .before .before .before .before .before in
     let z = h .before .before .before .before .before .before .before .before .before in
     let a = z .args in
     let i : h .loop .i < a .costs = search needs in
-    let e : h .loop .i * 4 + 4 - h .loop .i * 4 ≡ 4 = omega arith in
-    (omega arith, next-printed (a .head .now) (a .corridors .now) (a .occupancies .now) (a .table .now) (a .n) (a .list .now) (a .costs) (a .out .now) (a .at) (z .pre .0) (z .pre .2) _ (h .before .fill-since .ensures) (h .loop .i) i
-    _ (ap (λ (m : ℕ). take m (drop (h .loop .i * 4) (a .list .now))) e) (h .loop .inv .1) (c .before .before .put-journey .ensures))
+    let e : h .loop .i * 4 + 4 - h .loop .i * 4 ≡ 4 = omega arith in (
+      omega arith,
+      next-printed (a .head .now) (a .corridors .now) (a .occupancies .now) (a .table .now) (a .n) (a .list .now) (a .costs) (a .out .now) (a .at) (z .pre .0) (z .pre .2) _ (h .before .fill-since .ensures) (h .loop .i) i
+          _ (ap (λ (m : ℕ). take m (drop (h .loop .i * 4) (a .list .now))) e) (h .loop .inv .1) (c .before .before .put-journey .ensures),
+    )
 
 same-length : tie.Need-same-length Inv-loop μ-loop
 same-length c = puts-length (c .before .loop .inv .1)
