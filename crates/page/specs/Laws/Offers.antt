@@ -1,13 +1,12 @@
 -- The lines of a front cost: what its row of the front list says, the walk back from its arrival, and the two lines that are written of both.
 use mathlib.Core.Path.{_≡_, refl, sym, _∙_, ap, ap₂, subst}
-use mathlib.Core.List.{List, [], _∷_, _++_}
+use mathlib.Core.List.{List, [], _∷_}
 use Prim.Native.Nat.{ℕ, suc, _+_, _*_, _-_, _≤_, _<_, _%_}
 use native.Mathlib.Omega.{arith}
 use lib.ListN.{length, getD, take, drop, length-append, List·getD-append}
 use lib.Seq.{sets, sets-eq, length-sets, take-at, getD-append-seam}
 use Rattle.sheet.specs.Lists.{number, numbersFrom, bind}
 use Rattle.sheet.specs.Sheet.{Sheet}
-use Rattle.sheet.specs.Valid.{Valid}
 use Rattle.sheet.specs.Calls.{sheetOfGroups}
 use Rattle.sheet.specs.declared.SheetRead.{SheetRead}
 use Rattle.costs.specs.Costs.{Cost, figures}

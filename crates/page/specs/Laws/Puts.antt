@@ -5,7 +5,7 @@ use Prim.Native.Nat.{ℕ, zero, suc, _+_, _≤_, _<_}
 use native.Mathlib.Omega.{arith}
 use native.Mathlib.Numerals.{add-one}
 use lib.ListN.{length, take, getD, set, length-append}
-use lib.Seq.{sets, length-sets, take-suc, take-all}
+use lib.Seq.{length-sets, take-suc, take-all}
 use Rattle.sheet.specs.Lists.{bind}
 use Rattle.sheet.specs.Laws.Stores.{sets-append}
 use Rattle.page.specs.Inner.{Puts}

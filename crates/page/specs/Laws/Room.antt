@@ -1,13 +1,12 @@
 -- How long a page can be: no page is longer than the room that the program has for it. A number takes at most 11 bytes with its comma, a place at
 -- most 3, since no sheet has more than 64 places; so a front cost takes at most 816 bytes, and 200 of them with the first line fit.
-use mathlib.Core.Path.{_≡_, refl, sym, _∙_, ap}
+use mathlib.Core.Path.{_≡_, refl, _∙_, ap}
 use mathlib.Core.Logic.{⊎-elim}
 use mathlib.Core.Bool.{Bool, true, false}
 use mathlib.Core.List.{List, [], _∷_, _++_}
-use Prim.Native.Nat.{ℕ, zero, suc, _+_, _*_, _-_, _/_, _%_, _≤_, _<_}
+use Prim.Native.Nat.{ℕ, zero, suc, _+_, _*_, _-_, _/_, _≤_, _<_}
 use native.Mathlib.Omega.{arith}
 use native.Mathlib.Nat.{suc-mul}
-use lib.Dec.{ltb}
 use lib.ListN.{length, getD, length-append}
 use borrow.Author.Tests.{ltb-false}
 use Rattle.sheet.specs.Lists.{pick, number, bind}
@@ -16,7 +15,7 @@ use Rattle.sheet.specs.Sheet.{Sheet, Outcome, refused, loaded, readOf, places}
 use Rattle.sheet.specs.Valid.{Valid}
 use Rattle.sheet.specs.Laws.Decimal.{below-or-not, digits-small, digits-more, digits-at-most}
 use Rattle.sheet.specs.Laws.RoundTrip.{read-valid}
-use Rattle.costs.specs.Costs.{Cost, figures}
+use Rattle.costs.specs.Costs.{Cost}
 use Rattle.arrivals.specs.Ways.{Way, Move, waits, crosses}
 use Rattle.arrivals.specs.Computed.{leading}
 use Rattle.journeys.specs.Journeys.{HasCost}
@@ -25,7 +24,7 @@ use Rattle.journeys.specs.Calls.{frontRow, overfull, noRoom}
 use Rattle.journeys.specs.Laws.Journeys.{has-three, journeyOf-selected, journey-short}
 use Rattle.journeys.specs.Laws.Front.{front-on}
 use Rattle.journeys.specs.Laws.Served.{member}
-use Rattle.page.specs.Page.{mostPrinted, numberPrinted, printed, refusalLine, frontLine, journeyLines, offerLines, tableNumbers, listNumbers, pageOn, pageRead, page, pageRoom}
+use Rattle.page.specs.Page.{numberPrinted, printed, refusalLine, frontLine, journeyLines, offerLines, tableNumbers, listNumbers, pageOn, pageRead, page, pageRoom}
 
 -- each member at most m long, all of them at most so many times m
 bind-long : {A : Type 0} (f : A → List ℕ) (m : ℕ) (d : A) (l : List A) → ((i : ℕ) → i < length l → length (f (getD l i d)) ≤ m) → length (bind l f) ≤ length l * m

@@ -2,7 +2,7 @@
 -- the call left are enough for.
 use mathlib.Core.Path.{_≡_, refl, sym, _∙_, ap, ap₂, subst}
 use mathlib.Core.Logic.{_≢_, inl, inr}
-use mathlib.Core.Bool.{Bool, true, false}
+use mathlib.Core.Bool.{false}
 use mathlib.Core.List.{List, [], _∷_, _++_, append-assoc}
 use Prim.Native.Nat.{ℕ, zero, suc, _+_, _*_, _-_, _≤_, _<_, _/_}
 use native.Mathlib.Omega.{arith}
@@ -10,13 +10,13 @@ use native.Mathlib.Nat.{suc-mul}
 use lib.ListN.{length, getD, take, drop, replicate, length-append, length-replicate}
 use lib.Seq.{sets, take-at, drop-append-add}
 use borrow.Author.Tests.{ne-eqb, le-ltb}
-use Rattle.sheet.specs.Lists.{_∈_, pick, bind, filled}
+use Rattle.sheet.specs.Lists.{_∈_, bind, filled}
 use Rattle.sheet.specs.Sheet.{Sheet, loaded, readOf}
 use Rattle.sheet.specs.Calls.{readAnswer, readCall}
 use Rattle.sheet.specs.declared.SheetRead.{SheetRead}
 use Rattle.sheet.specs.Laws.RoundTrip.{read-valid}
 use Rattle.sheet.specs.Laws.Stores.{sets-filled, length-filled}
-use Rattle.costs.specs.Costs.{Cost, figures}
+use Rattle.costs.specs.Costs.{Cost}
 use Rattle.arrivals.specs.Computed.{leading}
 use Rattle.arrivals.specs.Table.{arrivalTable, crowded}
 use Rattle.journeys.specs.Computed.{arrivalOf, front}
@@ -28,7 +28,7 @@ use Rattle.journeys.specs.Laws.Front.{front-on}
 use Rattle.journeys.specs.Laws.Served.{Served, served}
 use Rattle.journeys.specs.Laws.Offered.{table-holds}
 use Rattle.journeys.specs.Laws.Ready.{room-fits, usable-most}
-use Rattle.page.specs.Page.{printed, refusalLine, frontLine, offerLines, tableNumbers, listNumbers, pageOn, pageRead, page, pageRoom, held}
+use Rattle.page.specs.Page.{printed, refusalLine, frontLine, offerLines, tableNumbers, listNumbers, pageOn, page, pageRoom, held}
 use Rattle.page.specs.declared.PageText.{PageText}
 use Rattle.page.specs.Inner.{Puts, Offers, OffersPrinted}
 use Rattle.page.specs.Laws.Page.{pagePrinted, page-by}

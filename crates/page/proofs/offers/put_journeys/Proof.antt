@@ -7,7 +7,6 @@ use lib.ListN.{take, drop}
 use borrow.Author.Needs.{needs}
 use Rattle.sheet.specs.Lists.{bind}
 use Rattle.sheet.specs.Calls.{sheetOfGroups}
-use Rattle.intervals.specs.Inner.{ValidGroup, SinceTable}
 use Rattle.journeys.specs.Computed.{front}
 use Rattle.journeys.specs.Laws.Laid.{valid-group}
 use Rattle.page.specs.Page.{journeyLines}
