@@ -7,15 +7,13 @@ use mathlib.Core.List.{List, [], _∷_, _++_, map}
 use mathlib.Core.Option.{Option, some, none}
 use Prim.Native.Nat.{ℕ, suc, _+_, _-_, _≤_, _<_}
 use native.Mathlib.Omega.{arith}
-use lib.ListN.{length, take, drop, replicate, length-append, length-drop, drop-of-length-le}
-use lib.Seq.{take-all, drop-drop}
+use lib.ListN.{length, take, drop, replicate, length-append}
 use borrow.Author.Tests.{lt-ltb, le-ltb}
-use Rattle.sheet.specs.Bytes.{lineFeed, split}
 use Rattle.sheet.specs.Kinds.{kindS, kindC, kindO}
-use Rattle.sheet.specs.Lines.{Line, line, unended, lineOf, linesOf, textLines}
+use Rattle.sheet.specs.Lines.{Line, line, lineOf, textLines}
 use Rattle.sheet.specs.Sheet.{group, sheetOf, sheetLines, Outcome, refused, loaded, judge, readOf}
 use Rattle.sheet.specs.Calls.{readAnswer, readCall}
-use Rattle.sheet.specs.Inner.{spanOf, lineAt, asParsed, Tallied, FaultIs, Continues, Stored, Storable, Stores, NextIs}
+use Rattle.sheet.specs.Inner.{lineAt, asParsed, Tallied, FaultIs, Continues, Stored, Storable, Stores, NextIs}
 use Rattle.sheet.specs.LineEnds.{afterFeed}
 use Rattle.sheet.specs.Laws.Judge.{Passes}
 use Rattle.sheet.specs.Laws.Passed.{append-passes}
