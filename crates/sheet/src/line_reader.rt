@@ -63,7 +63,7 @@ pub fn after_line<'a>(r: LineReader<'a>, end: usize) -> LineReader<'a>
     LineReader { src: r.src, at }
 }
 
-// The position at which reading begins.
+// The position at which reading begins: that of the reader of src.
 pub fn begin(src: &[u8]) -> usize
     ensures { λ r. ⌜ r ≡ 0 ⌝ }
 {
@@ -71,7 +71,7 @@ pub fn begin(src: &[u8]) -> usize
     r.at
 }
 
-// Where the line from `at` on ends.
+// Where the line from `at` on ends: the next line of the reader at `at`. Time grows with the bytes of the line.
 pub fn line_from(kinds: &[u8; 256], src: &[u8], at: usize) -> LineEnd
     requires { ⌜ now kinds ≡ kindTable ⌝ }
     ensures { λ r. ⌜ r ≡ lineEndAt (now (src .entry)) at ⌝ }
@@ -79,7 +79,7 @@ pub fn line_from(kinds: &[u8; 256], src: &[u8], at: usize) -> LineEnd
     next_line(kinds, LineReader { src, at })
 }
 
-// The position at which reading goes on after the line from `at` to the line feed at `end`.
+// The position at which reading goes on after the line from `at` to the line feed at `end`: that of the reader after it.
 pub fn go_on(src: &[u8], at: usize, end: usize) -> usize
     ensures { λ r. ⌜ r ≡ afterFeed (now (src .entry)) end ⌝ }
 {

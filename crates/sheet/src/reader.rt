@@ -80,7 +80,7 @@ pub struct Next {
     pub values: [u32; 8],
 }
 
-// The line of src from `at` on, judged after the lines that t tallies.
+// The line of src from `at` on, where something is left, judged after the lines that t tallies.
 fn judged_line(kinds: &[u8; 256], src: &[u8], at: usize, t: Tally) -> Next
     requires { ⌜ (now kinds ≡ kindTable) × (at < length (now src)) × (t .kind < 3) ⌝ }
     ensures { λ r. ⌜ NextIs (now (src .entry)) at t r ⌝ }
