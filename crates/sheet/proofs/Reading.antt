@@ -14,7 +14,6 @@ use Rattle.sheet.specs.Lines.{Line, line, lineOf, textLines}
 use Rattle.sheet.specs.Sheet.{group, sheetOf, sheetLines, Outcome, refused, loaded, judge, readOf}
 use Rattle.sheet.specs.Calls.{readAnswer, readCall}
 use Rattle.sheet.specs.Inner.{lineAt, asParsed, Tallied, FaultIs, Continues, Stored, Storable, Stores, NextIs}
-use Rattle.sheet.specs.LineEnds.{afterFeed}
 use Rattle.sheet.specs.Laws.Judge.{Passes}
 use Rattle.sheet.specs.Laws.Passed.{append-passes}
 use Rattle.sheet.specs.Laws.Groups.{group-append, group-other, lines-sheet}
@@ -108,12 +107,8 @@ module _ {src head corridors occupancies ls : List ℕ} {t : Tally} {n at : ℕ}
     pub storable-next : r .refusal ≡ 0 → Storable this-line head corridors occupancies ls
     storable-next z = record { before = R .before; stored = R .stored; no-fault = N .no-fault (R .before) (R .tallied) z }
 
-    -- reading goes on from the byte after the line feed
-    pub next-from : r .refusal ≡ 0 → (next : ℕ) → next ≡ afterFeed src (r .end) → next ≡ r .end + 1
-    next-from z next a = a ∙ rw (lt-ltb (r .end) (length src) (N .within z))
-
     pub read-next : r .refusal ≡ 0 → {head′ corridors′ occupancies′ ls′ : List ℕ} {t′ : Tally} → Stores this-line head corridors occupancies ls head′ corridors′ occupancies′ ls′
-        → Continues t this-line t′ → (next : ℕ) → next ≡ afterFeed src (r .end) → Reading src head′ corridors′ occupancies′ ls′ t′ (n + 1) next
+        → Continues t this-line t′ → (next : ℕ) → next ≡ r .end + 1 → Reading src head′ corridors′ occupancies′ ls′ t′ (n + 1) next
     read-next z S C next a =
         let y = N .no-fault (R .before) (R .tallied) z in
         record {
@@ -121,7 +116,7 @@ module _ {src head corridors occupancies ls : List ℕ} {t : Tally} {n at : ℕ}
           tallied = C .of (R .before) (R .tallied) y;
           stored = S .of (R .before) (R .stored) y;
           passes = append-passes [] (R .before) (this-line ∷ []) (R .passes) (y, tt);
-          judged = ap (λ (i : ℕ). judge (R .before ++ (this-line ∷ [])) (textLines (drop i src))) (next-from z next a) ∙ sym (N .passes (R .before) (R .tallied) z) ∙ R .judged;
+          judged = ap (λ (i : ℕ). judge (R .before ++ (this-line ∷ [])) (textLines (drop i src))) a ∙ sym (N .passes (R .before) (R .tallied) z) ∙ R .judged;
           counted = omega (arith, R .counted, length-append (R .before) (this-line ∷ []));
         }
 

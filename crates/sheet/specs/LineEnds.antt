@@ -4,9 +4,9 @@
 use mathlib.Core.List.{List, [], _∷_}
 use mathlib.Core.Option.{Option, none}
 use Prim.Native.Nat.{ℕ, _+_, _-_}
-use lib.Dec.{ltb, leb, eqb}
+use lib.Dec.{leb, eqb}
 use lib.ListN.{length, take, drop}
-use denote.Ref.{RefT, now}
+use denote.Ref.{RefT}
 use Rattle.sheet.specs.Lists.{pick}
 use Rattle.sheet.specs.Bytes.{lineFeed}
 use Rattle.sheet.specs.Lines.{Line, lineOf, textLines}
@@ -29,13 +29,9 @@ linesBy src at (At e) = lineOf (take (e - at) (drop at src)) ∷ textLines (drop
 linesBy src at Missing = none ∷ []
 linesBy src at Over = []
 
--- the position after the line feed at e, or the length
-abbrev pub afterFeed : List ℕ → ℕ → ℕ
-afterFeed src e = pick (ltb e (length src)) (e + 1) (length src)
-
 -- the reader of a sheet's bytes, and the same bytes after the line feed at e
 abbrev pub opened : RefT (List ℕ) → LineReader
 opened s = record { src = s; at = 0 }
 
 abbrev pub goneOn : LineReader → ℕ → LineReader
-goneOn r e = record { src = r .src; at = afterFeed (now (r .src)) e }
+goneOn r e = record { src = r .src; at = e + 1 }

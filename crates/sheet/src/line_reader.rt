@@ -1,8 +1,10 @@
 // The line reader: a sheet's bytes and a position in them (document 01, "The line reader goes on from the byte after the last line feed").
 // Each function over the struct takes it apart and calls one on the slice and the number. Other files call `begin`, `line_from` and `go_on`.
 ghost use mathlib.Core.Path.{_≡_};
+ghost use Prim.Native.Nat.{_+_, _<_, _^_};
+ghost use lib.ListN.{length};
 ghost use Rattle.sheet.specs.Inner.{kindTable};
-ghost use Rattle.sheet.specs.LineEnds.{lineEndAt, afterFeed, opened, goneOn};
+ghost use Rattle.sheet.specs.LineEnds.{lineEndAt, opened, goneOn};
 use crate::bytes::LINE_FEED;
 use crate::bytes::until;
 
@@ -33,11 +35,12 @@ fn end_at(kinds: &[u8; 256], src: &[u8], at: usize) -> LineEnd
     LineEnd::At(e)
 }
 
-// The position after the line feed at `end`, never past the bytes.
-fn after_feed(src: &[u8], end: usize) -> usize
-    ensures { λ r. ⌜ r ≡ afterFeed (now (src .entry)) end ⌝ }
+// The position after the line feed at `end`.
+fn after_feed(end: usize) -> usize
+    requires { ⌜ end + 1 < 2 ^ 64 ⌝ }
+    ensures { λ r. ⌜ r ≡ end + 1 ⌝ }
 {
-    if end < src.len() { end + 1 } else { src.len() }
+    end + 1
 }
 
 // The reader of a sheet's bytes, at the first of them.
@@ -57,9 +60,10 @@ pub fn next_line<'k, 'a>(kinds: &'k [u8; 256], r: LineReader<'a>) -> LineEnd
 
 // The reader after the line that ends at `end`.
 pub fn after_line<'a>(r: LineReader<'a>, end: usize) -> LineReader<'a>
+    requires { ⌜ end < length (now (r .src)) ⌝ }
     ensures { λ q. ⌜ q ≡ goneOn (r .entry) end ⌝ }
 {
-    let at = after_feed(r.src, end);
+    let at = after_feed(end);
     LineReader { src: r.src, at }
 }
 
@@ -81,7 +85,8 @@ pub fn line_from(kinds: &[u8; 256], src: &[u8], at: usize) -> LineEnd
 
 // The position at which reading goes on after the line from `at` to the line feed at `end`: that of the reader after it.
 pub fn go_on(src: &[u8], at: usize, end: usize) -> usize
-    ensures { λ r. ⌜ r ≡ afterFeed (now (src .entry)) end ⌝ }
+    requires { ⌜ end < length (now src) ⌝ }
+    ensures { λ r. ⌜ r ≡ end + 1 ⌝ }
 {
     let r = after_line(LineReader { src, at }, end);
     r.at

@@ -7,7 +7,7 @@ use native.Mathlib.Omega.{arith}
 use lib.ListN.{length}
 use borrow.Author.Needs.{needs}
 use Rattle.sheet.specs.Sheet.{refused}
-use Rattle.sheet.proofs.Reading.{Reading, answers, read-long, nothing-read, refused-next, storable-next, next-from, read-next, refused-empty, loaded-answer}
+use Rattle.sheet.proofs.Reading.{Reading, answers, read-long, nothing-read, refused-next, storable-next, read-next, refused-empty, loaded-answer}
 use Rattle.sheet.proofs.reader.read.Statement.{statement}
 use Rattle.sheet.proofs.reader.read.Tie as tie
 
@@ -105,15 +105,7 @@ with-line-requires c κs =
     (x .judged-line .ensures .known, omega (arith, i), omega (arith, i))
 
 go-on-requires : tie.Need-go-on-requires Inv-loop μ-loop
-go-on-requires c κs = search needs
-
--- reading goes on after the line feed
-onward : (c : tie.After-go-on Inv-loop μ-loop)
-    → c .go-on .result ≡ c .before .before .before .before .before .before .before .before .before .before .before .before .before .before .judged-line .result .end + 1
-onward c =
-    let d = c .before .before .before .before .before .before .before .before .before .before .before .before in
-    let x = d .before .before in
-    next-from (x .before .before .before .loop .inv .0) (x .judged-line .result) (x .judged-line .ensures) (d .if2 .left) (c .go-on .result) (c .go-on .ensures)
+go-on-requires c κs = ahead (c .before .before .before .before .before .before .before .before .before .before .before) .1
 
 add-n : tie.Need-add-n Inv-loop μ-loop
 add-n c =
@@ -123,7 +115,7 @@ add-n c =
 loop-less : tie.Need-loop-less Inv-loop μ-loop
 loop-less c =
     let e = ahead (c .before .before .before .before .before .before .before .before .before .before .before .before) in
-    omega (arith, e, onward c)
+    omega (arith, e, c .go-on .ensures)
 
 loop-again : tie.Need-loop-again Inv-loop μ-loop
 loop-again c =
@@ -132,9 +124,9 @@ loop-again c =
     let i = x .before .before .before .loop .inv in
     let e = ahead (c .before .before .before .before .before .before .before .before .before .before .before .before) in
     let s = c .before .before .before .before .before .before .store-line in
-    let o = onward c in
+    let o = c .go-on .ensures in
     let w = c .before .with-line .ensures in (
-      read-next (i .0) (r .result) (r .ensures) (c .before .before .before .before .before .before .before .before .before .before .before .before .if2 .left) (s .ensures) (w .0) (c .go-on .result) (c .go-on .ensures),
+      read-next (i .0) (r .result) (r .ensures) (c .before .before .before .before .before .before .before .before .before .before .before .before .if2 .left) (s .ensures) (w .0) (c .go-on .result) o,
       omega (arith, e, o),
       i .2,
       omega (arith, e, o, i .3),
