@@ -1,5 +1,5 @@
 // The line reader: a sheet's bytes and a position in them (document 01, "The line reader goes on from the byte after the last line feed").
-// Each function over the struct takes it apart and calls one on the slice and the number. Other files call `begin`, `line_from` and `go_on`.
+// The functions over the struct are thin, and the work is done on slices and numbers. Other files call `begin`, `line_from` and `go_on`.
 ghost use mathlib.Core.Path.{_≡_};
 ghost use Prim.Native.Nat.{_+_, _<_, _^_};
 ghost use lib.ListN.{length};
