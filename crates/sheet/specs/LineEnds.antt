@@ -23,7 +23,8 @@ feedFrom src at = at + spanOf lineFeed (drop at src)
 abbrev pub lineEndAt : List ℕ → ℕ → LineEnd
 lineEndAt src at = pick (leb (length src) at) Over (pick (eqb (feedFrom src at) (length src)) Missing (At (feedFrom src at)))
 
--- the lines of the text from `at` on, where this is the end of the first of them: refusal 2 refuses the line whose line feed is missing
+-- the lines of the text from `at` on, by where the first of them ends; test 2 refuses the one whose line feed is missing.
+-- At `lineEndAt src at` they are `textLines (drop at src)` (`told`, proofs/LineEnding.antt)
 abbrev pub linesBy : List ℕ → ℕ → LineEnd → List (Option Line)
 linesBy src at (At e) = lineOf (take (e - at) (drop at src)) ∷ textLines (drop (e + 1) src)
 linesBy src at Missing = none ∷ []
