@@ -9,6 +9,7 @@ pub mod Passing
 pub mod Tallies
 pub mod GroupStores
 pub mod JudgeSteps
+pub mod LineEnding
 pub mod Reading
 pub mod Written
 pub mod PutText

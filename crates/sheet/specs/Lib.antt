@@ -9,4 +9,5 @@ pub mod Text
 pub mod Valid
 pub mod Calls
 pub mod Inner
+pub mod LineEnds
 pub mod Laws

@@ -5,6 +5,7 @@ pub mod kinds; // kinds.rt: the kinds of lines, by their numbers
 pub mod lines; // lines.rt: what the bytes of a line stand for
 pub mod judge; // judge.rt: the tests of a line
 pub mod text; // text.rt: what is written of numbers and lines
+pub mod line_reader; // line_reader.rt: a sheet's bytes and a position in them
 pub mod reader; // reader.rt: from bytes to the groups
 pub mod writer; // writer.rt: from the groups to bytes
 

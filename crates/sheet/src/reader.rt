@@ -7,14 +7,16 @@ ghost use Rattle.sheet.specs.Sheet.{refused};
 ghost use Rattle.sheet.specs.Calls.{readAnswer, readCall};
 ghost use Rattle.sheet.specs.Inner.{kindTable, lineAt, Storable, Stores, NextIs};
 use crate::SheetRead;
-use crate::bytes::LINE_FEED;
 use crate::bytes::table;
-use crate::bytes::until;
 use crate::judge::Tally;
 use crate::judge::fault_of;
 use crate::judge::no_lines;
 use crate::judge::with_line;
 use crate::kinds::width_of;
+use crate::line_reader::LineEnd;
+use crate::line_reader::begin;
+use crate::line_reader::go_on;
+use crate::line_reader::line_from;
 use crate::lines::line_in;
 
 // A refusal: its number, its line, and zeros.
@@ -78,20 +80,20 @@ pub struct Next {
     pub values: [u32; 8],
 }
 
-// The line of src from `at` on, judged after the lines that t tallies.
-fn next_line(kinds: &[u8; 256], src: &[u8], at: usize, t: Tally) -> Next
+// The line of src from `at` on, where something is left, judged after the lines that t tallies.
+fn judged_line(kinds: &[u8; 256], src: &[u8], at: usize, t: Tally) -> Next
     requires { ⌜ (now kinds ≡ kindTable) × (at < length (now src)) × (t .kind < 3) ⌝ }
     ensures { λ r. ⌜ NextIs (now (src .entry)) at t r ⌝ }
 {
-    let e = until(kinds, src, at, LINE_FEED);
-    if e == src.len() {
+    let found = line_from(kinds, src, at);
+    let LineEnd::At(e) = found else {
         return Next {
             refusal: 2,
-            end: e,
+            end: src.len(),
             kind: 0,
             values: [0u32; 8],
         };
-    }
+    };
     let l = line_in(kinds, &src[at..e]);
     let kind = l.kind;
     let values = l.values;
@@ -126,9 +128,9 @@ pub fn read(src: &[u8]) -> SheetRead
     let mut used = [0u32; 3];
     let mut t = no_lines();
     let mut n: u32 = 1;
-    let mut at = 0;
+    let mut at = begin(src);
     while at < src.len() {
-        let l = next_line(&kinds, src, at, t);
+        let l = judged_line(&kinds, src, at, t);
         if l.refusal != 0 {
             return refuse(l.refusal, n);
         }
@@ -136,7 +138,7 @@ pub fn read(src: &[u8]) -> SheetRead
         let v = l.values;
         store_line(&mut head, &mut corridors, &mut occupancies, &mut used, k, v);
         t = with_line(t, k, v);
-        at = l.end + 1;
+        at = go_on(src, at, l.end);
         n += 1;
     }
     if n == 1 {

@@ -29,8 +29,8 @@ abbrev μ-loop : tie.MeasureT-loop
 
 -- the line that was read ends within the text, at or after the position before
 ahead : (c : tie.Else2 Inv-loop μ-loop)
-    → let x = c .before .before in (x .before .before .before .loop .at ≤ x .next-line .result .end) × (x .next-line .result .end < length (x .before .before .before .before .before .before .before .before .args .src .now))
-ahead c = let N = c .before .before .next-line .ensures in (N .ahead, N .within (c .if2 .left))
+    → let x = c .before .before in (x .before .before .before .loop .at ≤ x .judged-line .result .end) × (x .judged-line .result .end < length (x .before .before .before .before .before .before .before .before .before .args .src .now))
+ahead c = let N = c .before .before .judged-line .ensures in (N .ahead, N .within (c .if2 .left))
 
 refuse-requires : tie.Need-refuse-requires Inv-loop μ-loop
 refuse-requires c κs = search needs
@@ -46,13 +46,18 @@ table-requires c κs = search needs
 no-lines-requires : tie.Need-no-lines-requires Inv-loop μ-loop
 no-lines-requires c κs = search needs
 
+begin-requires : tie.Need-begin-requires Inv-loop μ-loop
+begin-requires c κs = search needs
+
 loop-holds : tie.Need-loop-holds Inv-loop μ-loop
 loop-holds c =
-    let T = c .no-lines .ensures in (
-      nothing-read (c .before .before .before .before .args .src .now) (c .no-lines .result) (c .before .before .if1 .left) T,
-      omega arith,
-      c .before .before .if1 .left,
-      omega arith,
+    let e = c .before in
+    let T = e .no-lines .ensures in
+    let z = c .begin .ensures in (
+      nothing-read (e .before .before .before .before .args .src .now) (e .no-lines .result) (c .begin .result) (e .before .before .if1 .left) T z,
+      omega (arith, z),
+      e .before .before .if1 .left,
+      omega (arith, z),
       omega (arith, T .counted),
       omega (arith, T .counted, T .of-kind),
       refl,
@@ -61,8 +66,8 @@ loop-holds c =
       refl,
     )
 
-next-line-requires : tie.Need-next-line-requires Inv-loop μ-loop
-next-line-requires c κs = (c .before .before .before .before .table .ensures, c .before .loop-test .taken, c .before .before .loop .inv .0 .tallied .known)
+judged-line-requires : tie.Need-judged-line-requires Inv-loop μ-loop
+judged-line-requires c κs = (c .before .before .before .before .before .table .ensures, c .before .loop-test .taken, c .before .before .loop .inv .0 .tallied .known)
 
 refuse-requires-2 : tie.Need-refuse-requires-2 Inv-loop μ-loop
 refuse-requires-2 c κs = search needs
@@ -71,9 +76,9 @@ returns-2 : tie.Need-returns-2 Inv-loop μ-loop
 returns-2 c =
     let x = c .before .before .before in
     let h = x .before .before .before in
-    let r = x .next-line in
+    let r = x .judged-line in
     c .refuse2 .ensures
-    ∙ answers (h .before .before .before .before .before .args .src .now) (refused (r .result .refusal) (h .loop .n)) (refused-next (h .loop .inv .0) (r .result) (r .ensures) (c .before .if2 .taken))
+    ∙ answers (h .before .before .before .before .before .before .args .src .now) (refused (r .result .refusal) (h .loop .n)) (refused-next (h .loop .inv .0) (r .result) (r .ensures) (c .before .if2 .taken))
 
 slice-aggregate-store-line : tie.Need-slice-aggregate-store-line Inv-loop μ-loop
 slice-aggregate-store-line c = sym (c .before .before .before .before .before .before .before .loop .inv .6)
@@ -90,20 +95,17 @@ slice-aggregate-store-line-4 c = sym (c .before .before .before .before .before 
 store-line-requires : tie.Need-store-line-requires Inv-loop μ-loop
 store-line-requires c κs =
     let x = c .before .before .before .before .before .before .before in
-    let r = x .next-line in
+    let r = x .judged-line in
     (r .ensures .known, storable-next (x .before .before .before .loop .inv .0) (r .result) (r .ensures) (c .before .before .before .before .before .if2 .left))
 
 with-line-requires : tie.Need-with-line-requires Inv-loop μ-loop
 with-line-requires c κs =
     let x = c .before .before .before .before .before .before .before .before .before .before .before .before in
     let i = x .before .before .before .loop .inv in
-    (x .next-line .ensures .known, omega (arith, i), omega (arith, i))
+    (x .judged-line .ensures .known, omega (arith, i), omega (arith, i))
 
-add-at : tie.Need-add-at Inv-loop μ-loop
-add-at c =
-    let e = ahead (c .before .before .before .before .before .before .before .before .before .before .before .before) in
-    let i = c .before .before .before .before .before .before .before .before .before .before .before .before .before .before .before .before .before .loop .inv in
-    omega (arith, e, i)
+go-on-requires : tie.Need-go-on-requires Inv-loop μ-loop
+go-on-requires c κs = ahead (c .before .before .before .before .before .before .before .before .before .before .before) .1
 
 add-n : tie.Need-add-n Inv-loop μ-loop
 add-n c =
@@ -113,21 +115,22 @@ add-n c =
 loop-less : tie.Need-loop-less Inv-loop μ-loop
 loop-less c =
     let e = ahead (c .before .before .before .before .before .before .before .before .before .before .before .before) in
-    omega (arith, e)
+    omega (arith, e, c .go-on .ensures)
 
 loop-again : tie.Need-loop-again Inv-loop μ-loop
 loop-again c =
     let x = c .before .before .before .before .before .before .before .before .before .before .before .before .before .before in
-    let r = x .next-line in
+    let r = x .judged-line in
     let i = x .before .before .before .loop .inv in
     let e = ahead (c .before .before .before .before .before .before .before .before .before .before .before .before) in
     let s = c .before .before .before .before .before .before .store-line in
+    let o = c .go-on .ensures in
     let w = c .before .with-line .ensures in (
-      read-next (i .0) (r .result) (r .ensures) (c .before .before .before .before .before .before .before .before .before .before .before .before .if2 .left) (s .ensures) (w .0),
-      omega (arith, e),
+      read-next (i .0) (r .result) (r .ensures) (c .before .before .before .before .before .before .before .before .before .before .before .before .if2 .left) (s .ensures) (w .0) (c .go-on .result) o,
+      omega (arith, e, o),
       i .2,
-      omega (arith, e, i .3),
-      omega (arith, e, i .4, w .2),
+      omega (arith, e, o, i .3),
+      omega (arith, e, o, i .4, w .2),
       omega (arith, i .5, w .2, w .3),
       s .kept .0 ∙ i .6,
       s .kept .1 .0 ∙ i .7,
@@ -142,7 +145,7 @@ returns-3 : tie.Need-returns-3 Inv-loop μ-loop
 returns-3 c =
     let h = c .before .before .before in
     c .refuse3 .ensures
-    ∙ answers (h .before .before .before .before .before .args .src .now) (refused 3 1) (refused-empty (h .loop .inv .0) (c .before .before .loop-test .left) (c .before .if3 .taken))
+    ∙ answers (h .before .before .before .before .before .before .args .src .now) (refused 3 1) (refused-empty (h .loop .inv .0) (c .before .before .loop-test .left) (c .before .if3 .taken))
 
 returns-4 : tie.Need-returns-4 Inv-loop μ-loop
 returns-4 c = loaded-answer (c .before .before .loop .inv .0) (c .before .loop-test .left) (c .if3 .left)
@@ -157,8 +160,9 @@ read-spec =
     returns
     table-requires
     no-lines-requires
+    begin-requires
     loop-holds
-    next-line-requires
+    judged-line-requires
     refuse-requires-2
     returns-2
     slice-aggregate-store-line
@@ -167,7 +171,7 @@ read-spec =
     slice-aggregate-store-line-4
     store-line-requires
     with-line-requires
-    add-at
+    go-on-requires
     add-n
     loop-less
     loop-again

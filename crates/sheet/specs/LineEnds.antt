@@ -1,0 +1,38 @@
+-- The line reader (document 01, "The sheet": "The line reader goes on from the byte after the last line feed"; refusal 2: "a line feed missing"):
+-- where the line from a position on ends, what such an answer stands for, and where the reader stands.
+-- The contracts of `read` and `write` cite nothing of this file.
+use mathlib.Core.List.{List, [], _∷_}
+use mathlib.Core.Option.{Option, none}
+use Prim.Native.Nat.{ℕ, _+_, _-_}
+use lib.Dec.{leb, eqb}
+use lib.ListN.{length, take, drop}
+use denote.Ref.{RefT}
+use Rattle.sheet.specs.Lists.{pick}
+use Rattle.sheet.specs.Bytes.{lineFeed}
+use Rattle.sheet.specs.Lines.{Line, lineOf, textLines}
+use Rattle.sheet.specs.Inner.{spanOf}
+use Rattle.sheet.specs.declared.line_reader.LineReader.{LineReader}
+use Rattle.sheet.specs.declared.line_reader.LineEnd.{LineEnd}
+use Rattle.sheet.specs.declared.line_reader.LineEnd.the-variants.{At, Missing, Over}
+
+-- the position of the first line feed from `at` on, or the length
+abbrev pub feedFrom : List ℕ → ℕ → ℕ
+feedFrom src at = at + spanOf lineFeed (drop at src)
+
+-- where the line from `at` on ends
+abbrev pub lineEndAt : List ℕ → ℕ → LineEnd
+lineEndAt src at = pick (leb (length src) at) Over (pick (eqb (feedFrom src at) (length src)) Missing (At (feedFrom src at)))
+
+-- the lines of the text from `at` on, by where the first of them ends; test 2 refuses the one whose line feed is missing.
+-- At `lineEndAt src at` they are `textLines (drop at src)` (`told`, proofs/LineEnding.antt)
+abbrev pub linesBy : List ℕ → ℕ → LineEnd → List (Option Line)
+linesBy src at (At e) = lineOf (take (e - at) (drop at src)) ∷ textLines (drop (e + 1) src)
+linesBy src at Missing = none ∷ []
+linesBy src at Over = []
+
+-- the reader of a sheet's bytes, and the same bytes after the line feed at e
+abbrev pub opened : RefT (List ℕ) → LineReader
+opened s = record { src = s; at = 0 }
+
+abbrev pub goneOn : LineReader → ℕ → LineReader
+goneOn r e = record { src = r .src; at = e + 1 }

@@ -1,0 +1,93 @@
+// The line reader: a sheet's bytes and a position in them (document 01, "The line reader goes on from the byte after the last line feed").
+// The functions over the struct are thin, and the work is done on slices and numbers. Other files call `begin`, `line_from` and `go_on`.
+ghost use mathlib.Core.Path.{_≡_};
+ghost use Prim.Native.Nat.{_+_, _<_, _^_};
+ghost use lib.ListN.{length};
+ghost use Rattle.sheet.specs.Inner.{kindTable};
+ghost use Rattle.sheet.specs.LineEnds.{lineEndAt, opened, goneOn};
+use crate::bytes::LINE_FEED;
+use crate::bytes::until;
+
+pub struct LineReader<'a> {
+    pub src: &'a [u8],
+    pub at: usize,
+}
+
+// The next line: it ends at the line feed at a position, its line feed is missing, or nothing is left.
+pub enum LineEnd {
+    At(usize),
+    Missing,
+    Over,
+}
+
+// Where the line from `at` on ends.
+fn end_at(kinds: &[u8; 256], src: &[u8], at: usize) -> LineEnd
+    requires { ⌜ now kinds ≡ kindTable ⌝ }
+    ensures { λ r. ⌜ r ≡ lineEndAt (now (src .entry)) at ⌝ }
+{
+    if src.len() <= at {
+        return LineEnd::Over;
+    }
+    let e = until(kinds, src, at, LINE_FEED);
+    if e == src.len() {
+        return LineEnd::Missing;
+    }
+    LineEnd::At(e)
+}
+
+// The position after the line feed at `end`.
+fn after_feed(end: usize) -> usize
+    requires { ⌜ end + 1 < 2 ^ 64 ⌝ }
+    ensures { λ r. ⌜ r ≡ end + 1 ⌝ }
+{
+    end + 1
+}
+
+// The reader of a sheet's bytes, at the first of them.
+pub fn open<'a>(src: &'a [u8]) -> LineReader<'a>
+    ensures { λ r. ⌜ r ≡ opened (src .entry) ⌝ }
+{
+    LineReader { src, at: 0 }
+}
+
+// Where the reader's next line ends.
+pub fn next_line<'k, 'a>(kinds: &'k [u8; 256], r: LineReader<'a>) -> LineEnd
+    requires { ⌜ now kinds ≡ kindTable ⌝ }
+    ensures { λ e. ⌜ e ≡ lineEndAt (now (r .entry .src)) (r .entry .at) ⌝ }
+{
+    end_at(kinds, r.src, r.at)
+}
+
+// The reader after the line that ends at `end`.
+pub fn after_line<'a>(r: LineReader<'a>, end: usize) -> LineReader<'a>
+    requires { ⌜ end < length (now (r .src)) ⌝ }
+    ensures { λ q. ⌜ q ≡ goneOn (r .entry) end ⌝ }
+{
+    let at = after_feed(end);
+    LineReader { src: r.src, at }
+}
+
+// The position at which reading begins: that of the reader of src.
+pub fn begin(src: &[u8]) -> usize
+    ensures { λ r. ⌜ r ≡ 0 ⌝ }
+{
+    let r = open(src);
+    r.at
+}
+
+// Where the line from `at` on ends: the next line of the reader at `at`. Time grows with the bytes of the line.
+pub fn line_from(kinds: &[u8; 256], src: &[u8], at: usize) -> LineEnd
+    requires { ⌜ now kinds ≡ kindTable ⌝ }
+    ensures { λ r. ⌜ r ≡ lineEndAt (now (src .entry)) at ⌝ }
+{
+    next_line(kinds, LineReader { src, at })
+}
+
+// The position at which reading goes on after the line from `at` to the line feed at `end`: that of the reader after it.
+pub fn go_on(src: &[u8], at: usize, end: usize) -> usize
+    requires { ⌜ end < length (now src) ⌝ }
+    ensures { λ r. ⌜ r ≡ end + 1 ⌝ }
+{
+    let r = after_line(LineReader { src, at }, end);
+    r.at
+}
