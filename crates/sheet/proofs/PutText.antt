@@ -1,13 +1,13 @@
 -- Laws of the text of numbers, of lines and of groups: one number more, one line more, and what a group's text is long.
 -- Assumes nothing.
-use mathlib.Core.Path.{_≡_, refl, sym, _∙_, ap}
-use mathlib.Core.List.{List, [], _∷_, _++_, append-assoc, append-nil}
+use mathlib.Core.Path.{_≡_, refl, _∙_, ap}
+use mathlib.Core.List.{List, [], _∷_, _++_}
 use Prim.Native.Nat.{ℕ, zero, suc, _+_, _*_, _-_, _≤_, _<_}
 use native.Mathlib.Omega.{arith}
 use native.Mathlib.Nat.{suc-mul, zero-mul}
 use native.Mathlib.Numerals.{add-one}
 use lib.ListN.{length, take, drop, getD, set, length-append, length-drop}
-use lib.Seq.{sets, take-suc, take-add, getD-drop, drop-drop}
+use lib.Seq.{sets, take-add, getD-drop, drop-drop}
 use Rattle.sheet.specs.Lists.{bind}
 use Rattle.sheet.specs.Decimal.{digitsOf, most}
 use Rattle.sheet.specs.Kinds.{Kind}
@@ -16,24 +16,18 @@ use Rattle.sheet.specs.Text.{numberText, lineText}
 use Rattle.sheet.specs.Calls.{width}
 use Rattle.sheet.specs.Inner.{kindAt, groupText}
 use Rattle.sheet.specs.Laws.Stores.{sets-append}
+use Rattle.sheet.specs.Laws.Binds.{bind-append, bind-more}
 use Rattle.sheet.proofs.Three.{three}
 
 -- the text of numbers, each with its comma
 abbrev pub numbersText : List ℕ → List ℕ
 numbersText ns = bind ns numberText
 
-pub bind-append : {A B : Type 0} (f : A → List B) (a b : List A) → bind (a ++ b) f ≡ bind a f ++ bind b f
-bind-append f [] b = refl
-bind-append f (x ∷ a) b = ap (λ (l : List _). f x ++ l) (bind-append f a b) ∙ sym (append-assoc (f x) (bind a f) (bind b f))
-
-one-number : (n : ℕ) → numbersText (n ∷ []) ≡ numberText n
-one-number n = append-nil (numberText n)
-
 module _ (g : List ℕ) (from i : ℕ) (h : from + i < length g) where
   pub numbers-more : numbersText (take (i + 1) (drop from g)) ≡ numbersText (take i (drop from g)) ++ numberText (getD g (from + i) 0)
   numbers-more =
       let l : i < length (drop from g) = omega (arith, length-drop from g) in
-      rw (add-one, take-suc (drop from g) i 0 l, bind-append numberText, one-number, getD-drop)
+      bind-more numberText 0 (drop from g) i l ∙ ap (λ (n : ℕ). numbersText (take i (drop from g)) ++ numberText n) (getD-drop from g i 0)
 
   pub numbers-more-length : length (numbersText (take (i + 1) (drop from g))) ≡ length (numbersText (take i (drop from g))) + length (numberText (getD g (from + i) 0))
   numbers-more-length = ap length numbers-more ∙ simp length-append

@@ -31,7 +31,7 @@ use Rattle.sheet.specs.Laws.Valid.{passes-valid}
 use Rattle.sheet.specs.Laws.TextBound.{text-bound}
 use Rattle.sheet.specs.Laws.RoundTrip.{judged-lines, widths-shaped, Whole, whole-judged, groups-widths}
 use Rattle.sheet.specs.Laws.Stores.{sets-append}
-use Rattle.sheet.proofs.PutText.{bind-append}
+use Rattle.sheet.specs.Laws.Binds.{bind-append}
 use Rattle.sheet.proofs.JudgeSteps.{judge-passed, judge-faulty}
 
 -- lines that pass are at most one S line, 256 C lines and 256 O lines

@@ -3,6 +3,7 @@ pub mod Members
 pub mod Ascending
 pub mod Rows
 pub mod Stores
+pub mod Binds
 pub mod Judge
 pub mod Shape
 pub mod Decimal

@@ -1,6 +1,6 @@
 // The kinds of bytes, from a table of 256.
 ghost use mathlib.Core.Path.{_≡_};
-ghost use Prim.Native.Nat.{ℕ, _+_, _≤_};
+ghost use Prim.Native.Nat.{_+_, _≤_};
 ghost use lib.ListN.{length, drop};
 ghost use Rattle.sheet.specs.Bytes.{kindOf};
 ghost use Rattle.sheet.specs.Inner.{kindTable, spanOf};

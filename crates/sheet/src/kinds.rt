@@ -1,7 +1,7 @@
 // The kinds of lines, a number for each in the order of kinds: S 0, C 1, O 2. What is known of a kind is told by tests of its number, since a
 // constant table is made anew wherever it is named.
 ghost use mathlib.Core.Path.{_≡_};
-ghost use Prim.Native.Nat.{ℕ, _<_, _≤_};
+ghost use Prim.Native.Nat.{_<_, _≤_};
 ghost use lib.ListN.{getD};
 ghost use Rattle.sheet.specs.Kinds.{kinds, kindS, kindC, place};
 ghost use Rattle.sheet.specs.Lines.{withLetter};

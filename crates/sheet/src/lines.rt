@@ -1,7 +1,7 @@
 // What the bytes of a field, of fields and of a line stand for.
 ghost use mathlib.Core.Path.{_≡_};
 ghost use mathlib.Core.Option.{none};
-ghost use Prim.Native.Nat.{ℕ, _≤_, _<_};
+ghost use Prim.Native.Nat.{_≤_, _<_};
 ghost use lib.ListN.{length};
 ghost use Rattle.sheet.specs.Bytes.{comma};
 ghost use Rattle.sheet.specs.Decimal.{digitsFrom, numberOf};

@@ -1,10 +1,8 @@
 // What is written of a number, of a line and of a group of lines.
 ghost use mathlib.Core.Path.{_≡_};
-ghost use mathlib.Core.List.{List, map};
-ghost use Prim.Native.Nat.{ℕ, _+_, _*_, _≤_, _<_, _/_};
+ghost use Prim.Native.Nat.{_+_, _*_, _≤_, _<_, _/_};
 ghost use lib.ListN.{length, take, drop};
 ghost use lib.Seq.{sets};
-ghost use Rattle.sheet.specs.Lists.{bind, rows};
 ghost use Rattle.sheet.specs.Decimal.{digitsOf};
 ghost use Rattle.sheet.specs.Lines.{line};
 ghost use Rattle.sheet.specs.Text.{numberText, lineText};

@@ -1,7 +1,7 @@
 // The writer: from the three groups to the bytes of a sheet.
 ghost use mathlib.Core.Path.{_≡_};
 ghost use mathlib.Core.List.{[]};
-ghost use Prim.Native.Nat.{ℕ, _+_, _≤_, _<_};
+ghost use Prim.Native.Nat.{_+_, _≤_, _<_};
 ghost use lib.ListN.{length, take, drop};
 ghost use Rattle.sheet.specs.Lists.{filled};
 ghost use Rattle.sheet.specs.Sheet.{sheetLines};

@@ -11,6 +11,7 @@ use lib.Seq.{ext-getD, take-suc, length-take-le}
 use borrow.Author.Tests.{lt-ltb, le-ltb}
 use Rattle.sheet.specs.Lists.{_∈_, numbersFrom, number, bind, Lex, Ascending}
 use Rattle.sheet.specs.Sheet.{Sheet, steps}
+use Rattle.sheet.specs.Laws.Binds.{bind-append}
 use Rattle.sheet.specs.Laws.Order.{Lex-irrefl, Lex-trans}
 use Rattle.sheet.specs.Laws.Members.{mem-left, mem-right, mem-append}
 use Rattle.sheet.specs.Laws.Ascending.{before-all, ascending-append, ascending-unique}
@@ -98,10 +99,6 @@ crowded-more s k fit room c =
     omega (arith, length-reverse (c .rows), c .more)
 
 -- the numbers of the rows are the front of the table
-bind-append : {A : Type 0} (f : A → List ℕ) (l k : List A) → bind (l ++ k) f ≡ bind l f ++ bind k f
-bind-append f [] k = refl
-bind-append f (x ∷ l) k = ap (λ (r : List ℕ). f x ++ r) (bind-append f l k) ∙ sym (append-assoc (f x) (bind l f) (bind k f))
-
 take-more : (w a : ℕ) (xs : List ℕ) → a + w ≤ length xs → take (a + w) xs ≡ take a xs ++ numbersFrom w a xs
 take-more zero a xs h = let e : a + 0 ≡ a = omega arith in ap (λ (n : ℕ). take n xs) e ∙ sym (append-nil (take a xs))
 take-more (suc w) a xs h =

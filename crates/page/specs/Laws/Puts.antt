@@ -1,13 +1,13 @@
 -- Bytes written one run after another: a run right after a run, one byte, and the runs of the members of a list, one member more at a time.
 use mathlib.Core.Path.{_≡_, refl, sym, _∙_, ap, subst}
-use mathlib.Core.List.{List, [], _∷_, _++_, append-assoc, append-nil}
-use Prim.Native.Nat.{ℕ, zero, suc, _+_, _≤_, _<_}
+use mathlib.Core.List.{List, [], _∷_, _++_}
+use Prim.Native.Nat.{ℕ, _+_, _≤_, _<_}
 use native.Mathlib.Omega.{arith}
-use native.Mathlib.Numerals.{add-one}
 use lib.ListN.{length, take, getD, set, length-append}
-use lib.Seq.{length-sets, take-suc, take-all}
+use lib.Seq.{length-sets, take-all}
 use Rattle.sheet.specs.Lists.{bind}
 use Rattle.sheet.specs.Laws.Stores.{sets-append}
+use Rattle.sheet.specs.Laws.Binds.{bind-more, bind-part}
 use Rattle.page.specs.Inner.{Puts}
 
 pub puts-length : {a out out′ : List ℕ} {at n : ℕ} → Puts a out at out′ n → length out′ ≡ length out
@@ -26,23 +26,11 @@ puts-append {a} {b} {out} {out₁} {out₂} {at} {n} {m} p q =
       out-is = q .out-is ∙ rw (p .out-is, p .next-is) (sym (sets-append a b out at));
     }
 
-bind-append : {A : Type 0} (f : A → List ℕ) (a b : List A) → bind (a ++ b) f ≡ bind a f ++ bind b f
-bind-append f [] b = refl
-bind-append f (x ∷ a) b = ap (λ (l : List ℕ). f x ++ l) (bind-append f a b) ∙ sym (append-assoc (f x) (bind a f) (bind b f))
-
-room : {A : Type 0} (f : A → List ℕ) (i : ℕ) (l : List A) → length (bind (take i l) f) ≤ length (bind l f)
-room f zero l = omega arith
-room f (suc i) [] = omega arith
-room f (suc i) (x ∷ l) = omega (arith, length-append (f x) (bind (take i l) f), length-append (f x) (bind l f), room f i l)
-
 -- the members of l, each written as f says
 module _ {A : Type 0} (f : A → List ℕ) (d : A) (l : List A) (i : ℕ) where
-  more : i < length l → bind (take (i + 1) l) f ≡ bind (take i l) f ++ f (getD l i d)
-  more h = rw (add-one, take-suc l i d h) (bind-append f (take i l) (getD l i d ∷ []) ∙ ap (λ (k : List ℕ). bind (take i l) f ++ k) (append-nil (f (getD l i d))))
-
   pub puts-more : {out out₁ out₂ : List ℕ} {at n m : ℕ} → i < length l → Puts (bind (take i l) f) out at out₁ n → Puts (f (getD l i d)) out₁ n out₂ m
       → Puts (bind (take (i + 1) l) f) out at out₂ m
-  puts-more {out} {out₁} {out₂} {at} {n} {m} h p q = subst (λ (k : List ℕ). Puts k out at out₂ m) (sym (more h)) (puts-append p q)
+  puts-more {out} {out₁} {out₂} {at} {n} {m} h p q = subst (λ (k : List ℕ). Puts k out at out₂ m) (sym (bind-more f d l i h)) (puts-append p q)
 
   pub puts-all : {out out′ : List ℕ} {at n : ℕ} → length l ≤ i → Puts (bind (take i l) f) out at out′ n → Puts (bind l f) out at out′ n
   puts-all {out} {out′} {at} {n} h p = subst (λ (k : List A). Puts (bind k f) out at out′ n) (take-all i l h) p
@@ -50,4 +38,4 @@ module _ {A : Type 0} (f : A → List ℕ) (d : A) (l : List A) (i : ℕ) where
 pub puts-fits : {A : Type 0} (f : A → List ℕ) (d : A) (l : List A) (i : ℕ) {out out′ : List ℕ} {at n : ℕ} → i < length l → Puts (bind (take i l) f) out at out′ n
     → n + length (f (getD l i d)) ≤ at + length (bind l f)
 puts-fits f d l i h p =
-    omega (arith, p .next-is, ap (λ (k : List ℕ). length k) (more f d l i h), length-append (bind (take i l) f) (f (getD l i d)), room f (i + 1) l)
+    omega (arith, p .next-is, ap (λ (k : List ℕ). length k) (bind-more f d l i h), length-append (bind (take i l) f) (f (getD l i d)), bind-part f (i + 1) l)

@@ -32,7 +32,7 @@ use denote.Ref.{now}
 use denote.Signature.{namedLft}
 use denote.Steps.{only, owned, peeks, heard, nothing}
 use denote.Struct.Laws as LL
-use denote.Struct.Rest.{rest, own-put}
+use denote.Struct.Rest.{own-put}
 use denote.Triple.Statement.{Contract, Triple}
 use denote.Triple.Call.{calls-at}
 use denote.Triple.Entry.{Vals, onEntry}
