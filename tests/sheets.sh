@@ -1,5 +1,5 @@
-# Sheets at the ends of a sheet's length and of the program's room, for tests/program and tests/plan: each function prints
-# one, with numbers that follow from document 01 as its comment says.
+# Sheets at the ends of a sheet's length and of the program's room, for tests/program and tests/plan: a function prints
+# each, and its comment says what it offers.
 
 # Sheet A.
 sheet_a() {
@@ -54,10 +54,10 @@ many_costs_page() {
     }'
 }
 
-# A sheet with some goal and 2,000 leading arrivals, or with 2,001: many_arrivals GOAL 0 | 1. Places 2n - 1 and 2n, for n
-# from 1 to 9, are reached at step n by n choices of the figure to which 1, 2, 4 and so on are added: 1,023 arrivals with
-# the start, 2^(n - 1) at each place. Then places where ways end: 19 with 512 arrivals, 20 with 256, 21 with 128, 22
-# with 64, 23 with 16, 24 with 1 and 25 with the last. An arrival after a wait is led by the one without it.
+# A sheet with some goal and 2,000 leading arrivals, or with 2,001: many_arrivals GOAL 0 | 1. Places 2n - 1 and 2n, for
+# n from 1 to 9, are reached at step n by n choices of the figure to which 1, 2, 4 and so on are added: 1,023 arrivals
+# with the start, 2^(n - 1) at each place. Then places where ways end: 19 with 512 arrivals, 20 with 256, 21 with 128,
+# 22 with 64, 23 with 16, 24 with 1 and 25 with the last. An arrival after a wait is led by the one without it.
 many_arrivals() {
     echo "S,26,10,0,$1,1,1,1"
     awk -v more="$2" 'BEGIN {
