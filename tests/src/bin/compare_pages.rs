@@ -42,7 +42,7 @@ struct Tally {
 }
 
 fn main() -> ExitCode {
-    program::run("compare_pages", 2_000, compared)
+    program::run("compare_pages", 1_500, compared)
 }
 
 /// Runs all comparisons; hands back what came up, or the first failure.
