@@ -6,11 +6,13 @@
 //! `REFUSAL LINE BUFFER [HEAD] [CORRIDORS] [OCCUPANCIES] REMARK`, with numbers parted by blanks.
 //!
 //! A case of a front has several lines: `= NAME`, the sheet, at times `L,ARRIVALS,LIST` with the lengths of the lent
-//! arrays, and the answer: `R,refusal,line`, or `F,costs,arrivals`, `A,` with each row of the arrivals table, and for
-//! each cost `J,` with its row of the list and `P,` with the places. With `N,NUMBER,ARRIVALS,PATH` a case is one of a
-//! journey with that number and arrays of those lengths; the answer is `R,refusal,line`, or `J,` and `P,`.
+//! arrays (without it, the program's), and the answer: `R,refusal,line`, or `F,costs,arrivals`, `A,` with each row of
+//! the arrivals table, and for each cost `J,` with its row of the list and `P,` with the places. With
+//! `N,NUMBER,ARRIVALS,PATH` a case is one of a journey with that number and arrays of those lengths; the answer is
+//! `R,refusal,line`, or `J,` and `P,`.
 
 use crate::groups::{Groups, ascending_corridors, ascending_occupancies};
+use crate::page::PROGRAM_LENS;
 
 /// A text for the reader, with the answer expected.
 pub struct SheetCase {
@@ -42,9 +44,6 @@ pub enum Asked {
     Front([usize; 2]),
     Journey(u32, [usize; 2]),
 }
-
-/// The lengths lent where a case names none: room for 2,000 arrivals and 200 costs.
-const USUAL_LENS: [usize; 2] = [10_000, 800];
 
 /// The cases of sheets in a stored file's content.
 pub fn sheet_cases(content: &str) -> Vec<SheetCase> {
@@ -106,7 +105,7 @@ fn asked_of(line: &str) -> Asked {
     match numbers[..] {
         [arrivals, list] => Asked::Front([arrivals as usize, list as usize]),
         [number, arrivals, path] => Asked::Journey(number, [arrivals as usize, path as usize]),
-        _ => Asked::Front(USUAL_LENS),
+        _ => Asked::Front(PROGRAM_LENS),
     }
 }
 

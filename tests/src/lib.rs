@@ -6,7 +6,9 @@ pub mod compare;
 pub mod compare_search;
 pub mod damage;
 pub mod groups;
+pub mod layers;
 pub mod lent;
+pub mod page;
 #[cfg(feature = "stub")]
 #[path = "stub.rs"]
 pub mod planner;

@@ -1,7 +1,8 @@
 //! Random sheets with few lawful ways, so that all of them can be listed.
 
 use crate::answers::SheetRead;
-use crate::groups::Groups;
+use crate::damage::of_text::{TextDamage, damage_text};
+use crate::groups::{Groups, random_groups};
 use crate::random::Random;
 use crate::sheet::read_sheet;
 use std::collections::BTreeSet;
@@ -129,6 +130,18 @@ pub fn small_text(family: &Family, random: &mut Random) -> Vec<u8> {
         let text = groups_of(family, random).text();
         if is_small(&read_sheet(&text)) {
             return text;
+        }
+    }
+}
+
+/// The text of a random sheet, mostly a small one, damaged, and what was done to it; its lawful ways can be listed.
+pub fn damaged_text(random: &mut Random) -> (Vec<u8>, Vec<TextDamage>) {
+    loop {
+        let family = &FAMILIES[random.below(FAMILIES.len())];
+        let mut text = if random.percent(80) { small_text(family, random) } else { random_groups(random).text() };
+        let done = damage_text(&mut text, random);
+        if is_small(&read_sheet(&text)) {
+            return (text, done);
         }
     }
 }

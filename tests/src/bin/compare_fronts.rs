@@ -7,12 +7,11 @@
 
 use planner_tests::cases::{Asked, FrontCase, front_cases};
 use planner_tests::compare_search::{Filled, Tried};
-use planner_tests::damage::of_text::{TEXT_DAMAGES, damage_text};
-use planner_tests::groups::random_groups;
+use planner_tests::damage::of_text::TEXT_DAMAGES;
+use planner_tests::page::line_of;
 use planner_tests::program::{self, Counts, Options};
 use planner_tests::random::Random;
-use planner_tests::sheet::read_sheet;
-use planner_tests::small::{FAMILIES, is_small, small_text};
+use planner_tests::small::{FAMILIES, damaged_text, small_text};
 use planner_tests::step_by_step::Offer;
 use std::process::ExitCode;
 
@@ -85,7 +84,9 @@ fn compare_run(random: &mut Random, tally: &mut Tally) -> Result<(), String> {
     tally.families[family] += 1;
     compare_calls(&tried, random, tally)?;
     for _ in 0..DAMAGED {
-        let tried = Tried::new(damaged_text(random, tally));
+        let (text, done) = damaged_text(random);
+        program::count(&mut tally.damages, &TEXT_DAMAGES, &done);
+        let tried = Tried::new(text);
         compare_front(&tried, random, tally)?;
         compare_journey(&tried, None, random, tally)?;
     }
@@ -157,19 +158,6 @@ fn random_number(count: u32, random: &mut Random) -> u32 {
     }
 }
 
-/// The text of a random sheet, mostly a small one, damaged; its lawful ways can be listed.
-fn damaged_text(random: &mut Random, tally: &mut Tally) -> Vec<u8> {
-    loop {
-        let family = &FAMILIES[random.below(FAMILIES.len())];
-        let mut text = if random.percent(80) { small_text(family, random) } else { random_groups(random).text() };
-        let done = damage_text(&mut text, random);
-        if is_small(&read_sheet(&text)) {
-            program::count(&mut tally.damages, &TEXT_DAMAGES, &done);
-            return text;
-        }
-    }
-}
-
 /// Compares on the stored cases; hands back how many there are.
 fn compare_cases(random: &mut Random) -> Result<usize, String> {
     let cases = front_cases(FRONT_CASES);
@@ -216,10 +204,4 @@ fn journey_page(tried: &Tried, number: u32, lens: [usize; 2], random: &mut Rando
     }
     let [a, b, c] = answer.cost;
     Ok(line_of('J', &[a, b, c, answer.arrival]) + &line_of('P', &path[..=answer.arrival as usize]))
-}
-
-/// A line of an answer: its letter and numbers.
-fn line_of(letter: char, numbers: &[u32]) -> String {
-    let numbers: Vec<String> = numbers.iter().map(u32::to_string).collect();
-    format!("{letter},{}\n", numbers.join(","))
 }
