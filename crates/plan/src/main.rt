@@ -8,5 +8,8 @@ fn main() {
     let page = page_of(&sheet[..n]);
     let count = page.count;
     let bytes = page.bytes;
-    io::write_all(1, &bytes[..count]);
+    let is_written = io::write_all(1, &bytes[..count]);
+    if !is_written {
+        io::write_all(2, b"plan: the page cannot be written\n");
+    }
 }
