@@ -2,8 +2,7 @@
 ghost use mathlib.Core.Bool.{false};
 ghost use mathlib.Core.Path.{_≡_};
 ghost use mathlib.Core.Option.{none};
-ghost use mathlib.Core.Logic.{_⊎_};
-ghost use Prim.Native.Nat.{_+_, _≤_, _<_};
+ghost use Prim.Native.Nat.{_≤_, _<_};
 ghost use lib.ListN.{length};
 ghost use Rattle.sheet.specs.Bytes.{comma};
 ghost use Rattle.sheet.specs.Lines.{numbersOf, lineOf};
@@ -32,26 +31,17 @@ fn bad_field() -> Field
     }
 }
 
-// The end of the bytes that are looked at for a number: six of them, one more than a number has digits.
-fn six_from(len: usize, at: usize) -> usize
-    requires { ⌜ at ≤ len ⌝ }
-    ensures { λ r. ⌜ (at ≤ r) × (r ≤ len) × (r ≤ at + 6) × ((r ≡ len) ⊎ (r ≡ at + 6)) ⌝ }
-{
-    if len - at < 6 {
-        return len;
-    }
-    at + 6
-}
-
-// The field from `at` on, ok where it is digits up to the comma or the end; with six digits it need not be.
+// The field from `at` on, ok where it is digits up to the comma or the end; not with more than six digits.
 fn digits_from(kinds: &[u8; 256], line: &[u8], at: usize) -> Field
     requires { ⌜ (now kinds ≡ kindTable) × (at ≤ length (now line)) ⌝ }
     ensures { λ r. ⌜ DigitsAre (now (line .entry)) at r ⌝ }
 {
-    let last = six_from(line.len(), at);
     let mut value: u32 = 0;
     let mut i = at;
-    while i < last {
+    while i < line.len() {
+        if 5 < i - at {
+            return bad_field();
+        }
         let b = line[i];
         let kind = kind_of(kinds, b);
         if kind != DIGIT {
@@ -65,7 +55,7 @@ fn digits_from(kinds: &[u8; 256], line: &[u8], at: usize) -> Field
         i += 1;
     }
     Field {
-        ok: i == line.len(),
+        ok: true,
         end: i,
         value,
     }

@@ -40,7 +40,7 @@ bad-field-requires-2 c κs = search needs
 returns-3 : tie.Need-returns-3
 returns-3 c =
     let x = c .before .before .before .before in
-    field-none _ _ _ (c .bad-field2 .ensures) (field-long _ _ _ (x .before .before .digits-from .ensures) (read x) (c .before .if3 .taken))
+    field-none _ _ _ (c .bad-field2 .ensures) (field-long _ _ _ (x .before .before .digits-from .ensures) (read x) (omega (arith, c .before .if3 .taken)))
 
 shared-slice-read-if5 : tie.Need-shared-slice-read-if5
 shared-slice-read-if5 c =
@@ -56,13 +56,13 @@ returns-4 c =
     let y = c .before .before .before in
     let x = y .before .before .before .before in
     field-none _ _ _ (c .bad-field3 .ensures)
-    (field-zero _ _ _ (x .before .before .digits-from .ensures) (read x) (y .if4 .taken) (y .before .if3 .left) (c .before .if5 .taken))
+    (field-zero _ _ _ (x .before .before .digits-from .ensures) (read x) (y .if4 .taken) (c .before .if5 .taken))
 
 returns-5 : tie.Need-returns-5
 returns-5 c =
     let y = c .before .before in
     let x = y .before .before .before .before in
-    field-more _ _ _ (x .before .before .digits-from .ensures) (read x) (y .if4 .taken) (y .before .if3 .left) (c .if5 .left)
+    field-more _ _ _ (x .before .before .digits-from .ensures) (read x) (y .if4 .taken) (omega (arith, y .before .if3 .left)) (c .if5 .left)
 
 returns-6 : tie.Need-returns-6
 returns-6 c =
