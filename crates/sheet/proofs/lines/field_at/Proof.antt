@@ -56,13 +56,13 @@ returns-4 c =
     let y = c .before .before .before in
     let x = y .before .before .before .before in
     field-none _ _ _ (c .bad-field3 .ensures)
-    (field-zero _ _ _ (x .before .before .digits-from .ensures) (read x) (y .if4 .taken) (c .before .if5 .taken))
+    (field-zero _ _ _ (x .before .before .digits-from .ensures) (read x) (y .if4 .taken) (omega (arith, c .before .if5 .taken)))
 
 returns-5 : tie.Need-returns-5
 returns-5 c =
     let y = c .before .before in
     let x = y .before .before .before .before in
-    field-more _ _ _ (x .before .before .digits-from .ensures) (read x) (y .if4 .taken) (omega (arith, y .before .if3 .left)) (c .if5 .left)
+    field-more _ _ _ (x .before .before .digits-from .ensures) (read x) (y .if4 .taken) (omega (arith, y .before .if3 .left)) (λ e. c .if5 .left (omega (arith, e)))
 
 returns-6 : tie.Need-returns-6
 returns-6 c =
