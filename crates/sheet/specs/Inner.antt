@@ -1,4 +1,5 @@
 -- What the functions of the reader and the writer promise each other. The contracts of `read` and `write` cite nothing of this file.
+use mathlib.Core.Bool.{true, false}
 use mathlib.Core.Path.{_≡_}
 use mathlib.Core.List.{List, [], _∷_, _++_, map}
 use mathlib.Core.Option.{Option, some, none}
@@ -6,15 +7,15 @@ use Prim.Native.Nat.{ℕ, zero, suc, _+_, _/_, _≤_, _<_}
 use lib.Dec.{ltb, leb, eqb}
 use lib.ListN.{length, take, drop}
 use Rattle.sheet.specs.Lists.{pick, _∈_, filter, filled, rows, bind, flat}
-use Rattle.sheet.specs.Bytes.{kindOf, split}
+use Rattle.sheet.specs.Bytes.{kindOf, comma, split}
+use Rattle.sheet.specs.Decimal.{digitsFrom, numberOf, most}
 use Rattle.sheet.specs.Kinds.{Limit, between, place, Kind, kindS, kindC, kindO}
 use Rattle.sheet.specs.Lines.{Line, line, textLines}
 use Rattle.sheet.specs.Sheet.{isKind, group, placesIn, latest, fault, refused, judge}
 use Rattle.sheet.specs.Text.{lineText}
 use Rattle.sheet.specs.Calls.{width}
 use Rattle.sheet.specs.Laws.Shape.{AllShaped}
-use Rattle.sheet.specs.declared.lines.Number.{Number}
-use Rattle.sheet.specs.declared.lines.Number.the-variants.{Value, Bad}
+use Rattle.sheet.specs.declared.lines.Field.{Field}
 use Rattle.sheet.specs.declared.lines.Numbers.{Numbers}
 use Rattle.sheet.specs.declared.lines.Parsed.{Parsed}
 use Rattle.sheet.specs.declared.judge.Tally.{Tally}
@@ -56,10 +57,9 @@ unfoldable pub partsFrom : ℕ → ℕ → List ℕ → List (List ℕ)
 unfolding split
 partsFrom k at l = pick (leb at (length l)) (split k (drop at l)) []
 
--- what the readers of a number, of numbers and of a line hand back
-abbrev pub asNumber : Number → Option ℕ
-asNumber (Value n) = some n
-asNumber Bad = none
+-- what the readers of a field, of numbers and of a line hand back
+abbrev pub asField : Field → Option ℕ
+asField r = pick (r .ok) (some (r .value)) none
 
 abbrev pub asNumbers : ℕ → Numbers → Option (List ℕ)
 asNumbers w r = pick (r .ok) (some (take w (r .values))) none
@@ -70,6 +70,21 @@ lineAt k v = line (kindAt k) (take (width (kindAt k)) v)
 
 abbrev pub asParsed : Parsed → Option Line
 asParsed r = pick (r .ok) (some (lineAt (r .kind) (r .values))) none
+
+-- the bytes from a position on up to the first comma
+abbrev pub fieldFrom : List ℕ → ℕ → List ℕ
+fieldFrom l at = take (spanOf comma (drop at l)) (drop at l)
+
+-- r is the digits of the field from `at` on; where it is not ok, the field is no number
+pub record DigitsAre (l : List ℕ) (at : ℕ) (r : Field) : Type 0 where
+  pub ends : r .ok ≡ true → r .end ≡ at + spanOf comma (drop at l)
+  pub reads : r .ok ≡ true → digitsFrom 0 (fieldFrom l at) ≡ some (r .value)
+  pub fails : r .ok ≡ false → numberOf most (fieldFrom l at) ≡ none
+
+-- r is the number of the field from `at` on
+pub record FieldIs (l : List ℕ) (at : ℕ) (r : Field) : Type 0 where
+  pub ends : r .ok ≡ true → r .end ≡ at + spanOf comma (drop at l)
+  pub number : asField r ≡ numberOf most (fieldFrom l at)
 
 -- the line before, of a tally
 abbrev pub lineBefore : Tally → Option Line

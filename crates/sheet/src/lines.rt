@@ -1,12 +1,12 @@
 // What the bytes of a field, of fields and of a line stand for.
+ghost use mathlib.Core.Bool.{false};
 ghost use mathlib.Core.Path.{_≡_};
 ghost use mathlib.Core.Option.{none};
 ghost use Prim.Native.Nat.{_≤_, _<_};
 ghost use lib.ListN.{length};
 ghost use Rattle.sheet.specs.Bytes.{comma};
-ghost use Rattle.sheet.specs.Decimal.{digitsFrom, numberOf};
 ghost use Rattle.sheet.specs.Lines.{numbersOf, lineOf};
-ghost use Rattle.sheet.specs.Inner.{kindTable, partsFrom, asNumber, asNumbers, asParsed};
+ghost use Rattle.sheet.specs.Inner.{kindTable, partsFrom, asNumbers, asParsed, DigitsAre, FieldIs};
 use crate::bytes::COMMA;
 use crate::bytes::DIGIT;
 use crate::bytes::kind_of;
@@ -14,48 +14,75 @@ use crate::bytes::until;
 use crate::kinds::width_of;
 use crate::kinds::with_letter;
 
-// What a field reads as: a number, or none.
-pub enum Number {
-    Value(u32),
-    Bad,
+// The field of a line from some position on: ok where it is read, then with its end and its value.
+pub struct Field {
+    pub ok: bool,
+    pub end: usize,
+    pub value: u32,
 }
 
-// The value of the bytes of f, where all are digits.
-fn decimal(kinds: &[u8; 256], f: &[u8]) -> Number
-    requires { ⌜ (now kinds ≡ kindTable) × (length (now f) ≤ 9) ⌝ }
-    ensures { λ r. ⌜ asNumber r ≡ digitsFrom 0 (now (f .entry)) ⌝ }
+fn bad_field() -> Field
+    ensures { λ r. ⌜ r .ok ≡ false ⌝ }
+{
+    Field {
+        ok: false,
+        end: 0,
+        value: 0,
+    }
+}
+
+// The field from `at` on, ok where it is digits up to the comma or the end; not with more than six digits.
+fn digits_from(kinds: &[u8; 256], line: &[u8], at: usize) -> Field
+    requires { ⌜ (now kinds ≡ kindTable) × (at ≤ length (now line)) ⌝ }
+    ensures { λ r. ⌜ DigitsAre (now (line .entry)) at r ⌝ }
 {
     let mut value: u32 = 0;
-    let mut i = 0;
-    while i < f.len() {
-        let b = f[i];
-        if kind_of(kinds, b) != DIGIT {
-            return Number::Bad;
+    let mut i = at;
+    while i < line.len() {
+        if 5 < i - at {
+            return bad_field();
+        }
+        let b = line[i];
+        let kind = kind_of(kinds, b);
+        if kind != DIGIT {
+            return Field {
+                ok: kind == COMMA,
+                end: i,
+                value,
+            };
         }
         value = value * 10 + (b as u32 - 48);
         i += 1;
     }
-    Number::Value(value)
+    Field {
+        ok: true,
+        end: i,
+        value,
+    }
 }
 
-// The number that the bytes of f are, of one to `most` digits.
-pub fn number_in(kinds: &[u8; 256], f: &[u8], most: usize) -> Number
-    requires { ⌜ (now kinds ≡ kindTable) × (most ≤ 9) ⌝ }
-    ensures { λ r. ⌜ asNumber r ≡ numberOf most (now (f .entry)) ⌝ }
+// The field from `at` on, ok where it is a number: one to five digits, no leading zero except 0 itself.
+fn field_at(kinds: &[u8; 256], line: &[u8], at: usize) -> Field
+    requires { ⌜ (now kinds ≡ kindTable) × (at ≤ length (now line)) ⌝ }
+    ensures { λ r. ⌜ FieldIs (now (line .entry)) at r ⌝ }
 {
-    let n = f.len();
-    if n == 0 {
-        return Number::Bad;
+    let f = digits_from(kinds, line, at);
+    if !f.ok {
+        return f;
     }
-    if most < n {
-        return Number::Bad;
+    let n = f.end - at;
+    if n == 0 {
+        return bad_field();
+    }
+    if 5 < n {
+        return bad_field();
     }
     if 1 < n {
-        if f[0] == 48 {
-            return Number::Bad;
+        if line[at] == 48 {
+            return bad_field();
         }
     }
-    decimal(kinds, f)
+    f
 }
 
 // The numbers of a line; ok where each of the fields is there and is a number.
@@ -76,17 +103,12 @@ fn numbers_in(kinds: &[u8; 256], line: &[u8], start: usize, width: usize) -> Num
         if line.len() < at {
             return Numbers { ok: false, values };
         }
-        let e = until(kinds, line, at, COMMA);
-        let n = number_in(kinds, &line[at..e], 5);
-        match n {
-            Number::Value(v) => {
-                values[k] = v;
-            }
-            Number::Bad => {
-                return Numbers { ok: false, values };
-            }
+        let f = field_at(kinds, line, at);
+        if !f.ok {
+            return Numbers { ok: false, values };
         }
-        at = e + 1;
+        values[k] = f.value;
+        at = f.end + 1;
         k += 1;
     }
     if at <= line.len() {
