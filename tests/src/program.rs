@@ -1,7 +1,9 @@
 //! What the comparing programs share: their options, and counts of what came up.
 
-use std::fmt::Debug;
+use std::fmt::{Debug, Display};
 use std::process::ExitCode;
+
+use crate::random::Random;
 
 /// Each thing that is counted must come up at least once in so many runs.
 const OFTEN: u64 = 200;
@@ -47,6 +49,19 @@ pub fn run(name: &str, runs: u64, compared: impl Fn(&Options) -> Result<Vec<Coun
             ExitCode::FAILURE
         }
     }
+}
+
+/// Makes the runs of a comparison, each with its number, by the seed; a difference is told with its run. Hands back the
+/// random numbers that are left.
+pub fn runs<D: Display>(
+    options: &Options,
+    mut compare: impl FnMut(u64, &mut Random) -> Result<(), D>,
+) -> Result<Random, String> {
+    let mut random = Random::new(options.seed);
+    for run in 1..=options.runs {
+        compare(run, &mut random).map_err(|difference| format!("run {run}: {difference}"))?;
+    }
+    Ok(random)
 }
 
 /// The options that the arguments say.

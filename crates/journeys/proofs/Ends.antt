@@ -9,10 +9,9 @@ use native.Mathlib.Omega.{arith}
 use native.Mathlib.Nat.{div-add-mod'}
 use lib.ListN.{length, getD, take, replicate}
 use borrow.Author.Tests.{lt-ltb, le-ltb, lt-leb, le-leb}
-use Rattle.sheet.specs.Lists.{_∈_, number, filled, bind}
+use Rattle.sheet.specs.Lists.{_∈_, filled, bind}
 use Rattle.sheet.specs.Sheet.{Sheet, refused, loaded, readOf, goal, steps}
 use Rattle.sheet.specs.Valid.{Valid}
-use Rattle.sheet.specs.Calls.{sheetOfGroups}
 use Rattle.sheet.specs.Laws.Stores.{length-filled}
 use Rattle.sheet.specs.Laws.RoundTrip.{read-refused, read-valid}
 use Rattle.costs.specs.Costs.{Cost}
@@ -31,7 +30,7 @@ use Rattle.journeys.specs.Laws.Front.{front-on}
 use Rattle.journeys.specs.Laws.Journeys.{journey-length}
 use Rattle.journeys.specs.Laws.Served.{member}
 use Rattle.journeys.specs.Laws.Offered.{holds-front, holds-step, table-holds}
-use Rattle.journeys.specs.Laws.Ready.{rows-length, room-fits, usable-most, part, GroupsOf, groups-of, groups-sheet}
+use Rattle.journeys.specs.Laws.Ready.{rows-length, room-fits, usable-most, GroupsOf, groups-of, sheetOfRead, groups-sheet}
 
 -- a sheet that is ready, and what the functions over the table and the groups ask for
 pub record ReadyIs (b table table′ : List ℕ) (r : Prepared) : Type 0 where
@@ -263,14 +262,10 @@ layable b table table′ r p i o h path z l =
 pub laid-groups : {r : Prepared} {table : List ℕ} {A : ℕ} {f : Cost} {path : List ℕ} (w : LaysOut r table A f path) → GroupsOf (w .sheet) (r .sheet)
 laid-groups {r} w = groups-of (w .sheet) (r .sheet) (w .lays .valid) (w .read-sheet)
 
--- the sheet, off its groups
-abbrev pub sheetOf : Prepared → Sheet
-sheetOf r = sheetOfGroups (r .sheet .head) (part 5 (number (r .sheet .lines) 1) (r .sheet .corridors)) (part 3 (number (r .sheet .lines) 2) (r .sheet .occupancies))
-
-pub layable-groups : {r : Prepared} {table : List ℕ} {A : ℕ} {f : Cost} {path : List ℕ} (w : LaysOut r table A f path) → Layable (sheetOf r) (r .arrivals) table A f path
+pub layable-groups : {r : Prepared} {table : List ℕ} {A : ℕ} {f : Cost} {path : List ℕ} (w : LaysOut r table A f path) → Layable (sheetOfRead (r .sheet)) (r .arrivals) table A f path
 layable-groups {r} {table} {A} {f} {path} w =
     subst (λ (s : Sheet). Layable s (r .arrivals) table A f path) (sym (groups-sheet (w .sheet) (r .sheet) (laid-groups w))) (w .lays)
 
-pub laid-out : (r : Prepared) (f : Cost) (path path′ : List ℕ) → path′ ≡ filled (length path) (journeyOf (sheetOf r) f) → LaidOut r f path path′
+pub laid-out : (r : Prepared) (f : Cost) (path path′ : List ℕ) → path′ ≡ filled (length path) (journeyOf (sheetOfRead (r .sheet)) f) → LaidOut r f path path′
 laid-out r f path path′ e =
     record { of = λ s v q. e ∙ ap (λ (x : Sheet). filled (length path) (journeyOf x f)) (groups-sheet s (r .sheet) (groups-of s (r .sheet) v q)) }

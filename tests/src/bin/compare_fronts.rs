@@ -51,11 +51,8 @@ fn main() -> ExitCode {
 
 /// Runs all comparisons; hands back what came up, or the first failure.
 fn compared(options: &Options) -> Result<Vec<Counts>, String> {
-    let mut random = Random::new(options.seed);
     let mut tally = Tally::default();
-    for run in 1..=options.runs {
-        compare_run(&mut random, &mut tally).map_err(|difference| format!("run {run}: {difference}"))?;
-    }
+    let mut random = program::runs(options, |_, random| compare_run(random, &mut tally))?;
     let cases = compare_cases(&mut random)?;
     println!("{} small sheets, {} damaged texts, {cases} stored cases", options.runs, DAMAGED as u64 * options.runs);
     Ok(counts(&tally))

@@ -47,11 +47,8 @@ fn main() -> ExitCode {
 
 /// Runs all comparisons; hands back what came up, or the first failure.
 fn compared(options: &Options) -> Result<Vec<Counts>, String> {
-    let mut random = Random::new(options.seed);
     let mut tally = Tally::default();
-    for run in 1..=options.runs {
-        compare_run(run, &mut random, &mut tally).map_err(|difference| format!("run {run}: {difference}"))?;
-    }
+    program::runs(options, |run, random| compare_run(run, random, &mut tally))?;
     let cases = compare_cases()?;
     println!("{} random texts, {cases} stored texts", options.runs * (1 + DAMAGED) + options.runs / LAYERED);
     Ok(counts(&tally))

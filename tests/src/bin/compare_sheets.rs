@@ -37,12 +37,11 @@ fn main() -> ExitCode {
 
 /// Runs all comparisons; hands back what came up, or the first failure.
 fn compared(options: &Options) -> Result<Vec<Counts>, String> {
-    let mut random = Random::new(options.seed);
     let mut tally = Tally::default();
-    for run in 1..=options.runs {
-        compare_random_text(&mut random, &mut tally).map_err(|difference| format!("run {run}: {difference}"))?;
-        compare_random_groups(&mut random, &mut tally).map_err(|difference| format!("run {run}: {difference}"))?;
-    }
+    let mut random = program::runs(options, |_, random| {
+        compare_random_text(random, &mut tally)?;
+        compare_random_groups(random, &mut tally)
+    })?;
     let cases = compare_cases(&mut random)?;
     println!("{cases} stored cases");
     Ok(counts(&tally))

@@ -70,6 +70,10 @@ groups-of s r v e =
       three = λ k m. v .occupancies k m .three;
     })
 
+-- the sheet that was read, off its groups up to their last lines
+abbrev pub sheetOfRead : SheetRead → Sheet
+sheetOfRead r = sheetOfGroups (r .head) (part 5 (number (r .lines) 1) (r .corridors)) (part 3 (number (r .lines) 2) (r .occupancies))
+
 module _ (s : Sheet) (r : SheetRead) (g : GroupsOf s r) where
   pub corridor-rows : groupRows kindC (part 5 (number (r .lines) 1) (r .corridors)) ≡ s .corridors
   corridor-rows = ap (groupRows kindC) (g .corridors-of .part-is) ∙ rows-flat 5 (s .corridors) (omega arith) (g .five)
@@ -83,7 +87,7 @@ module _ (s : Sheet) (r : SheetRead) (g : GroupsOf s r) where
   pub occupancies-whole : length (part 3 (number (r .lines) 2) (r .occupancies)) % 3 ≡ 0
   occupancies-whole = ap (λ (l : List ℕ). length l % 3) (g .occupancies-of .part-is) ∙ flat-whole 3 (s .occupancies) (g .three)
 
-  pub groups-sheet : sheetOfGroups (r .head) (part 5 (number (r .lines) 1) (r .corridors)) (part 3 (number (r .lines) 2) (r .occupancies)) ≡ s
+  pub groups-sheet : sheetOfRead r ≡ s
   groups-sheet =
       ap (λ (h : List ℕ). sheetOfGroups h (part 5 (number (r .lines) 1) (r .corridors)) (part 3 (number (r .lines) 2) (r .occupancies))) (g .head-is)
       ∙ ap₂ (λ (c o : List (List ℕ)). record { head = s .head; corridors = c; occupancies = o }) corridor-rows occupancy-rows

@@ -18,7 +18,7 @@ use Rattle.journeys.specs.Inner.{Walks, Walkable, WalkIs, Layable}
 use Rattle.journeys.specs.Laws.Journeys.{has-three, journey-length, journey-short}
 use Rattle.journeys.specs.Laws.Front.{front-on}
 use Rattle.journeys.specs.Laws.Served.{member}
-use Rattle.journeys.specs.Laws.Ready.{part, GroupsOf, groups-of, groups-sheet}
+use Rattle.journeys.specs.Laws.Ready.{GroupsOf, groups-of, sheetOfRead, groups-sheet}
 use Rattle.journeys.specs.Laws.Laid.{walks-of}
 use Rattle.page.specs.Page.{printed, journeyLines, offerLines}
 use Rattle.page.specs.Inner.{Puts, RowOf, Printable, PrintIs, Offered, Offers, OffersPrinted}
@@ -155,9 +155,6 @@ unfolding offerLines
 all-printed {s} o i h p = puts-all (journeyLines s) [] (front s) i (omega (arith, h, o .counted)) p
 
 -- the sheet that was read, off its groups
-abbrev sheetOfRead : SheetRead → Sheet
-sheetOfRead r = sheetOfGroups (r .head) (part 5 (number (r .lines) 1) (r .corridors)) (part 3 (number (r .lines) 2) (r .occupancies))
-
 module _ {r : SheetRead} {table : List ℕ} {n : ℕ} {list : List ℕ} {costs : ℕ} {out : List ℕ} {at : ℕ} (o : Offers r table n list costs out at) where
   pub offers-groups : GroupsOf (o .sheet) r
   offers-groups = groups-of (o .sheet) r (o .offered .valid) (o .read-sheet)
