@@ -17,7 +17,7 @@ static uint32_t arrivals[ARRIVALS * PLANNER_ARRIVAL_WIDTH];
 static uint32_t list[COSTS * PLANNER_COST_WIDTH];
 static uint32_t path[PLANNER_MOST_PATH];
 
-/* The refusals in words, by their numbers. */
+/* The refusals in words, by their numbers, as refusals.txt has them. */
 static const char *const meanings[] = {
     "served",
     "the sheet has more than 10,240 bytes",
@@ -88,7 +88,7 @@ static int print_front(void)
     int status = 0;
     if (front.refusal != PLANNER_SERVED)
         return print_refusal(front.refusal, front.line);
-    printf("front costs: %" PRIu32 ", leading arrivals: %" PRIu32 "\n", front.costs, front.arrivals);
+    printf("front costs: %" PRIu64 ", leading arrivals: %" PRIu64 "\n", front.costs, front.arrivals);
     if (front.costs == 0)
         printf("no lawful journey exists\n");
     for (uint32_t number = 0; number < front.costs && status == 0; number++)

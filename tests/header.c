@@ -5,9 +5,9 @@
 #include <stdio.h>
 
 #define AT(type, field, offset) _Static_assert(offsetof(type, field) == (offset), #type "." #field)
-#define SIZE(type, size) _Static_assert(sizeof(type) == (size) && _Alignof(type) == 4, #type)
+#define SIZE(type, size, align) _Static_assert(sizeof(type) == (size) && _Alignof(type) == (align), #type)
 
-SIZE(PlannerSheetRead, 8240);
+SIZE(PlannerSheetRead, 8240, 4);
 AT(PlannerSheetRead, refusal, 0);
 AT(PlannerSheetRead, line, 4);
 AT(PlannerSheetRead, lines, 8);
@@ -15,18 +15,18 @@ AT(PlannerSheetRead, head, 20);
 AT(PlannerSheetRead, corridors, 48);
 AT(PlannerSheetRead, occupancies, 5168);
 
-SIZE(PlannerSheetWritten, 12);
+SIZE(PlannerSheetWritten, 12, 4);
 AT(PlannerSheetWritten, refusal, 0);
 AT(PlannerSheetWritten, line, 4);
 AT(PlannerSheetWritten, bytes, 8);
 
-SIZE(PlannerFrontAnswer, 16);
+SIZE(PlannerFrontAnswer, 24, 8);
 AT(PlannerFrontAnswer, refusal, 0);
 AT(PlannerFrontAnswer, line, 4);
 AT(PlannerFrontAnswer, costs, 8);
-AT(PlannerFrontAnswer, arrivals, 12);
+AT(PlannerFrontAnswer, arrivals, 16);
 
-SIZE(PlannerJourneyAnswer, 24);
+SIZE(PlannerJourneyAnswer, 24, 4);
 AT(PlannerJourneyAnswer, refusal, 0);
 AT(PlannerJourneyAnswer, line, 4);
 AT(PlannerJourneyAnswer, cost, 8);

@@ -1,5 +1,5 @@
-# Sheets at the ends of a sheet's length and of the program's room, for tests/program and tests/plan: a function prints
-# each, and its comment says what it offers.
+# Sheets at the ends of a sheet's length and of the program's room, and ways to deliver a sheet, for tests/program and
+# tests/plan: a function prints each, and its comment says what it offers.
 
 # Sheet A.
 sheet_a() {
@@ -77,4 +77,20 @@ in_pieces() {
     head -c 10240 "$1" | tail -c +4
     sleep 0.05
     tail -c +10241 "$1"
+}
+
+# A file's bytes, each written by itself.
+byte_by_byte() {
+    at=0
+    while [ "$at" -lt "$(wc -c < "$1")" ]; do
+        dd status=none bs=1 count=1 skip="$at" if="$1"
+        at=$((at + 1))
+    done
+}
+
+# A file's lines, the last after so many seconds: late SECONDS FILE.
+late() {
+    sed '$d' "$2"
+    sleep "$1"
+    tail -n 1 "$2"
 }

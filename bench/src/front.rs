@@ -47,6 +47,14 @@ impl Front {
     }
 }
 
+/// The median time of so many calls of planner_journey by a number, with room for so many arrivals and every step.
+pub fn journey_micros(text: &[u8], number: u32, room: usize, repetitions: u32) -> f64 {
+    let [mut arrivals, mut path] = [vec![0; 5 * room], vec![0; 256]];
+    let refusal = planner::journey(text, number, &mut arrivals, &mut path).refusal;
+    assert_eq!(refusal, 0, "there is no journey with the number {number}");
+    micros(repetitions, || planner::journey(black_box(text), number, &mut arrivals, &mut path).refusal)
+}
+
 /// The median time of so many calls of planner_read.
 pub fn reading_micros(text: &[u8], repetitions: u32) -> f64 {
     micros(repetitions, || planner::read(black_box(text)).refusal)

@@ -4,6 +4,7 @@ use std::hint::black_box;
 use std::ops::RangeInclusive;
 use std::time::{Duration, Instant};
 
+pub mod diamonds;
 pub mod front;
 pub mod peer;
 pub mod rounds;

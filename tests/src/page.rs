@@ -15,7 +15,7 @@ pub fn page_of(offered: &Result<Offer, Refusal>) -> String {
     if answer.refusal > 0 {
         return line_of('R', &[answer.refusal, answer.line]);
     }
-    let journeys = (0..answer.costs).map(|number| lines_of_journey(offered, number, &mut arrivals));
+    let journeys = (0..).take(answer.costs as usize).map(|number| lines_of_journey(offered, number, &mut arrivals));
     line_of('F', &[answer.costs, answer.arrivals]) + &journeys.collect::<String>()
 }
 
@@ -28,7 +28,7 @@ fn lines_of_journey(offered: &Result<Offer, Refusal>, number: u32, arrivals: &mu
 }
 
 /// A line of a page: its letter and numbers.
-pub fn line_of(letter: char, numbers: &[u32]) -> String {
-    let numbers: Vec<String> = numbers.iter().map(u32::to_string).collect();
+pub fn line_of(letter: char, numbers: &[impl ToString]) -> String {
+    let numbers: Vec<String> = numbers.iter().map(ToString::to_string).collect();
     format!("{letter},{}\n", numbers.join(","))
 }

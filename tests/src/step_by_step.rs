@@ -260,7 +260,7 @@ impl Offer {
         }
         fill(arrivals, self.rows());
         fill(list, self.front.iter().flat_map(|way| [way.cost[0], way.cost[1], way.cost[2], way.step()]));
-        FrontAnswer { refusal: 0, line: 0, costs: self.front.len() as u32, arrivals: self.leading.len() as u32 }
+        FrontAnswer { refusal: 0, line: 0, costs: self.front.len() as u64, arrivals: self.leading.len() as u64 }
     }
 
     /// What a call of a journey hands back for a sheet that is read.

@@ -1,6 +1,6 @@
 -- The ways, the arrivals and the leading arrivals of a sheet, enumerated. Need not be believed: Laws.Trails and Laws.Leading say that the lists hold exactly
 -- the ways, `Arrives` and `Leading`, in order (`leading-is`, `is-leading`, `leading-ascending`).
-use mathlib.Core.List.{List, [], _∷_, map, _++_}
+use mathlib.Core.List.{List, _∷_, map, _++_, []}
 use Prim.Native.Nat.{ℕ, zero, suc, _-_}
 use Rattle.sheet.specs.Lists.{keep, filter, bind, all}
 use Rattle.sheet.specs.Sorting.{sortUnique}

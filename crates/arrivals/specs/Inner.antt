@@ -1,19 +1,20 @@
 -- What the functions of the search promise each other.
-use mathlib.Core.List.{List}
-use Prim.Native.Nat.{ℕ}
-use Rattle.arrivals.specs.Table.{SearchEnd}
-use Rattle.arrivals.specs.declared.Searched.{Searched}
 pub mod Facts
 pub mod Rows
-pub mod Search
-pub mod Table
-pub mod Group
+pub mod Network
+pub mod Chains
+pub mod Lent
+pub mod Laying
+pub mod Entering
+pub mod Filling
+pub mod Pruning
+pub mod Selecting
+pub mod Offering
 pub mod Index
+pub mod Due
+pub mod Sweeps
+pub mod Leaders
 pub mod Gather
 pub mod Meaning
 pub mod Ending
 pub mod OfSheet
-
--- the answer of the search with the table that it left
-abbrev pub searchEnd : Searched → List ℕ → SearchEnd
-searchEnd r table = record { served = r .served; arrivals = r .arrivals; table = table }

@@ -3,3 +3,4 @@ pub mod Leading
 pub mod Steps
 pub mod Bounds
 pub mod Alike
+pub mod Rows

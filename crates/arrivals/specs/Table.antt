@@ -1,6 +1,6 @@
 -- The arrivals table and what the search leaves in it (document 01, "What is handed back").
 use mathlib.Core.Bool.{Bool, true, false}
-use mathlib.Core.List.{List, [], _∷_}
+use mathlib.Core.List.{List, _∷_, []}
 use Prim.Native.Nat.{ℕ, _/_}
 use lib.Dec.{ltb}
 use lib.ListN.{length}
@@ -13,29 +13,12 @@ use Rattle.arrivals.specs.Arrivals.{Arrival}
 abbrev pub arrivalRow : Arrival → List ℕ
 arrivalRow a = a .place ∷ a .step ∷ a .cost
 
--- the room of a table of n numbers, in arrivals
-abbrev pub arrivalRoom : ℕ → ℕ
-arrivalRoom n = n / 5
-
--- there are more leading arrivals than room (refusal 8)
+-- there are more leading arrivals than a table of n numbers has room for (refusal 8)
 unfoldable pub crowded : Sheet → ℕ → Bool
 unfolding leading
-crowded s n = ltb (arrivalRoom n) (length (leading s))
+crowded s n = ltb (n / 5) (length (leading s))
 
 -- the arrivals table of n numbers: the leading arrivals, then zeros
 unfoldable pub arrivalTable : Sheet → ℕ → List ℕ
 unfolding leading
 arrivalTable s n = filled n (bind (leading s) arrivalRow)
-
--- the search: whether it is served, the number of leading arrivals handed back, and the table afterwards
-pub record SearchEnd : Type 0 where
-  pub served : Bool
-  pub arrivals : ℕ
-  pub table : List ℕ
-
--- served unless there are more leading arrivals than room; otherwise the whole table is zero
-unfoldable pub searchOn : Sheet → List ℕ → SearchEnd
-unfolding crowded leading arrivalTable
-searchOn s table =
-    let r : SearchEnd = record { served = true; arrivals = length (leading s); table = arrivalTable s (length table) } in
-    pick (crowded s (length table)) (record { served = false; arrivals = 0; table = filled (length table) [] }) r

@@ -1,21 +1,23 @@
 // The leading arrivals of a sheet (document 01, "Safe intervals and leading arrivals").
 ghost use mathlib.Core.Path.{_≡_};
-ghost use Prim.Native.Nat.{_%_};
-ghost use lib.ListN.{length};
-ghost use Rattle.sheet.specs.Calls.{sheetOfGroups};
-ghost use Rattle.sheet.specs.Valid.{Valid};
-ghost use Rattle.arrivals.specs.Table.{searchOn};
-ghost use Rattle.arrivals.specs.Inner.{searchEnd};
+ghost use Rattle.sheet.specs.Store.{sheetIn};
+ghost use Rattle.intervals.specs.FirstSteps.{Derived};
+ghost use Rattle.arrivals.specs.Search.{searchOn, searchEnd};
+ghost use Rattle.arrivals.specs.Inner.OfSheet.{Parts, PartsSearched};
 use crate::fill::fill;
-use costs::wait_at;
-use intervals::fill_since;
-use sheet::Place;
+use crate::lay::lay;
+use sheet::Step;
+use sheet::kinds::CORRIDOR;
+use sheet::kinds::FIRST_CORRIDOR;
+use sheet::kinds::HEAD;
 
-pub mod cells; // cells.rt: the rows of the lent table
-pub mod notes; // notes.rt: where rows and corridors stand
+pub mod rows; // rows.rt: the rows of the lent table
+pub mod network; // network.rt: what is searched, read by name
+pub mod lay; // lay.rt: the network of a sheet
+pub mod index; // index.rt: where the rows of a place and step stand
 pub mod offers; // offers.rt: costs offered to the rows of a place and step
-pub mod entries; // entries.rt: every cost of entering a place at a step
-pub mod choose; // choose.rt: the rows of a place and step, one after another
+pub mod expand; // expand.rt: every cost of entering a place at a step
+pub mod select; // select.rt: the rows of a place and step, one after another
 pub mod fill; // fill.rt: all rows, place by place and step by step
 
 // How a search ends: served with the number of leading arrivals, or with more of them than room.
@@ -24,29 +26,28 @@ pub struct Searched {
     pub arrivals: usize,
 }
 
-// Searches the leading arrivals of the sheet with these groups into the lent table: a row of place, step and three figures for each, ascending by
-// step, place, cost, then zeros; or zeros alone where there are more of them than room.
-pub fn search(head: &[u32], corridors: &[u32], occupancies: &[u32], table: &mut [u32]) -> Searched
-    requires { ⌜ (Valid (sheetOfGroups (now head) (now corridors) (now occupancies))) × (length (now corridors) % 5 ≡ 0) × (length (now occupancies) % 3 ≡ 0) ⌝ }
-    ensures { λ r. ⌜ searchEnd r (now (table .exit)) ≡ searchOn (sheetOfGroups (now (head .entry)) (now (corridors .entry)) (now (occupancies .entry))) (now (table .entry)) ⌝ }
+// Searches the leading arrivals of a sheet with this S line, these corridors and these first steps of its free runs.
+fn search_parts(head: &[u32], corridors: &[u32], since: &[u16], table: &mut [u32]) -> Searched
+    requires { ⌜ Parts (now head) (now corridors) (now since) ⌝ }
+    ensures { λ r. ⌜ PartsSearched (now (head .entry)) (now (corridors .entry)) (now (since .entry)) (now (table .entry)) (now (table .exit)) r ⌝ }
 {
-    let mut runs = [0; 16384];
-    fill_since(occupancies, &mut runs);
-    let wait = wait_at(head, Place(0));
-    let r = fill(
-        table,
-        corridors,
-        corridors.len() / 5,
-        &runs,
-        head[1],
-        wait,
-        head[0],
-        head[2],
-    );
+    let mut net = [0; 2436];
+    lay(head, corridors, &mut net);
+    let r = fill(table, &net, since, Step(head[1]));
     let ok = r.ok;
     let rows = r.rows;
     Searched {
         served: ok,
         arrivals: rows,
     }
+}
+
+// Searches the leading arrivals of the sheet in the array, with the first steps of its free runs beside it, into the lent table: a row of place, step and
+// three figures for each, ascending by step, place, cost, then zeros; or zeros alone where there are more of them than room.
+pub fn search(lines: &[u32], all: &[u32], since: &[u16], table: &mut [u32]) -> Searched
+    requires { ⌜ Derived (now lines) (now all) (now since) ⌝ }
+    ensures { λ r. ⌜ searchEnd r (now (table .exit)) ≡ searchOn (sheetIn (now (lines .entry)) (now (all .entry))) (now (table .entry)) ⌝ }
+{
+    let e = FIRST_CORRIDOR + lines[1] as usize * CORRIDOR;
+    search_parts(&all[..HEAD], &all[FIRST_CORRIDOR..e], since, table)
 }

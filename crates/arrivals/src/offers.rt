@@ -1,22 +1,28 @@
 // Costs are offered to the rows of one place and step, which stand last in the table, in order.
-use crate::cells::move_row;
-use crate::cells::push_row;
-use crate::cells::row_cost;
-use crate::notes::older;
+use crate::index::group;
+use crate::index::newest;
+use crate::index::older;
+use crate::network::Here;
+use crate::rows::move_row;
+use crate::rows::push_row;
+use crate::rows::row_cost;
 use costs::at_most;
 use costs::before;
+use costs::less;
 use costs::multiple;
+use sheet::Step;
 ghost use mathlib.Core.Path.{_≡_};
-ghost use Prim.Native.Nat.{ℕ, _+_, _*_, _-_, _<_, _≤_};
-ghost use lib.ListN.{length, getD};
+ghost use Prim.Native.Nat.{_+_, _*_, _-_, _<_, _≤_};
+ghost use lib.ListN.{length};
 ghost use Rattle.sheet.specs.Lists.{Lex};
-ghost use Rattle.costs.specs.Costs.{fig, add, Within, AtMost};
-ghost use Rattle.arrivals.specs.Inner.Facts.{Decided};
-ghost use Rattle.arrivals.specs.Inner.Rows.{rowAt, rowsOf, Any};
-ghost use Rattle.arrivals.specs.Inner.Search.{Led};
-ghost use Rattle.arrivals.specs.Inner.Group.{tailOf, Beaten, Thin, Thinned, Insert, Swept};
+ghost use Rattle.sheet.specs.Laws.Decided.{Decided, Any};
+ghost use Rattle.costs.specs.Costs.{add, AtMost};
+ghost use Rattle.arrivals.specs.Rows.{rowAt};
+ghost use Rattle.arrivals.specs.Inner.Rows.{rowsOf, tailOf};
+ghost use Rattle.arrivals.specs.Inner.Entering.{LedAt, Ready};
+ghost use Rattle.arrivals.specs.Inner.Offering.{Beaten, Thinned, ThinnedAll, Inserted};
 ghost use Rattle.arrivals.specs.Inner.Index.{Indexed};
-ghost use Rattle.arrivals.specs.Inner.Table.{since};
+ghost use Rattle.arrivals.specs.Inner.Sweeps.{SweptAt, Sweepable};
 
 // How a search ends: with all rows, or with more rows than there is room for.
 pub struct Outcome {
@@ -55,7 +61,7 @@ pub fn thin_row(table: &mut [u32], a: usize, i: usize, k: usize, g: [u32; 3]) ->
 // Drops from the d rows from row a on those that g is nowhere above.
 pub fn thin(table: &mut [u32], a: usize, d: usize, g: [u32; 3]) -> usize
     requires { ⌜ (a + d) * 5 ≤ length (now table) ⌝ }
-    ensures { λ r. ⌜ (r ≤ d) × ((j : ℕ) → j < a * 5 → getD (now (table .exit)) j 0 ≡ getD (now (table .entry)) j 0) × (Thin g (tailOf (now (table .entry)) a d) (tailOf (now (table .exit)) a r)) ⌝ }
+    ensures { λ r. ⌜ ThinnedAll g a d (now (table .entry)) (now (table .exit)) r ⌝ }
 {
     let mut k = 0;
     for i in 0..d {
@@ -76,31 +82,19 @@ pub fn precedes(table: &[u32], a: usize, k: usize, g: [u32; 3]) -> bool
 }
 
 // Puts a row in among the d rows from row a on, in order.
-pub fn insert(table: &mut [u32], a: usize, d: usize, v: u32, t: u32, g: [u32; 3])
+pub fn insert(table: &mut [u32], a: usize, d: usize, here: Here, g: [u32; 3])
     requires { ⌜ (a + d) * 5 + 5 ≤ length (now table) ⌝ }
-    ensures { λ _. ⌜ ((j : ℕ) → j < a * 5 → getD (now (table .exit)) j 0 ≡ getD (now (table .entry)) j 0) × (Insert (record { place = v; step = t; cost = g }) (tailOf (now (table .entry)) a d) (tailOf (now (table .exit)) a (d + 1))) ⌝ }
+    ensures { λ _. ⌜ Inserted (record { place = here .place .0; step = here .step .0; cost = g }) a d (now (table .entry)) (now (table .exit)) ⌝ }
 {
     let mut k = d;
     loop {
         if !precedes(table, a, k, g) {
-            push_row(table, a + k, v, t, g);
+            push_row(table, a + k, here.place, here.step, g);
             return;
         }
         move_row(table, a + k - 1, a + k);
         k -= 1;
     }
-}
-
-// What is left of a over b.
-pub fn minus(a: [u32; 3], b: [u32; 3]) -> [u32; 3]
-    requires { ⌜ AtMost b a ⌝ }
-    ensures { λ r. ⌜ ((i : ℕ) → fig r i + fig b i ≡ fig a i) ⌝ }
-{
-    let mut r = [0; 3];
-    for i in 0..3 {
-        r[i] = a[i] - b[i];
-    }
-    r
 }
 
 // Does a row from lo to hi, after waiting at cost lag, lead g?
@@ -109,65 +103,50 @@ pub fn led_group(table: &[u32], lo: usize, hi: usize, lag: [u32; 3], g: [u32; 3]
     ensures { λ r. ⌜ Decided (Any (λ q. AtMost (add (q .cost) lag) g) (tailOf (now (table .entry)) lo (hi - lo))) r ⌝ }
 {
     if at_most(lag, g) {
-        return beaten(table, lo, hi - lo, minus(g, lag));
+        return beaten(table, lo, hi - lo, less(g, lag));
     }
     false
 }
 
-// Does a row below n lead the cost at place v and step t?
-pub fn led_walk(
-    table: &[u32],
-    n: usize,
-    ix: &[u32],
-    v: usize,
-    t: usize,
-    since: u32,
-    wait: [u32; 3],
-    g: [u32; 3],
-) -> bool
-    requires { ⌜ (n * 5 ≤ length (now table)) × (Within 60000 wait) × (v < 64) × (Indexed (now table) n (now ix) t) ⌝ }
-    ensures { λ r. ⌜ Decided (Led (rowsOf (now (table .entry)) n) v t since wait g) r ⌝ }
+// Does a row below n lead the cost g here?
+pub fn led_walk(table: &[u32], n: usize, ix: &[u32], here: Here, g: [u32; 3]) -> bool
+    requires { ⌜ (Ready (now table) n here) × (Indexed (now table) n (now ix) (here .step .0)) ⌝ }
+    ensures { λ r. ⌜ Decided (LedAt (rowsOf (now (table .entry)) n) here g) r ⌝ }
 {
-    let mut s = ix[32768 + v] as usize;
-    while (since as usize) < s {
+    let last = newest(ix, here.place);
+    let mut s = last.0;
+    while here.since.0 < s {
         s -= 1;
-        let lag = multiple((t - s) as u32, wait);
-        let lo = ix[s * 64 + v] as usize;
-        let hi = (ix[16384 + s * 64 + v] / 512) as usize;
-        if led_group(table, lo, hi, lag, g) {
+        let rows = group(ix, here.place, Step(s));
+        let lo = rows.lo;
+        let hi = rows.hi;
+        let wait = here.wait;
+        let late = here.step.0 - s;
+        if led_group(table, lo, hi, multiple(late, wait), g) {
             return true;
         }
-        s = older(ix, s, v);
+        let next = older(ix, here.place, Step(s));
+        s = next.0;
     }
     false
 }
 
 // Offers the cost g to the d rows from row a on.
-pub fn offer(
-    table: &mut [u32],
-    a: usize,
-    d: usize,
-    ix: &[u32],
-    v: u32,
-    t: u32,
-    since: u32,
-    wait: [u32; 3],
-    g: [u32; 3],
-) -> Outcome
-    requires { ⌜ ((a + d) * 5 ≤ length (now table)) × (Within 60000 wait) × (v < 64) × (Indexed (now table) a (now ix) t) ⌝ }
-    ensures { λ r. ⌜ Swept (λ h. h ≡ g) (Led (rowsOf (now (table .entry)) a) v t since wait) v t a (now (table .entry)) (now (table .exit)) d (r .ok) (r .rows) ⌝ }
+pub fn offer(table: &mut [u32], a: usize, d: usize, ix: &[u32], here: Here, g: [u32; 3]) -> Outcome
+    requires { ⌜ Sweepable (now table) a d (now ix) here ⌝ }
+    ensures { λ r. ⌜ SweptAt (λ h. h ≡ g) here a (now (table .entry)) (now (table .exit)) d (r .ok) (r .rows) ⌝ }
 {
     if beaten(table, a, d, g) {
         return Outcome { ok: true, rows: d };
     }
-    if led_walk(table, a, ix, v as usize, t as usize, since, wait, g) {
+    if led_walk(table, a, ix, here, g) {
         return Outcome { ok: true, rows: d };
     }
     let e = thin(table, a, d, g);
     if table.len() / 5 <= a + e {
         return Outcome { ok: false, rows: 0 };
     }
-    insert(table, a, e, v, t, g);
+    insert(table, a, e, here, g);
     Outcome {
         ok: true,
         rows: e + 1,

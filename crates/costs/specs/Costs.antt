@@ -30,10 +30,6 @@ abbrev pub times : ℕ → Cost → Cost
 times n [] = []
 times n (x ∷ a) = (n * x) ∷ times n a
 
--- no figure is above m
-pub record Within (m : ℕ) (a : Cost) : Type 0 where
-  pub every : (i : ℕ) → fig a i ≤ m
-
 -- a is nowhere greater than b
 pub record AtMost (a b : Cost) : Type 0 where
   pub every : (i : ℕ) → fig a i ≤ fig b i

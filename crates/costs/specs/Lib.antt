@@ -1,5 +1,5 @@
 pub mod Costs
 pub mod Moves
 pub mod Computed
-pub mod Inner
+pub mod Priced
 pub mod Laws

@@ -2,11 +2,11 @@
 ghost use mathlib.Core.Path.{_≡_};
 ghost use Prim.Native.Nat.{_+_, _*_, _%_, _≤_};
 ghost use lib.ListN.{length, take, drop};
-ghost use Rattle.sheet.specs.Lists.{lexb};
-ghost use Rattle.costs.specs.Costs.{add, times, Within};
-ghost use Rattle.costs.specs.Computed.{atMostb, dominatesb};
+ghost use Rattle.sheet.specs.Lists.{lexb, numbersFrom};
+ghost use Rattle.costs.specs.Costs.{figures, add, times, AtMost};
+ghost use Rattle.costs.specs.Priced.{Within, asCrossing, WaitIs, CrossingIs};
+ghost use Rattle.costs.specs.Computed.{atMostb};
 ghost use Rattle.costs.specs.Moves.{costOf};
-ghost use Rattle.costs.specs.Inner.{asCrossing, WaitIs, CrossingIs};
 use sheet::Place;
 use sheet::Step;
 
@@ -37,6 +37,18 @@ pub fn multiple(n: u32, w: [u32; 3]) -> [u32; 3]
     r
 }
 
+// What is left of h after c is taken off.
+pub fn less(h: [u32; 3], c: [u32; 3]) -> [u32; 3]
+    requires { ⌜ AtMost c h ⌝ }
+    ensures { λ r. ⌜ (length r ≡ figures) × (add r c ≡ h) ⌝ }
+{
+    let mut r = [0; 3];
+    for f in 0..3 {
+        r[f] = h[f] - c[f];
+    }
+    r
+}
+
 // Whether no figure of a is greater than b's.
 pub fn at_most(a: [u32; 3], b: [u32; 3]) -> bool
     ensures { λ r. ⌜ r ≡ atMostb a b ⌝ }
@@ -48,13 +60,6 @@ pub fn at_most(a: [u32; 3], b: [u32; 3]) -> bool
         }
     }
     greater == 0
-}
-
-// Whether a dominates b: no figure greater and one smaller.
-pub fn dominates(a: [u32; 3], b: [u32; 3]) -> bool
-    ensures { λ r. ⌜ r ≡ dominatesb a b ⌝ }
-{
-    at_most(a, b) & !at_most(b, a)
 }
 
 // Whether a stands before b: by first figure, then second, then third.
@@ -72,16 +77,24 @@ pub fn before(a: [u32; 3], b: [u32; 3]) -> bool
     false
 }
 
+// The cost whose figures stand among the numbers from `at` on.
+pub fn cost_from(numbers: &[u32], at: usize) -> [u32; 3]
+    requires { ⌜ at + 3 ≤ length (now numbers) ⌝ }
+    ensures { λ r. ⌜ r ≡ numbersFrom figures at (now (numbers .entry)) ⌝ }
+{
+    let mut r = [0; 3];
+    for i in 0..3 {
+        r[i] = numbers[at + i];
+    }
+    r
+}
+
 // The cost of waiting one step at v, of a sheet whose S line has the numbers head.
 pub fn wait_at(head: &[u32], v: Place) -> [u32; 3]
     requires { ⌜ length (now head) ≡ 7 ⌝ }
     ensures { λ r. ⌜ WaitIs (now (head .entry)) v r ⌝ }
 {
-    let mut r = [0; 3];
-    for i in 0..3 {
-        r[i] = head[4 + i];
-    }
-    r
+    cost_from(head, 4)
 }
 
 // The cost of a corridor, if there is one.
@@ -95,11 +108,7 @@ pub fn corridor_cost(corridors: &[u32], k: usize) -> [u32; 3]
     requires { ⌜ (k ≤ 255) × (k * 5 + 5 ≤ length (now corridors)) ⌝ }
     ensures { λ r. ⌜ r ≡ costOf (take 5 (drop (k * 5) (now (corridors .entry)))) ⌝ }
 {
-    let mut r = [0; 3];
-    for i in 0..3 {
-        r[i] = corridors[k * 5 + 2 + i];
-    }
-    r
+    cost_from(corridors, k * 5 + 2)
 }
 
 // The cost of the corridor from u to v for a cart that departs at step t, of a sheet with these corridors.

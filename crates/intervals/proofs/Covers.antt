@@ -11,11 +11,11 @@ use Rattle.sheet.specs.Lists.{_∈_}
 use Rattle.sheet.specs.Kinds.{kindO}
 use Rattle.sheet.specs.Sheet.{Sheet}
 use Rattle.sheet.specs.Calls.{groupRows}
-use Rattle.sheet.specs.Laws.Members.{all-true, true-all}
+use Rattle.sheet.specs.Laws.Members.{all-true}
 use Rattle.costs.specs.Laws.Rows.{row, row-number, mem-rows, rows-mem}
 use Rattle.intervals.specs.Intervals.{occupiesb, freeb, Free}
 use Rattle.intervals.specs.Inner.{coversb}
-use Rattle.intervals.specs.Laws.Free.{occupiesb-true, occupies-occupiesb, not-free, occupied-not-free}
+use Rattle.intervals.specs.Laws.Free.{occupies-occupiesb, not-free}
 
 covers-row : (l : List ℕ) (v t k : ℕ) → occupiesb v t (row 3 l k) ≡ coversb l v t k
 unfolding occupiesb
@@ -24,19 +24,6 @@ covers-row l v t k =
     rw (row-number 3 l k 0 (omega arith), row-number 3 l k 1 (omega arith), row-number 3 l k 2 (omega arith), e)
 
 module _ (l : List ℕ) (s : Sheet) (e : s .occupancies ≡ groupRows kindO l) (v t : ℕ) where
-  pub covered-taken : (k : ℕ) → k < length l / 3 → coversb l v t k ≡ true → freeb s v t ≡ false
-  covered-taken k b h =
-      let o = occupiesb-true v t (row 3 l k) (covers-row l v t k ∙ h) in
-      occupied-not-free s v t
-      (record { line = row 3 l k; listed = subst (λ (g : List (List ℕ)). row 3 l k ∈ g) (sym e) (mem-rows 3 (length l / 3) l k b); there = o .there; begun = o .begun; lasts = o .lasts })
-
-  pub uncovered-free : ((k : ℕ) → k < length l / 3 → coversb l v t k ≡ false) → freeb s v t ≡ true
-  unfolding freeb
-  uncovered-free h =
-      ap (λ (g : List (List ℕ)). freeb (record { head = s .head; corridors = s .corridors; occupancies = g }) v t) e
-      ∙ true-all (λ o. not (occupiesb v t o)) (groupRows kindO l)
-      (λ o m. (let r = rows-mem 3 (length l / 3) l o m in ap (λ (x : List ℕ). not (occupiesb v t x)) (r .2) ∙ ap not (covers-row l v t (r .0) ∙ h (r .0) (r .1))))
-
   pub free-uncovered : Free s v t → (k : ℕ) → k < length l / 3 → coversb l v t k ≡ false
   unfolding freeb
   free-uncovered f k b =

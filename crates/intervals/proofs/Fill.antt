@@ -18,7 +18,8 @@ use Rattle.sheet.specs.Calls.{groupRows}
 use Rattle.sheet.specs.Laws.Order.{and-true, true-and}
 use Rattle.intervals.specs.Intervals.{freeb, Free, Run}
 use Rattle.intervals.specs.Computed.{firstOf, sinceOf}
-use Rattle.intervals.specs.Inner.{entry, MarkableLine, Marked, InRun, FilledRun, SinceTable}
+use Rattle.intervals.specs.Inner.{entry, MarkableLine, Marked, InRun, FilledRun}
+use Rattle.intervals.specs.FirstSteps.{SinceTable}
 use Rattle.intervals.specs.Laws.Runs.{first-step, first-least, since-first, since-occupied}
 use Rattle.intervals.proofs.Covers.{free-uncovered, taken-covered}
 use Rattle.intervals.proofs.Tables.{Steps, steps-none, steps-more, covers-true, true-covers}

@@ -12,7 +12,8 @@ use borrow.Author.Tests.{eqb-true, eqb-false, eq-eqb, leb-true, le-leb}
 use Rattle.sheet.specs.Lists.{number}
 use Rattle.sheet.specs.Laws.Order.{and-true, true-and}
 use Rattle.costs.specs.Laws.Rows.{row, row-number, mem-rows}
-use Rattle.intervals.specs.Inner.{coversb, entry, ValidGroup, Blank, MarkableLine, MarkedLine, Marked}
+use Rattle.intervals.specs.Inner.{coversb, entry, Blank, MarkableLine, MarkedLine, Marked}
+use Rattle.intervals.specs.FirstSteps.{ValidGroup}
 
 -- the entries of the steps f up to t are x, and the others as before
 pub record Steps (x row f t : ℕ) (before after : List ℕ) : Type 0 where

@@ -2,13 +2,10 @@
 -- (`runb-true`, `intervals-are`, `are-intervals`, `since-is`, `is-since`).
 use mathlib.Core.Bool.{Bool, _&&_}
 use mathlib.Core.List.{List, [], _∷_, _++_, map}
-use mathlib.Core.Option.{Option, some, none}
-use Prim.Native.Nat.{ℕ, zero, suc, _+_, _-_}
-use lib.Dec.{leb, eqb}
+use Prim.Native.Nat.{ℕ, zero, suc, _-_}
+use lib.Dec.{eqb}
 use Rattle.sheet.specs.Lists.{pick, filter}
 use Rattle.sheet.specs.Sheet.{Sheet, steps}
-use Rattle.sheet.specs.declared.Place.{Place}
-use Rattle.sheet.specs.declared.Step.{Step}
 use Rattle.intervals.specs.Intervals.{freeb}
 
 -- v is free at t and at the n steps after it, computed
@@ -51,16 +48,3 @@ intervalsOf s v = map (λ t. record { first-step = t; last-step = lastOf s v t (
 unfoldable pub sinceOf : Sheet → ℕ → ℕ → ℕ
 unfolding freeb firstOf
 sinceOf s v t = pick (freeb s v t) (firstOf s v t) 256
-
--- what the promises of the code cite: free; the first step of the safe interval of v that holds t, or none; the safe intervals of v
-unfoldable pub freeAt : Sheet → Place → Step → Bool
-unfolding freeb
-freeAt s v t = freeb s (v .0) (t .0)
-
-unfoldable pub sinceAt : Sheet → Place → Step → Option ℕ
-unfolding freeb firstOf
-sinceAt s v t = pick (leb (t .0) (steps s) && freeb s (v .0) (t .0)) (some (firstOf s (v .0) (t .0))) none
-
-unfoldable pub intervalsAt : Sheet → Place → List Span
-unfolding intervalsOf
-intervalsAt s v = intervalsOf s (v .0)

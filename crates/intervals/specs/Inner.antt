@@ -2,32 +2,10 @@
 use mathlib.Core.Path.{_≡_}
 use mathlib.Core.Bool.{Bool, true, false, _&&_}
 use mathlib.Core.List.{List}
-use Prim.Native.Nat.{ℕ, _+_, _*_, _≤_, _<_, _%_}
+use Prim.Native.Nat.{ℕ, _+_, _*_, _≤_, _<_}
 use lib.Dec.{leb, eqb}
 use lib.ListN.{length}
-use Rattle.sheet.specs.Lists.{_∈_, number}
-use Rattle.sheet.specs.Kinds.{kindO}
-use Rattle.sheet.specs.Sheet.{Sheet, placeOf, last}
-use Rattle.sheet.specs.Calls.{groupRows}
-use Rattle.sheet.specs.declared.Place.{Place}
-use Rattle.sheet.specs.declared.Step.{Step}
-use Rattle.intervals.specs.Computed.{freeAt, sinceOf}
-
--- b tells whether v is free at t on every sheet with these occupancies
-pub record FreeIs (occupancies : List ℕ) (v : Place) (t : Step) (b : Bool) : Type 0 where
-  pub of : (s : Sheet) → s .occupancies ≡ groupRows kindO occupancies → b ≡ freeAt s v t
-
--- whole lines, at most 256, of places below 64 and steps up to 255
-pub record ValidGroup (occupancies : List ℕ) : Type 0 where
-  pub most : length occupancies ≤ 768
-  pub whole : length occupancies % 3 ≡ 0
-  pub place : (o : List ℕ) → o ∈ groupRows kindO occupancies → placeOf o < 64
-  pub step : (o : List ℕ) → o ∈ groupRows kindO occupancies → last o ≤ 255
-
--- the table holds the first steps of the free runs, on every sheet with these occupancies
-pub record SinceTable (occupancies since : List ℕ) : Type 0 where
-  pub size : length since ≡ 16384
-  pub of : (s : Sheet) → s .occupancies ≡ groupRows kindO occupancies → (v t : ℕ) → v < 64 → t < 256 → number since (v * 256 + t) ≡ sinceOf s v t
+use Rattle.sheet.specs.Lists.{number}
 
 -- line k occupies place v at step t
 abbrev pub coversb : List ℕ → ℕ → ℕ → ℕ → Bool

@@ -9,14 +9,6 @@ use lib.Dec.{leb, eqb}
 use Rattle.sheet.specs.Lists.{_∈_, all}
 use Rattle.sheet.specs.Sheet.{Sheet, steps, placeOf, first, last}
 
--- an O line of the sheet occupies place v at step t
-pub record Occupied (s : Sheet) (v t : ℕ) : Type 0 where
-  pub line : List ℕ
-  pub listed : line ∈ s .occupancies
-  pub there : placeOf line ≡ v
-  pub begun : first line ≤ t
-  pub lasts : t ≤ last line
-
 -- the line o occupies place v at step t, computed
 unfoldable pub occupiesb : ℕ → ℕ → List ℕ → Bool
 occupiesb v t o = eqb (placeOf o) v && leb (first o) t && leb t (last o)

@@ -1,4 +1,5 @@
 pub mod Intervals
 pub mod Computed
+pub mod FirstSteps
 pub mod Inner
 pub mod Laws

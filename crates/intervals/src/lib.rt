@@ -1,32 +1,15 @@
 // Occupied and free places, and the safe intervals of a sheet as a table that is looked up in constant time (document 01, "Safe intervals and
 // leading arrivals").
 ghost use mathlib.Core.Path.{_≡_};
-ghost use Prim.Native.Nat.{ℕ, _+_, _*_, _≤_, _<_, _/_, _%_};
+ghost use Prim.Native.Nat.{_+_, _*_, _≤_, _<_, _/_};
 ghost use lib.ListN.{length};
-ghost use Rattle.intervals.specs.Inner.{FreeIs, Blank, MarkableLine, MarkedLine, Marked, FilledRun, SinceTable, ValidGroup};
+ghost use Rattle.intervals.specs.Inner.{Blank, MarkableLine, MarkedLine, Marked, FilledRun};
+ghost use Rattle.sheet.specs.Store.{SomeStore};
+ghost use Rattle.intervals.specs.FirstSteps.{Derived, SinceTable, ValidGroup};
 use sheet::Place;
 use sheet::Step;
-
-// Whether v is unoccupied at t, on a sheet with these occupancies.
-pub fn is_free(occupancies: &[u32], v: Place, t: Step) -> bool
-    requires { ⌜ (length (now occupancies) ≤ 768) × (length (now occupancies) % 3 ≡ 0) ⌝ }
-    ensures { λ r. ⌜ FreeIs (now (occupancies .entry)) v t r ⌝ }
-{
-    let n = occupancies.len() / 3;
-    let place = v.0;
-    let step = t.0;
-    let mut k = 0;
-    while k < n {
-        if (occupancies[k * 3] == place)
-            & (occupancies[k * 3 + 1] <= step)
-            & (step <= occupancies[k * 3 + 2])
-        {
-            return false;
-        }
-        k += 1;
-    }
-    true
-}
+use sheet::kinds::FIRST_OCCUPANCY;
+use sheet::kinds::OCCUPANCY;
 
 // Sets every entry to 0.
 fn clear(since: &mut [u16])
@@ -111,4 +94,13 @@ pub fn fill_since(occupancies: &[u32], since: &mut [u16; 16384])
     clear(since);
     mark_all(occupancies, since);
     turn(occupancies, since);
+}
+
+// The first steps of the free runs of the sheet in the array: what is derived of a sheet once, for its front and its journeys.
+pub fn derive(lines: &[u32], all: &[u32], since: &mut [u16; 16384])
+    requires { ⌜ SomeStore (now lines) (now all) ⌝ }
+    ensures { λ _. ⌜ Derived (now (lines .entry)) (now (all .entry)) (now (since .exit)) ⌝ }
+{
+    let e = FIRST_OCCUPANCY + lines[2] as usize * OCCUPANCY;
+    fill_since(&all[FIRST_OCCUPANCY..e], since);
 }

@@ -3,4 +3,12 @@ pub mod Stepping
 pub mod Backwards
 pub mod Ends
 pub mod Sameness
-pub mod Gathering
+pub mod Chains
+pub mod Ordering
+pub mod Swept
+pub mod Climbing
+pub mod Sweeping
+pub mod Passing
+pub mod FrontRows
+pub mod Comparing
+pub mod Listing

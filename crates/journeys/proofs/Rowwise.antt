@@ -22,12 +22,12 @@ use Rattle.intervals.specs.Laws.Runs.{since-run}
 use Rattle.arrivals.specs.Arrivals.{Arrival, Leading, waited}
 use Rattle.arrivals.specs.Computed.{leading}
 use Rattle.arrivals.specs.Laws.Leading.{leading-is, is-leading}
-use Rattle.arrivals.specs.Inner.Facts.{Decided, holds, fails, from-length, from-at}
-use Rattle.arrivals.specs.Inner.Rows.{costAt, rowAt}
-use Rattle.journeys.specs.Inner.{rowOf, Holds}
+use Rattle.sheet.specs.Laws.Decided.{Decided, holds, fails, from-length, from-at}
+use Rattle.arrivals.specs.Rows.{costAt, rowAt}
+use Rattle.journeys.specs.Held.{rowOf, Holds}
 use Rattle.journeys.specs.Inner.Walk.{Waits, Becomes, BecomesIn}
 use Rattle.journeys.specs.Laws.Exact.{Exact}
-use Rattle.journeys.specs.Laws.Offered.{rowAt-is}
+use Rattle.journeys.specs.Laws.Rows.{rowAt-is}
 
 -- the figures of a row
 fig-waits : (xs : List ℕ) (k n : ℕ) (w : Cost) (i : ℕ) → i < 3 → fig (add (costAt xs k) (times n w)) i ≡ number xs (k * 5 + 2 + i) + n * fig w i

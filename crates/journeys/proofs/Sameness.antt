@@ -8,7 +8,7 @@ use Prim.Native.Nat.{ℕ, _*_, _-_, _≤_}
 use native.Mathlib.Omega.{arith}
 use lib.ListN.{length, replicate, length-append}
 use Rattle.sheet.specs.Lists.{bind}
-use Rattle.arrivals.specs.Inner.Facts.{Decided, holds, fails}
+use Rattle.sheet.specs.Laws.Decided.{Decided, holds, fails}
 use Rattle.journeys.specs.Computed.{front}
 use Rattle.journeys.specs.Calls.{frontRow, FrontEnd, frontEnd, frontServed, frontCall}
 use Rattle.journeys.specs.Demand3.{SameLists, CanMeet, BothSame, ComparedIs}

@@ -18,10 +18,10 @@ use Rattle.sheet.specs.Valid.{Valid}
 use Rattle.sheet.specs.Laws.Rows.{rows-count}
 use Rattle.sheet.specs.declared.Place.{Place}
 use Rattle.sheet.specs.declared.Step.{Step}
-use Rattle.costs.specs.Costs.{Cost, figures, fig, add, Within, AtMost}
+use Rattle.costs.specs.Costs.{Cost, figures, fig, add, AtMost}
+use Rattle.costs.specs.Priced.{Within, asCrossing, WaitIs}
 use Rattle.costs.specs.Computed.{atMostb, waitAt, crossingAt}
 use Rattle.costs.specs.Moves.{waitOf}
-use Rattle.costs.specs.Inner.{asCrossing, WaitIs}
 use Rattle.costs.specs.declared.Crossing as crossing
 use Rattle.costs.specs.Laws.Figures.{fig-add, cancel-right, at-most-atMostb}
 use Rattle.costs.specs.Laws.Moves.{wait-bounded, crossing-at, at-crossing}
@@ -31,7 +31,7 @@ use Rattle.arrivals.specs.Arrivals.{arrival}
 use Rattle.arrivals.specs.Laws.Leading.{arrives-free, arrives-three}
 use Rattle.arrivals.specs.Laws.Steps.{arrives-back}
 use Rattle.arrivals.specs.Laws.Bounds.{move-once}
-use Rattle.arrivals.specs.Inner.Facts.{Decided, holds, fails}
+use Rattle.sheet.specs.Laws.Decided.{Decided, holds, fails}
 use Rattle.journeys.specs.Inner.{Walks}
 use Rattle.journeys.specs.Inner.Walk.{BecomesIn, MoveFound, MoveIs, Readable, OnWay, Steps, asBack, StepFound, StepIs, LowestStep, BeforeIs}
 use Rattle.journeys.specs.declared.walk.Back as back

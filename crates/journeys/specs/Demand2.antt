@@ -2,13 +2,14 @@
 -- not refused. The theorem is `demand-2` of Laws.Demand2.
 use mathlib.Core.Path.{_≡_}
 use mathlib.Core.Logic.{_↔_}
-use mathlib.Core.List.{List, [], _∷_}
-use Prim.Native.Nat.{ℕ, suc, _+_, _*_, _/_, _≤_, _<_}
+use mathlib.Core.List.{List}
+use Prim.Native.Nat.{ℕ, suc, _+_, _*_, _≤_, _<_}
 use lib.ListN.{length, take}
-use Rattle.sheet.specs.Lists.{number, numbersFrom, filled, Lex}
+use Rattle.sheet.specs.Lists.{number, numbersFrom, Lex}
 use Rattle.sheet.specs.Sheet.{Sheet, loaded, readOf}
-use Rattle.sheet.specs.Calls.{readCall, writeCall}
+use Rattle.sheet.specs.Calls.{readCall, Groups, groupsRead, writeGroups}
 use Rattle.costs.specs.Costs.{Cost, figures}
+use Rattle.arrivals.specs.Arrivals.{Arrival, arrival, keyOf, Leading}
 use Rattle.journeys.specs.Journeys.{Journey, Selected}
 use Rattle.journeys.specs.Front.{OnFront}
 use Rattle.journeys.specs.Calls.{FrontEnd, frontCall, JourneyEnd, journeyCall}
@@ -26,12 +27,32 @@ pub record Listed (e : FrontEnd) (g : Cost) : Type 0 where
   pub inside : at < e .answer .costs
   pub same : costAt e at ≡ g
 
--- the list is the cost-unique front of s: its costs are those of the front, each once, ascending; and it is empty exactly when no lawful journey exists
+-- some lawful journey with the cost g arrives at step t, and none before
+pub record Earliest (s : Sheet) (g : Cost) (t : ℕ) : Type 0 where
+  pub path : List ℕ
+  pub journey : Journey s path g
+  pub arrives : length path ≡ suc t
+  pub none-before : (q : List ℕ) → Journey s q g → suc t ≤ length q
+
+-- the list is the cost-unique front of s: its costs are those of the front, each once, ascending, with the earliest arrival beside it; and it is empty
+-- exactly when no lawful journey exists
 pub record ListsFront (s : Sheet) (e : FrontEnd) : Type 0 where
   pub listed-on : (i : ℕ) → i < e .answer .costs → OnFront s (costAt e i)
+  pub earliest : (i : ℕ) → i < e .answer .costs → Earliest s (costAt e i) (stepAt e i)
   pub on-listed : (g : Cost) → OnFront s g → Listed e g
   pub ascending : (i j : ℕ) → i < j → j < e .answer .costs → Lex (costAt e i) (costAt e j)
   pub empty : (e .answer .costs ≡ 0) ↔ ((p : List ℕ) (g : Cost) → Journey s p g → ⊥)
+
+-- row i of the table as the call returned it
+abbrev pub arrivalAt : FrontEnd → ℕ → Arrival
+arrivalAt e i = arrival (number (e .table) (i * 5)) (number (e .table) (i * 5 + 1)) (numbersFrom figures (i * 5 + 2) (e .table))
+
+-- the table holds exactly the leading arrivals of s, ascending, each once, then zeros
+pub record ListsLeading (s : Sheet) (e : FrontEnd) : Type 0 where
+  pub rows-lead : (i : ℕ) → i < e .answer .arrivals → Leading s (arrivalAt e i)
+  pub leading-rows : (a : Arrival) → Leading s a → (i : ℕ) × (i < e .answer .arrivals) × (arrivalAt e i ≡ a)
+  pub ascending : (i j : ℕ) → i < j → j < e .answer .arrivals → Lex (keyOf (arrivalAt e i)) (keyOf (arrivalAt e j))
+  pub zeros : (i : ℕ) → e .answer .arrivals * 5 ≤ i → number (e .table) i ≡ 0
 
 -- the call of a journey handed back the cost g and, one place for each step up to the arrival, the journey that the tie rule selects for it
 pub record GivesJourney (s : Sheet) (g : Cost) (e : JourneyEnd) : Type 0 where
@@ -43,14 +64,12 @@ pub record GivesJourney (s : Sheet) (g : Cost) (e : JourneyEnd) : Type 0 where
 -- journey with a number in that list that is not refused gives the journey of the cost with that number, and arrives at the step beside it; a sheet
 -- read and written back gives its own bytes; a sheet written and read back gives its own values.
 pub record Demand2 : Type 0 where
-  pub front : (b table list : List ℕ) → frontCall b table list .answer .refusal ≡ 0 → (s : Sheet) × (readOf b ≡ loaded s) × ListsFront s (frontCall b table list)
+  pub front : (b table list : List ℕ) → frontCall b table list .answer .refusal ≡ 0
+      → (s : Sheet) × (readOf b ≡ loaded s) × ListsFront s (frontCall b table list) × ListsLeading s (frontCall b table list)
   pub journeys : (b table list table′ path : List ℕ) (i : ℕ) (s : Sheet) → readOf b ≡ loaded s → frontCall b table list .answer .refusal ≡ 0
       → i < frontCall b table list .answer .costs → journeyCall b i table′ path .answer .refusal ≡ 0
       → GivesJourney s (costAt (frontCall b table list) i) (journeyCall b i table′ path) × (journeyCall b i table′ path .answer .arrival ≡ stepAt (frontCall b table list) i)
   pub read-written : (b out : List ℕ) → readCall b .refusal ≡ 0 → length b ≤ length out
-      → let r = readCall b in
-      let w = writeCall (r .head) (take (5 * number (r .lines) 1) (r .corridors)) (take (3 * number (r .lines) 2) (r .occupancies)) out in
-      (w .answer .refusal ≡ 0) × (w .answer .bytes ≡ length b) × (take (length b) (w .out) ≡ b)
-  pub written-read : (h cs os out : List ℕ) → writeCall h cs os out .answer .refusal ≡ 0
-      → let r = readCall (take (writeCall h cs os out .answer .bytes) (writeCall h cs os out .out)) in
-      (r .refusal ≡ 0) × (r .lines ≡ 1 ∷ length cs / 5 ∷ length os / 3 ∷ []) × (r .head ≡ h) × (r .corridors ≡ filled 1280 cs) × (r .occupancies ≡ filled 768 os)
+      → let w = writeGroups (groupsRead (readCall b)) out in (w .answer .refusal ≡ 0) × (w .answer .bytes ≡ length b) × (take (length b) (w .out) ≡ b)
+  pub written-read : (g : Groups) (out : List ℕ) → writeGroups g out .answer .refusal ≡ 0
+      → let r = readCall (take (writeGroups g out .answer .bytes) (writeGroups g out .out)) in (r .refusal ≡ 0) × (groupsRead r ≡ g)

@@ -3,11 +3,12 @@ pub mod Journeys
 pub mod Front
 pub mod Goal
 pub mod Exact
-pub mod Offered
+pub mod Rows
+pub mod Holds
 pub mod Tie
 pub mod Horizon
 pub mod Served
 pub mod Demand2
 pub mod Demand3
-pub mod Ready
+pub mod Searched
 pub mod Laid

@@ -1,28 +1,34 @@
-// The front of a sheet and a journey of it, from the sheet's bytes to every cell of the lent arrays.
+// The front of a sheet and a journey of it: off the sheet in one array with the first steps of its free runs, and from the sheet's bytes.
 ghost use mathlib.Core.Path.{_≡_};
 ghost use mathlib.Core.List.{[]};
-ghost use Prim.Native.Nat.{_%_};
 ghost use lib.ListN.{length};
 ghost use Rattle.sheet.specs.Lists.{filled};
-ghost use Rattle.sheet.specs.Calls.{sheetOfGroups};
+ghost use Rattle.sheet.specs.Store.{SomeStore, sheetIn};
+ghost use Rattle.intervals.specs.FirstSteps.{Derived};
 ghost use Rattle.journeys.specs.Computed.{journeyOf};
-ghost use Rattle.journeys.specs.Inner.{Layable, LaysOut, LaidOut};
-ghost use Rattle.journeys.specs.Calls.{cleared, frontEnd, frontRefused, frontCall, journeyEnd, journeyRefused, journeyCall};
+ghost use Rattle.journeys.specs.Held.{Layable};
+ghost use Rattle.journeys.specs.Calls.{cleared, frontEnd, frontRefused, frontOn, frontCall, journeyEnd, journeyRefused, journeyOn, journeyCall};
 use crate::FrontAnswer;
 use crate::JourneyAnswer;
-use crate::goal::count_front;
-use crate::goal::list_front;
-use crate::goal::nth_front;
-use crate::prepare::Prepared;
-use crate::prepare::prepare;
-use crate::prepare::usable_of;
+use crate::front::count_front;
+use crate::front::list_front;
+use crate::front::nth_front;
 use crate::walk::walk_back;
-use arrivals::cells::clear_from;
-use intervals::fill_since;
+use arrivals::rows::clear_from;
+use arrivals::search;
+use intervals::derive;
+use sheet::Place;
+use sheet::Step;
+use sheet::kinds::CORRIDOR;
+use sheet::kinds::FIRST_CORRIDOR;
+use sheet::kinds::HEAD;
+use sheet::kinds::KINDS;
+use sheet::kinds::STORE;
+use sheet::reader::read_into;
 
 // A refusal: its number, its line, and zeros.
 fn refuse_front(number: u32, line: u32) -> FrontAnswer
-    ensures { λ r. ⌜ r ≡ frontRefused number line [] [] .answer ⌝ }
+    ensures { λ r. ⌜ r ≡ frontRefused [] [] number line .answer ⌝ }
 {
     FrontAnswer {
         refusal: number,
@@ -32,33 +38,63 @@ fn refuse_front(number: u32, line: u32) -> FrontAnswer
     }
 }
 
-// The front of the sheet: the arrivals table and the front list filled, zeros to their ends; or a refusal, 1 to 9. The front is counted before
+// The front of the sheet in the array: the arrivals table and the front list filled, zeros to their ends; or 8 or 9. The front is counted before
 // anything is written into the list.
-pub fn front(sheet: &[u8], table: &mut [u32], list: &mut [u32]) -> FrontAnswer
-    ensures { λ r. ⌜ frontEnd r (now (table .exit)) (now (list .exit)) ≡ frontCall (now (sheet .entry)) (now (table .entry)) (now (list .entry)) ⌝ }
+pub fn front_of(
+    lines: &[u32],
+    all: &[u32],
+    since: &[u16],
+    table: &mut [u32],
+    list: &mut [u32],
+) -> FrontAnswer
+    requires { ⌜ Derived (now lines) (now all) (now since) ⌝ }
+    ensures { λ r. ⌜ frontEnd r (now (table .exit)) (now (list .exit)) ≡ frontOn (sheetIn (now (lines .entry)) (now (all .entry))) (now (table .entry)) (now (list .entry)) ⌝ }
 {
-    let p = prepare(sheet, table);
-    if p.refusal != 0 {
-        return refuse_front(p.refusal, p.line);
+    let r = search(lines, all, since, table);
+    if !r.served {
+        return refuse_front(8, 0);
     }
-    let n = p.arrivals;
-    let costs = count_front(table, n, p.goal, p.last);
-    if usable_of(list.len(), 4) / 4 < costs {
+    let n = r.arrivals;
+    let costs = count_front(table, n, Place(all[3]), Step(all[1]));
+    if list.len() / 4 < costs {
         clear_from(table, 0);
         return refuse_front(9, 0);
     }
-    list_front(table, n, p.goal, p.last, list);
+    list_front(table, n, Place(all[3]), Step(all[1]), list);
     FrontAnswer {
         refusal: 0,
         line: 0,
-        costs: costs as u32,
-        arrivals: n as u32,
+        costs: costs as u64,
+        arrivals: n as u64,
     }
+}
+
+// The same, with the first steps worked out here.
+fn front_stored(lines: &[u32], all: &[u32], table: &mut [u32], list: &mut [u32]) -> FrontAnswer
+    requires { ⌜ SomeStore (now lines) (now all) ⌝ }
+    ensures { λ r. ⌜ frontEnd r (now (table .exit)) (now (list .exit)) ≡ frontOn (sheetIn (now (lines .entry)) (now (all .entry))) (now (table .entry)) (now (list .entry)) ⌝ }
+{
+    let mut since = [0u16; 16384];
+    derive(lines, all, &mut since);
+    front_of(lines, all, &since, table, list)
+}
+
+// The front of the sheet with these bytes: the arrivals table and the front list filled, zeros to their ends; or a refusal, 1 to 9.
+pub fn front(sheet: &[u8], table: &mut [u32], list: &mut [u32]) -> FrontAnswer
+    ensures { λ r. ⌜ frontEnd r (now (table .exit)) (now (list .exit)) ≡ frontCall (now (sheet .entry)) (now (table .entry)) (now (list .entry)) ⌝ }
+{
+    let mut lines = [0u32; KINDS];
+    let mut all = [0u32; STORE];
+    let v = read_into(sheet, &mut lines, &mut all);
+    if v.refusal != 0 {
+        return refuse_front(v.refusal, v.line);
+    }
+    front_stored(&lines, &all, table, list)
 }
 
 // A refusal: its number, its line, and zeros.
 fn refuse_journey(number: u32, line: u32) -> JourneyAnswer
-    ensures { λ r. ⌜ r ≡ journeyRefused number line [] [] .answer ⌝ }
+    ensures { λ r. ⌜ r ≡ journeyRefused [] [] number line .answer ⌝ }
 {
     JourneyAnswer {
         refusal: number,
@@ -70,58 +106,52 @@ fn refuse_journey(number: u32, line: u32) -> JourneyAnswer
 
 // A refusal once the sheet was searched: its number and zeros, and zeros in the arrivals table.
 fn refuse_searched(number: u32, arrivals: &mut [u32]) -> JourneyAnswer
-    ensures { λ r. ⌜ (r ≡ journeyRefused number 0 [] [] .answer) × (now (arrivals .exit) ≡ cleared (now (arrivals .entry))) ⌝ }
+    ensures { λ r. ⌜ (r ≡ journeyRefused [] [] number 0 .answer) × (now (arrivals .exit) ≡ cleared (now (arrivals .entry))) ⌝ }
 {
     clear_from(arrivals, 0);
     refuse_journey(number, 0)
 }
 
 // Writes the places of the journey of the front cost `cost`, which arrives at step `arrival`, for each step from 0 on, then zeros.
-fn lay_path(
-    head: &[u32],
-    corridors: &[u32],
-    occupancies: &[u32],
+pub fn lay_path(
+    lines: &[u32],
+    all: &[u32],
+    since: &[u16],
     table: &[u32],
     n: usize,
     arrival: u32,
     cost: [u32; 3],
     path: &mut [u32],
 )
-    requires { ⌜ (length (now corridors) % 5 ≡ 0) × (length (now occupancies) % 3 ≡ 0) × (Layable (sheetOfGroups (now head) (now corridors) (now occupancies)) n (now table) arrival cost (now path)) ⌝ }
-    ensures { λ _. ⌜ now (path .exit) ≡ filled (length (now (path .entry))) (journeyOf (sheetOfGroups (now (head .entry)) (now (corridors .entry)) (now (occupancies .entry))) cost) ⌝ }
+    requires { ⌜ Layable (now lines) (now all) (now since) n (now table) arrival cost (now path) ⌝ }
+    ensures { λ _. ⌜ now (path .exit) ≡ filled (length (now (path .entry))) (journeyOf (sheetIn (now (lines .entry)) (now (all .entry))) cost) ⌝ }
 {
-    let mut since = [0u16; 16384];
-    fill_since(occupancies, &mut since);
-    walk_back(head, corridors, table, n, &since, arrival, cost, path);
+    let e = FIRST_CORRIDOR + lines[1] as usize * CORRIDOR;
+    let head = &all[..HEAD];
+    let corridors = &all[FIRST_CORRIDOR..e];
+    walk_back(head, corridors, table, n, since, arrival, cost, path);
     clear_from(path, arrival as usize + 1);
 }
 
-// Writes the journey of a front cost of the sheet that was prepared.
-fn lay_journey(p: Prepared, table: &[u32], arrival: u32, cost: [u32; 3], path: &mut [u32])
-    requires { ⌜ LaysOut p (now table) arrival cost (now path) ⌝ }
-    ensures { λ _. ⌜ LaidOut p cost (now (path .entry)) (now (path .exit)) ⌝ }
+// The journey with a number in the front of the sheet in the array, from 0: the path buffer holds one place for each step, then zeros, and the arrivals
+// table is filled; or 8, 10 or 11.
+pub fn journey_of(
+    lines: &[u32],
+    all: &[u32],
+    since: &[u16],
+    number: u32,
+    table: &mut [u32],
+    path: &mut [u32],
+) -> JourneyAnswer
+    requires { ⌜ Derived (now lines) (now all) (now since) ⌝ }
+    ensures { λ r. ⌜ journeyEnd r (now (table .exit)) (now (path .exit)) ≡ journeyOn (sheetIn (now (lines .entry)) (now (all .entry))) number (now (table .entry)) (now (path .entry)) ⌝ }
 {
-    let s = p.sheet;
-    let head = s.head;
-    let cs = s.corridors;
-    let os = s.occupancies;
-    let lines = s.lines;
-    let c = lines[1] as usize * 5;
-    let q = lines[2] as usize * 3;
-    let n = p.arrivals;
-    lay_path(&head, &cs[..c], &os[..q], table, n, arrival, cost, path);
-}
-
-// The journey with a number in the front, from 0: the path buffer holds one place for each step, then zeros, and the arrivals table is filled; or
-// a refusal, 1 to 8, 10 or 11.
-pub fn journey(sheet: &[u8], number: u32, table: &mut [u32], path: &mut [u32]) -> JourneyAnswer
-    ensures { λ r. ⌜ journeyEnd r (now (table .exit)) (now (path .exit)) ≡ journeyCall (now (sheet .entry)) number (now (table .entry)) (now (path .entry)) ⌝ }
-{
-    let p = prepare(sheet, table);
-    if p.refusal != 0 {
-        return refuse_journey(p.refusal, p.line);
+    let r = search(lines, all, since, table);
+    if !r.served {
+        return refuse_journey(8, 0);
     }
-    let o = nth_front(table, p.arrivals, p.goal, p.last, number as usize);
+    let n = r.arrivals;
+    let o = nth_front(table, n, Place(all[3]), Step(all[1]), number);
     if !o.found {
         return refuse_searched(10, table);
     }
@@ -130,11 +160,41 @@ pub fn journey(sheet: &[u8], number: u32, table: &mut [u32], path: &mut [u32]) -
         return refuse_searched(11, table);
     }
     let cost = o.cost;
-    lay_journey(p, table, arrival, cost, path);
+    lay_path(lines, all, since, table, n, arrival, cost, path);
     JourneyAnswer {
         refusal: 0,
         line: 0,
         cost,
         arrival,
     }
+}
+
+// The same, with the first steps worked out here.
+fn journey_stored(
+    lines: &[u32],
+    all: &[u32],
+    number: u32,
+    table: &mut [u32],
+    path: &mut [u32],
+) -> JourneyAnswer
+    requires { ⌜ SomeStore (now lines) (now all) ⌝ }
+    ensures { λ r. ⌜ journeyEnd r (now (table .exit)) (now (path .exit)) ≡ journeyOn (sheetIn (now (lines .entry)) (now (all .entry))) number (now (table .entry)) (now (path .entry)) ⌝ }
+{
+    let mut since = [0u16; 16384];
+    derive(lines, all, &mut since);
+    journey_of(lines, all, &since, number, table, path)
+}
+
+// The journey with a number in the front of the sheet with these bytes, from 0: the path buffer holds one place for each step, then zeros, and the arrivals
+// table is filled; or a refusal, 1 to 8, 10 or 11.
+pub fn journey(sheet: &[u8], number: u32, table: &mut [u32], path: &mut [u32]) -> JourneyAnswer
+    ensures { λ r. ⌜ journeyEnd r (now (table .exit)) (now (path .exit)) ≡ journeyCall (now (sheet .entry)) number (now (table .entry)) (now (path .entry)) ⌝ }
+{
+    let mut lines = [0u32; KINDS];
+    let mut all = [0u32; STORE];
+    let v = read_into(sheet, &mut lines, &mut all);
+    if v.refusal != 0 {
+        return refuse_journey(v.refusal, v.line);
+    }
+    journey_stored(&lines, &all, number, table, path)
 }

@@ -4,7 +4,7 @@ ghost use mathlib.Core.List.{[]};
 ghost use Prim.Native.Nat.{_+_, _*_, _≤_};
 ghost use lib.ListN.{length};
 ghost use Rattle.costs.specs.Costs.{figures};
-ghost use Rattle.arrivals.specs.Inner.Facts.{Decided};
+ghost use Rattle.sheet.specs.Laws.Decided.{Decided};
 ghost use Rattle.journeys.specs.Calls.{frontEnd};
 ghost use Rattle.journeys.specs.Demand3.{BothSame, ComparedIs};
 ghost use Rattle.journeys.specs.Inner.{SameFigures, SameRows};

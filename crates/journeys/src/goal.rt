@@ -1,106 +1,86 @@
-// The goal's rows of the arrivals table, gathered before the front is read off them: each front cost takes a scan of all rows, and few of them are
-// the goal's. Where the goal has more rows than there is room for, the front is read off the table itself.
+// The goal's rows of the arrivals table, chained in the order of their costs, and of equal costs the earlier row first. Rows of one step ascend by
+// cost already, so most rows come directly after the row before them.
 ghost use mathlib.Core.Path.{_≡_};
 ghost use Prim.Native.Nat.{_+_, _*_, _≤_, _<_};
 ghost use lib.ListN.{length};
-ghost use Rattle.sheet.specs.Lists.{filled};
-ghost use Rattle.journeys.specs.Computed.{frontOf};
-ghost use Rattle.journeys.specs.Inner.{goalRows, costsOf, NumberIs, offeredRows};
-ghost use Rattle.journeys.specs.Inner.Goal.{GatheredIs};
-use crate::offered::Offered;
-use crate::offered::count_costs;
-use crate::offered::list_costs;
-use crate::offered::nth_cost;
-use arrivals::cells::push_row;
-use arrivals::cells::row_cost;
+ghost use Rattle.arrivals.specs.Rows.{rowAt};
+ghost use Rattle.journeys.specs.Inner.{countsAt, isGoalRow};
+ghost use Rattle.journeys.specs.Inner.Chain.{Seekable, SoughtFrom, Sought, Orderable, OrderedIn, OrderedAll};
+use crate::chain::Gap;
+use crate::chain::link_in;
+use crate::chain::next_gap;
+use crate::chain::start;
+use arrivals::rows::row_cost;
+use costs::before;
+use sheet::Place;
+use sheet::Step;
 
-// How the rows of a place were gathered: all of them, in so many rows, or more than there is room for.
-pub struct Gathered {
-    pub fits: bool,
-    pub rows: usize,
+// Whether an arrival at the goal at a step counts: no later than the last step.
+fn counts_at(step: Step, last: Step) -> bool
+    ensures { λ r. ⌜ r ≡ countsAt (last .0) (step .0) ⌝ }
+{
+    step.0 <= last.0
 }
 
-// Row k of the table too, after the rows gathered so far, if it is one of place v at a step up to `last`.
-fn gather_row(
-    table: &[u32],
-    k: usize,
-    v: u32,
-    last: u32,
-    goals: &mut [u32],
-    rows: usize,
-) -> Gathered
-    requires { ⌜ (k < 1000000000000000000) × (k * 5 + 5 ≤ length (now table)) × (rows ≤ k) × (rows * 5 ≤ length (now goals)) × (goalRows v last rows (now goals) ≡ goalRows v last k (now table)) ⌝ }
-    ensures { λ r. ⌜ GatheredIs v last (k + 1) (now (table .entry)) (now (goals .exit)) r ⌝ }
+// Whether row k is an arrival at place v that counts.
+pub fn is_goal_row(table: &[u32], k: usize, v: Place, last: Step) -> bool
+    requires { ⌜ k * 5 + 5 ≤ length (now table) ⌝ }
+    ensures { λ r. ⌜ r ≡ isGoalRow (v .0) (last .0) (rowAt (now (table .entry)) k) ⌝ }
 {
-    let place = table[k * 5];
-    let step = table[k * 5 + 1];
-    if !((place == v) & (step <= last)) {
-        return Gathered { fits: true, rows };
-    }
-    if goals.len() < rows * 5 + 5 {
-        return Gathered { fits: false, rows };
-    }
-    push_row(goals, rows, place, step, row_cost(table, k));
-    Gathered {
-        fits: true,
-        rows: rows + 1,
-    }
+    (table[k * 5] == v.0) & counts_at(Step(table[k * 5 + 1]), last)
 }
 
-// Copies the rows of place v at a step up to `last`, of the first n rows, to the front of `goals`, in order.
-fn gather(table: &[u32], n: usize, v: u32, last: u32, goals: &mut [u32]) -> Gathered
-    requires { ⌜ (n ≤ 1000000000000000000) × (n * 5 ≤ length (now table)) ⌝ }
-    ensures { λ r. ⌜ GatheredIs v last n (now (table .entry)) (now (goals .exit)) r ⌝ }
+// Where to look for the cost g from on: at the gap, or at the chain's start if g comes before the row before the gap.
+fn seek_from(table: &[u32], gap: Gap, g: [u32; 3]) -> Gap
+    requires { ⌜ Seekable (now table) gap ⌝ }
+    ensures { λ r. ⌜ SoughtFrom (now (table .entry)) gap g r ⌝ }
 {
-    let mut rows = 0;
-    let mut k = 0;
-    while k < n {
-        let r = gather_row(table, k, v, last, goals, rows);
-        if !r.fits {
-            return r;
+    if gap.rest == gap.rows {
+        return gap;
+    }
+    let left = row_cost(table, gap.left as usize);
+    if before(g, left) {
+        return start(gap.first, gap.rows);
+    }
+    gap
+}
+
+// The gap before the first row of the chain that the cost g comes before.
+fn seek(table: &[u32], gap: Gap, g: [u32; 3]) -> Gap
+    requires { ⌜ Seekable (now table) gap ⌝ }
+    ensures { λ r. ⌜ Sought (now (table .entry)) gap g r ⌝ }
+{
+    let mut at = seek_from(table, gap, g);
+    while 0 < at.rest {
+        let h = row_cost(table, at.right as usize);
+        if before(g, h) {
+            return at;
         }
-        rows = r.rows;
-        k += 1;
+        at = next_gap(table, at);
     }
-    Gathered { fits: true, rows }
+    at
 }
 
-// The count of front costs.
-pub fn count_front(table: &[u32], n: usize, v: u32, last: u32) -> usize
-    requires { ⌜ (n ≤ 1000000000000000000) × (n * 5 ≤ length (now table)) ⌝ }
-    ensures { λ r. ⌜ r ≡ length (frontOf (costsOf (goalRows v last n (now (table .entry))))) ⌝ }
+// Puts row k into the chain of the goal's rows before it, if it is one of them.
+fn order_row(table: &mut [u32], k: usize, v: Place, last: Step, gap: Gap) -> Gap
+    requires { ⌜ Orderable (v .0) (last .0) k (now table) gap ⌝ }
+    ensures { λ r. ⌜ OrderedIn (v .0) (last .0) k (now (table .entry)) (now (table .exit)) gap r ⌝ }
 {
-    let mut goals = [0; 2560];
-    let r = gather(table, n, v, last, &mut goals);
-    if r.fits {
-        return count_costs(&goals, r.rows, v, last);
+    if !is_goal_row(table, k, v, last) {
+        return gap;
     }
-    count_costs(table, n, v, last)
+    let at = seek(table, gap, row_cost(table, k));
+    link_in(table, at, k as u32)
 }
 
-// The front cost with a number, from 0, with its arrival step.
-pub fn nth_front(table: &[u32], n: usize, v: u32, last: u32, number: usize) -> Offered
-    requires { ⌜ (n ≤ 1000000000000000000) × (n * 5 ≤ length (now table)) ⌝ }
-    ensures { λ r. ⌜ NumberIs (goalRows v last n (now (table .entry))) number r ⌝ }
+// Chains the arrivals at place v that count, of the first n rows; the chain's first row and its count of rows are handed back.
+pub fn order_rows(table: &mut [u32], n: usize, v: Place, last: Step) -> Gap
+    requires { ⌜ (n ≤ 4294967295) × (n * 5 ≤ length (now table)) ⌝ }
+    ensures { λ r. ⌜ OrderedAll (v .0) (last .0) n (now (table .entry)) (now (table .exit)) r ⌝ }
 {
-    let mut goals = [0; 2560];
-    let r = gather(table, n, v, last, &mut goals);
-    if r.fits {
-        return nth_cost(&goals, r.rows, v, last, number);
+    let mut at = start(0, 0);
+    for k in 0..n {
+        at = order_row(table, k, v, last, at);
     }
-    nth_cost(table, n, v, last, number)
-}
-
-// Writes the front list: a row of three figures and the arrival step for each front cost, in order, then zeros to its end.
-pub fn list_front(table: &[u32], n: usize, v: u32, last: u32, list: &mut [u32])
-    requires { ⌜ (n ≤ 1000000000000000000) × (n * 5 ≤ length (now table)) × (length (frontOf (costsOf (goalRows v last n (now table)))) * 4 ≤ length (now list)) ⌝ }
-    ensures { λ _. ⌜ now (list .exit) ≡ filled (length (now (list .entry))) (offeredRows (goalRows v last n (now (table .entry)))) ⌝ }
-{
-    let mut goals = [0; 2560];
-    let r = gather(table, n, v, last, &mut goals);
-    if r.fits {
-        list_costs(&goals, r.rows, v, last, list);
-        return;
-    }
-    list_costs(table, n, v, last, list);
+    at
 }

@@ -1,9 +1,10 @@
 // The front of journeys and the journey of each front cost (document 01, "What is handed back").
 
-pub mod offered; // offered.rt: the front off the arrivals table
-pub mod goal; // goal.rt: the goal's rows of the arrivals table, gathered before the front is read off them
+pub mod chain; // chain.rt: chains of rows of the arrivals table
+pub mod goal; // goal.rt: the goal's rows of the arrivals table, in the order of their costs
+pub mod front; // front.rt: the front off the goal's rows
+pub mod slow; // slow.rt: the front where the rows are too many for that
 pub mod walk; // walk.rt: the journey of a front cost
-pub mod prepare; // prepare.rt: a sheet read and searched, for the front and the journeys
 pub mod calls; // calls.rt: the front and a journey of a sheet
 pub mod compare; // compare.rt: two fronts compared (demand 3)
 
@@ -12,8 +13,8 @@ pub mod compare; // compare.rt: two fronts compared (demand 3)
 pub struct FrontAnswer {
     pub refusal: u32,
     pub line: u32,
-    pub costs: u32,
-    pub arrivals: u32,
+    pub costs: u64,
+    pub arrivals: u64,
 }
 
 // What a call of a journey hands back: its cost and its arrival step.

@@ -2,9 +2,9 @@
 ghost use mathlib.Core.Path.{_≡_};
 ghost use Prim.Native.Nat.{_+_, _*_, _≤_, _<_, _%_};
 ghost use lib.ListN.{length};
-ghost use Rattle.costs.specs.Costs.{figures, add, Within, AtMost};
-ghost use Rattle.costs.specs.Inner.{asCrossing};
-ghost use Rattle.arrivals.specs.Inner.Facts.{Decided};
+ghost use Rattle.costs.specs.Costs.{figures, add, AtMost};
+ghost use Rattle.costs.specs.Priced.{Within, asCrossing};
+ghost use Rattle.sheet.specs.Laws.Decided.{Decided};
 ghost use Rattle.journeys.specs.Inner.{Walkable, WalkIs};
 ghost use Rattle.journeys.specs.Inner.Walk.{Waits, Becomes, BecomesIn, MoveIs, Readable, StepIs, BeforeIs};
 use costs::Crossing;

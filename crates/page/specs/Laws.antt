@@ -1,5 +1,4 @@
 pub mod Page
-pub mod Puts
 pub mod Room
 pub mod Offers
 pub mod Whole

@@ -4,42 +4,33 @@ use mathlib.Core.List.{List, [], _∷_, _++_}
 use Prim.Native.Nat.{ℕ, _*_}
 use lib.ListN.{length}
 use Rattle.sheet.specs.Lists.{pick, bind, filled}
-use Rattle.sheet.specs.Decimal.{digitsOf}
-use Rattle.sheet.specs.Sheet.{Sheet, Outcome, refused, loaded, readOf}
+use Rattle.sheet.specs.Sheet.{Sheet, told, readOf}
+use Rattle.sheet.specs.Text.{printed}
 use Rattle.costs.specs.Costs.{Cost}
 use Rattle.arrivals.specs.Computed.{leading}
+use Rattle.arrivals.specs.Table.{crowded}
 use Rattle.journeys.specs.Computed.{journeyOf, arrivalOf, front}
-use Rattle.journeys.specs.Calls.{frontRow, overfull, noRoom}
+use Rattle.journeys.specs.Calls.{frontRow, overfull}
 use Rattle.page.specs.declared.PageText.{PageText}
 
 -- the most digits of a printed number
 abbrev pub mostPrinted : ℕ
 mostPrinted = 10
 
--- a comma and the digits
-unfoldable pub numberPrinted : ℕ → List ℕ
-unfolding digitsOf
-numberPrinted n = 44 ∷ digitsOf mostPrinted n
-
--- a letter, each number after a comma, a line feed
-unfoldable pub printed : ℕ → List ℕ → List ℕ
-unfolding numberPrinted
-printed c ns = c ∷ (bind ns numberPrinted ++ (10 ∷ []))
-
 -- `R,number,line`
 unfoldable pub refusalLine : ℕ → ℕ → List ℕ
 unfolding printed
-refusalLine k n = printed 82 (k ∷ n ∷ [])
+refusalLine k n = printed mostPrinted 82 (k ∷ n ∷ [])
 
 -- `F,costs,arrivals`
 unfoldable pub frontLine : Sheet → List ℕ
 unfolding printed front leading
-frontLine s = printed 70 (length (front s) ∷ length (leading s) ∷ [])
+frontLine s = printed mostPrinted 70 (length (front s) ∷ length (leading s) ∷ [])
 
 -- `J,c1,c2,c3,arrival`, and `P,` with the places
 unfoldable pub journeyLines : Sheet → Cost → List ℕ
 unfolding printed journeyOf arrivalOf
-journeyLines s g = printed 74 (frontRow s g) ++ printed 80 (journeyOf s g)
+journeyLines s g = printed mostPrinted 74 (frontRow s g) ++ printed mostPrinted 80 (journeyOf s g)
 
 -- the lines of every front cost, in order
 unfoldable pub offerLines : Sheet → List ℕ
@@ -54,20 +45,16 @@ abbrev pub listNumbers : ℕ
 listNumbers = 200 * 4
 
 unfoldable pub pageOn : Sheet → List ℕ
-unfolding noRoom overfull refusalLine frontLine offerLines
+unfolding crowded overfull refusalLine frontLine offerLines
 pageOn s =
     let r = frontLine s ++ offerLines s in
     let q = pick (overfull s listNumbers) (refusalLine 9 0) r in
-    pick (noRoom s tableNumbers) (refusalLine 8 0) q
-
-abbrev pub pageRead : Outcome → List ℕ
-pageRead (refused k n) = refusalLine k n
-pageRead (loaded s) = pageOn s
+    pick (crowded s tableNumbers) (refusalLine 8 0) q
 
 -- what the program prints for the bytes on its standard input
 unfoldable pub page : List ℕ → List ℕ
 unfolding pageOn refusalLine readOf
-page b = pageRead (readOf b)
+page b = told refusalLine pageOn (readOf b)
 
 -- the room for a page, in bytes: none is longer (Laws.Room.page-fits)
 abbrev pub pageRoom : ℕ

@@ -1,15 +1,18 @@
 // The page that the program prints for the bytes of a sheet (document 01, "The program reads a sheet on standard input ...").
 ghost use mathlib.Core.Path.{_≡_};
 ghost use lib.ListN.{length};
-ghost use Rattle.page.specs.Page.{tableNumbers, listNumbers, page, pageRoom, held};
-ghost use Rattle.page.specs.Inner.{Puts, Offers, OffersPrinted};
-use crate::lines::put_line;
+ghost use Rattle.sheet.specs.Store.{SomeStore, sheetIn};
+ghost use Rattle.sheet.specs.Laws.Puts.{Puts};
+ghost use Rattle.page.specs.Page.{refusalLine, pageOn, page, pageRoom, held};
+ghost use Rattle.page.specs.Inner.{Lent, Servable};
 use crate::offers::put_journeys;
-use journeys::calls::front;
-use sheet::SheetRead;
-use sheet::reader::read;
+use intervals::derive;
+use journeys::calls::front_of;
+use sheet::kinds::KINDS;
+use sheet::kinds::STORE;
+use sheet::reader::read_into;
+use sheet::text::put_line;
 
-pub mod lines; // lines.rt: a line of the page
 pub mod offers; // offers.rt: the lines of each front cost
 
 // A page: its bytes, then zeros, and the count of its bytes. No page is longer than 163,840 bytes.
@@ -18,44 +21,67 @@ pub struct PageText {
     pub count: usize,
 }
 
-// Writes the lines of each front cost of the sheet that was read, whose table and list a call of the front filled; the position after them.
-fn put_offers(
-    sheet: SheetRead,
-    table: &[u32],
-    n: usize,
-    list: &[u32],
-    costs: usize,
-    out: &mut [u8],
-    at: usize,
-) -> usize
-    requires { ⌜ Offers sheet (now table) n (now list) costs (now out) at ⌝ }
-    ensures { λ r. ⌜ OffersPrinted sheet (now (out .entry)) at (now (out .exit)) r ⌝ }
+// Writes the page of a refusal; the count of its bytes.
+fn put_refusal(out: &mut [u8], number: u32, line: u32) -> usize
+    requires { ⌜ length (now out) ≡ pageRoom ⌝ }
+    ensures { λ r. ⌜ Puts (refusalLine number line) (now (out .entry)) 0 (now (out .exit)) r ⌝ }
 {
-    let head = sheet.head;
-    let cs = sheet.corridors;
-    let os = sheet.occupancies;
-    let lines = sheet.lines;
-    let c = lines[1] as usize * 5;
-    let o = lines[2] as usize * 3;
-    put_journeys(&head, &cs[..c], &os[..o], table, n, list, costs, out, at)
+    let told = [number as u64, line as u64];
+    put_line(out, 0, 82, &told, 10)
 }
 
-// Writes the page for the bytes of a sheet: the refusal alone, or the counts and the lines of each front cost; the count of its bytes. The sheet is
+// Writes the page of the sheet in the array: the counts and the lines of each front cost, or the refusal alone; the count of its bytes. The sheet is
 // searched once.
-fn put_page(src: &[u8], table: &mut [u32], list: &mut [u32], out: &mut [u8]) -> usize
-    requires { ⌜ (length (now table) ≡ tableNumbers) × (length (now list) ≡ listNumbers) × (length (now out) ≡ pageRoom) ⌝ }
-    ensures { λ r. ⌜ Puts (page (now (src .entry))) (now (out .entry)) 0 (now (out .exit)) r ⌝ }
+fn put_searched(
+    lines: &[u32],
+    all: &[u32],
+    since: &[u16],
+    table: &mut [u32],
+    list: &mut [u32],
+    out: &mut [u8],
+) -> usize
+    requires { ⌜ Servable (now lines) (now all) (now since) (now table) (now list) (now out) ⌝ }
+    ensures { λ r. ⌜ Puts (pageOn (sheetIn (now (lines .entry)) (now (all .entry)))) (now (out .entry)) 0 (now (out .exit)) r ⌝ }
 {
-    let r = front(src, table, list);
+    let r = front_of(lines, all, since, table, list);
     if r.refusal != 0 {
-        let told = [r.refusal, r.line];
-        return put_line(out, 0, 82, &told);
+        return put_refusal(out, r.refusal, r.line);
     }
     let counts = [r.costs, r.arrivals];
-    let next = put_line(out, 0, 70, &counts);
+    let next = put_line(out, 0, 70, &counts, 10);
     let n = r.arrivals as usize;
-    let costs = r.costs as usize;
-    put_offers(read(src), table, n, list, costs, out, next)
+    let e = r.costs as usize * 4;
+    put_journeys(lines, all, since, table, n, &list[..e], out, next)
+}
+
+// The same, with the first steps of the free runs worked out here.
+fn put_stored(
+    lines: &[u32],
+    all: &[u32],
+    table: &mut [u32],
+    list: &mut [u32],
+    out: &mut [u8],
+) -> usize
+    requires { ⌜ (SomeStore (now lines) (now all)) × (Lent (now table) (now list) (now out)) ⌝ }
+    ensures { λ r. ⌜ Puts (pageOn (sheetIn (now (lines .entry)) (now (all .entry)))) (now (out .entry)) 0 (now (out .exit)) r ⌝ }
+{
+    let mut since = [0u16; 16384];
+    derive(lines, all, &mut since);
+    put_searched(lines, all, &since, table, list, out)
+}
+
+// Writes the page for the bytes of a sheet; the count of its bytes.
+fn put_page(src: &[u8], table: &mut [u32], list: &mut [u32], out: &mut [u8]) -> usize
+    requires { ⌜ Lent (now table) (now list) (now out) ⌝ }
+    ensures { λ r. ⌜ Puts (page (now (src .entry))) (now (out .entry)) 0 (now (out .exit)) r ⌝ }
+{
+    let mut lines = [0u32; KINDS];
+    let mut all = [0u32; STORE];
+    let v = read_into(src, &mut lines, &mut all);
+    if v.refusal != 0 {
+        return put_refusal(out, v.refusal, v.line);
+    }
+    put_stored(&lines, &all, table, list, out)
 }
 
 // The page for the bytes of a sheet.

@@ -1,56 +1,111 @@
--- Laws of a line: its first field is the letter of its kind.
+-- Laws of a line: its first field is the letter of its kind, found by its position among the letters, and the fields after it are the kind's numbers.
 -- Assumes nothing.
-use mathlib.Core.Bool.{Bool, true, false}
-use mathlib.Core.Path.{_≡_, refl, sym, _∙_}
-use mathlib.Core.List.{List, [], _∷_}
-use mathlib.Core.Option.{some, none}
-use Prim.Native.Nat.{ℕ, _+_, _≤_, _<_}
+use mathlib.Core.Bool.{Bool, true, false, true≢false}
+use mathlib.Core.Path.{_≡_, refl, sym, _∙_, ap}
+use mathlib.Core.Logic.{_⊎_, inl, inr, ⊎-elim, _≢_}
+use mathlib.Core.List.{List, [], _∷_, map}
+use mathlib.Core.Option.{Option, some, none}
+use Prim.Native.Nat.{ℕ, zero, suc, _≤_, _<_}
 use native.Mathlib.Omega.{arith}
-use lib.ListN.{length, getD, take}
+use lib.Dec.{eqb}
+use lib.ListN.{length, getD, take, length-map}
 use lib.Seq.{length-take-le}
-use borrow.Author.Tests.{lt-ltb, le-ltb}
-use Rattle.sheet.specs.Lists.{pick}
-use Rattle.sheet.specs.Bytes.{split, comma}
-use Rattle.sheet.specs.Kinds.{kinds}
-use Rattle.sheet.specs.Lines.{withLetter, numbersOf, ofKind, ofLetter, ofFields, lineOf}
-use Rattle.sheet.specs.Calls.{width}
-use Rattle.sheet.specs.Inner.{kindAt, asKind, lineAt, spanOf, partsFrom}
-use Rattle.sheet.proofs.Parts.{parts-step, parts-here, span-le}
+use Rattle.sheet.specs.Lists.{pick, _then_, number}
+use Rattle.sheet.specs.Bytes.{comma}
+use Rattle.sheet.specs.Kinds.{Kind, width, kindS}
+use Rattle.sheet.specs.Lines.{line, withLetter, numbersOf, ofFields, lineOf}
+use Rattle.sheet.specs.Inner.{spanOf, partsFrom, asNumbers, Forms, SomeForms, positionOf, lineOfKinds, LineIs}
+use Rattle.sheet.specs.declared.lines.Numbers.{Numbers}
+use Rattle.sheet.specs.declared.lines.Parsed.{Parsed}
+use Rattle.sheet.proofs.Parts.{span-le, split-step}
 
-fields-bad : (f : List ℕ) (fs : List (List ℕ)) → (length f ≡ 1 → ⊥) → ofFields (f ∷ fs) ≡ none
-unfolding ofFields
-fields-bad [] fs h = refl
-fields-bad (c ∷ []) fs h = absurd (h refl)
-fields-bad (c ∷ d ∷ ds) fs h = refl
+-- k is the position of the kind o among ks, or their count where there is none
+abbrev Stands : List Kind → ℕ → Option Kind → Type 0
+Stands ks k o = ((k ≡ length ks) × (o ≡ none)) ⊎ ((k < length ks) × (o ≡ some (getD ks k kindS)))
 
-parted : (l : List ℕ) → split comma l ≡ take (spanOf comma l) l ∷ partsFrom comma (0 + spanOf comma l + 1) l
-parted l = sym (parts-here comma 0 l (omega arith)) ∙ parts-step comma 0 l (omega arith)
+letter-stands : (c : ℕ) (ks : List Kind) → Stands ks (positionOf c (map (λ k. k .letter) ks)) (withLetter c ks)
+letter-stands c [] = inl (refl, refl)
+letter-stands c (j ∷ ks) = go (eqb (j .letter) c) (positionOf c (map (λ k. k .letter) ks)) (withLetter c ks) (letter-stands c ks)
+  where
+    go : (t : Bool) (k : ℕ) (o : Option Kind) → Stands ks k o → Stands (j ∷ ks) (pick t 0 (suc k)) (pick t (some j) o)
+    go true k o r = inr (omega arith, refl)
+    go false k o (inl r) = inl (omega arith, r .1)
+    go false k o (inr r) = inr (omega arith, r .1)
 
--- a line whose first field is not one byte
-pub line-first : (l : List ℕ) → (spanOf comma l ≡ 1 → ⊥) → lineOf l ≡ none
-unfolding lineOf
-line-first l h = rw (parted l) (fields-bad (take (spanOf comma l) l) _ (λ e. h (sym (length-take-le (spanOf comma l) l (span-le comma l)) ∙ e)))
+width-at : (ks : List Kind) (k : ℕ) → k < length ks → number (map width ks) k ≡ width (getD ks k kindS)
+width-at [] k h = absurd (omega arith)
+width-at (j ∷ ks) zero h = refl
+width-at (j ∷ ks) (suc k) h = width-at ks k (omega arith)
+
+module _ (letters widths : List ℕ) where
+  forms-letters : (ks : List Kind) → Forms ks letters widths → length letters ≡ length ks
+  forms-letters ks F = ap length (F .letters-are) ∙ length-map ks (λ k. k .letter)
+
+  pub forms-widths : SomeForms letters widths → length widths ≡ length letters
+  forms-widths S = let F = S .forms in ap length (F .widths-are) ∙ length-map (S .kinds-of) width ∙ sym (forms-letters (S .kinds-of) F)
+
+  -- the byte c has the position k among the letters
+  module _ (c k : ℕ) (d : k ≡ positionOf c letters) where
+    stands : (ks : List Kind) → Forms ks letters widths → Stands ks k (withLetter c ks)
+    stands ks F = rw (d, F .letters-are) (letter-stands c ks)
+
+    known : (ks : List Kind) → Forms ks letters widths → k ≢ length letters → (k < length ks) × (withLetter c ks ≡ some (getD ks k kindS))
+    known ks F h = ⊎-elim (λ s. absurd (h (s .0 ∙ sym (forms-letters ks F)))) (λ s. s) (stands ks F)
+
+    pub letter-below : SomeForms letters widths → k ≢ length letters → k < length letters
+    letter-below S h = omega (arith, known (S .kinds-of) (S .forms) h .0, forms-letters (S .kinds-of) (S .forms))
 
 take-one : (l : List ℕ) → 1 ≤ length l → take 1 l ≡ getD l 0 0 ∷ []
 take-one [] h = absurd (omega arith)
 take-one (c ∷ l) h = refl
 
--- a line whose first field is one byte, the letter of the kind with number k
-module _ (l : List ℕ) (k : ℕ) (e : spanOf comma l ≡ 1) (p : asKind k ≡ withLetter (getD l 0 0) kinds) where
-  line-letter : lineOf l ≡ ofLetter (asKind k) (partsFrom comma 2 l)
+module _ (most : ℕ) (ks : List Kind) (l : List ℕ) where
+  fields-bad : (f : List ℕ) (fs : List (List ℕ)) → (length f ≡ 1 → ⊥) → ofFields most ks (f ∷ fs) ≡ none
+  unfolding ofFields
+  fields-bad [] fs h = refl
+  fields-bad (c ∷ []) fs h = absurd (h refl)
+  fields-bad (c ∷ d ∷ ds) fs h = refl
+
+  -- a line whose first field is not one byte
+  line-first : (spanOf comma l ≡ 1 → ⊥) → lineOf most ks l ≡ none
+  unfolding lineOf
+  line-first h = rw (split-step comma l) (fields-bad (take (spanOf comma l) l) _ (λ e. h (sym (length-take-le (spanOf comma l) l (span-le comma l)) ∙ e)))
+
+  -- a line whose first field is one byte
+  line-letter : spanOf comma l ≡ 1 → lineOf most ks l ≡ withLetter (getD l 0 0) ks then λ k. numbersOf most (width k) (partsFrom comma 2 l) then λ ns. some (line k ns)
   unfolding lineOf ofFields
-  line-letter = rw (parted l, e, take-one l (omega (arith, span-le comma l)), p)
+  line-letter e = rw (split-step comma l, e, take-one l (omega (arith, span-le comma l)))
 
-  pub line-unknown : 3 ≤ k → lineOf l ≡ none
-  line-unknown h = rw (line-letter, le-ltb k 3 h)
+-- what is handed back of a line, by what was found of it
+module _ (most : ℕ) (letters widths l : List ℕ) where
+  no-line : (r : Parsed) → r .ok ≡ false → ((ks : List Kind) → Forms ks letters widths → lineOf most ks l ≡ none) → LineIs most letters widths l r
+  no-line r b h = record { known = λ t. absurd (true≢false (sym t ∙ b)); of = λ ks F. rw (b, h ks F) }
 
-  line-known : k < 3 → lineOf l ≡ ofKind (kindAt k) (numbersOf (width (kindAt k)) (partsFrom comma 2 l))
-  line-known h = rw (line-letter, lt-ltb k 3 h)
+  pub line-not-one : (r : Parsed) → r .ok ≡ false → (spanOf comma l ≡ 1 → ⊥) → LineIs most letters widths l r
+  line-not-one r b h = no-line r b (λ ks F. line-first most ks l h)
 
-  -- the reader of its numbers handed back `ok` and vs
-  module _ (vs : List ℕ) (w : ℕ) (ok : Bool) (h : k < 3) (d : w ≡ width (kindAt k)) (q : pick ok (some (take w vs)) none ≡ numbersOf w (partsFrom comma 2 l)) where
-    pub line-yes : ok ≡ true → some (lineAt k vs) ≡ lineOf l
-    line-yes t = rw (line-known h, ← d, ← q, t, d)
+  -- the first field is one byte, which has the position k
+  module _ (e : spanOf comma l ≡ 1) (k : ℕ) (d : k ≡ positionOf (getD l 0 0) letters) where
+    pub line-unknown : (r : Parsed) → r .ok ≡ false → k ≡ length letters → LineIs most letters widths l r
+    line-unknown r b h =
+        no-line r b (λ ks F.
+        ⊎-elim
+        (λ s. rw (line-letter most ks l e, s .1))
+        (λ s. absurd (omega (arith, s, forms-letters letters widths ks F)))
+        (stands letters widths (getD l 0 0) k d ks F))
 
-    pub line-no : ok ≡ false → lineOf l ≡ none
-    line-no f = rw (line-known h, ← d, ← q, f)
+    -- the letter is known, and the reader of its numbers handed back n
+    pub line-known : SomeForms letters widths → k ≢ length letters → (n : Numbers)
+        → asNumbers (number widths k) n ≡ numbersOf most (number widths k) (partsFrom comma 2 l)
+        → LineIs most letters widths l (record { ok = n .ok; kind = k; values = n .values })
+    line-known S h n q = record { known = λ _. letter-below letters widths (getD l 0 0) k d S h; of = of }
+      where
+        made : (b : Bool) (j : Kind) (w : ℕ) → w ≡ width j → pick b (some (line j (take (width j) (n .values)))) none ≡ pick b (some (take w (n .values))) none then λ ns. some (line j ns)
+        made true j w e = rw e
+        made false j w e = refl
+
+        of : (ks : List Kind) → Forms ks letters widths → pick (n .ok) (some (lineOfKinds ks k (n .values))) none ≡ lineOf most ks l
+        of ks F =
+            let s = known letters widths (getD l 0 0) k d ks F h in
+            let w : number widths k ≡ width (getD ks k kindS) = rw (F .widths-are) (width-at ks k (s .0)) in
+            made (n .ok) (getD ks k kindS) (number widths k) w ∙ sym (rw (line-letter most ks l e, s .1, ← w, ← q))

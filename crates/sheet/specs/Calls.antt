@@ -3,48 +3,62 @@
 use mathlib.Core.Bool.{Bool, not, _||_}
 use mathlib.Core.List.{List, [], _∷_, _++_, map}
 use mathlib.Core.Option.{some}
-use Prim.Native.Nat.{ℕ, _/_, _%_}
+use Prim.Native.Nat.{ℕ, _*_, _/_, _%_}
 use lib.Dec.{ltb, eqb}
-use lib.ListN.{length, drop}
-use Rattle.sheet.specs.Lists.{pick, filled, rows, flat}
-use Rattle.sheet.specs.Kinds.{Kind, kindS, kindC, kindO}
-use Rattle.sheet.specs.Sheet.{Sheet, sheetLines, Outcome, refused, loaded, judge, readOf}
+use lib.ListN.{length, take, drop}
+use Rattle.sheet.specs.Lists.{pick, number, filled, rows, flat}
+use Rattle.sheet.specs.Kinds.{Kind, width, room, kindS, kindC, kindO, kinds}
+use Rattle.sheet.specs.Sheet.{Sheet, sheetLines, Outcome, refused, loaded, told, judge, readOf}
 use Rattle.sheet.specs.Text.{sheetText}
 use Rattle.sheet.specs.declared.SheetRead.{SheetRead}
 use Rattle.sheet.specs.declared.SheetWritten.{SheetWritten}
 
--- the count of numbers in a line of the kind, and in the most lines of it
-abbrev pub width : Kind → ℕ
-width k = length (k .limits)
+-- an answer of the reader: the groups by value, at full length (7, 1,280 and 768 numbers), zeros past the last line
+abbrev pub readEnd : ℕ → ℕ → List ℕ → List ℕ → List ℕ → List ℕ → SheetRead
+readEnd k n ls h cs os =
+    record { refusal = k; line = n; lines = filled (length kinds) ls; head = filled (room kindS) h; corridors = filled (room kindC) cs; occupancies = filled (room kindO) os }
 
--- the groups by value, at full length (7, 1,280 and 768 numbers), zeros past the last line; after a refusal zeros in all of them
+-- after a refusal zeros in all of them
 unfoldable pub readAnswer : Outcome → SheetRead
-readAnswer (refused k n) =
-    record { refusal = k; line = n; lines = filled 3 []; head = filled 7 []; corridors = filled 1280 []; occupancies = filled 768 [] }
-readAnswer (loaded s) =
-    record {
-      refusal = 0;
-      line = 0;
-      lines = 1 ∷ length (s .corridors) ∷ length (s .occupancies) ∷ [];
-      head = filled 7 (s .head);
-      corridors = filled 1280 (flat (s .corridors));
-      occupancies = filled 768 (flat (s .occupancies));
-    }
+readAnswer (refused k n) = readEnd k n [] [] [] []
+readAnswer (loaded s) = readEnd 0 0 (1 ∷ length (s .corridors) ∷ length (s .occupancies) ∷ []) (s .head) (flat (s .corridors)) (flat (s .occupancies))
 
 unfoldable pub readCall : List ℕ → SheetRead
 unfolding readAnswer readOf
 readCall b = readAnswer (readOf b)
 
+-- the groups that the writer takes: the numbers of the lines of each kind, one after another
+pub record Groups : Type 0 where
+  pub head : List ℕ
+  pub corridors : List ℕ
+  pub occupancies : List ℕ
+
+abbrev pub groups : List ℕ → List ℕ → List ℕ → Groups
+groups h cs os = record { head = h; corridors = cs; occupancies = os }
+
+-- the groups that the reader handed back: of each the numbers up to its last line
+abbrev pub groupsRead : SheetRead → Groups
+groupsRead r = groups (r .head) (take (number (r .lines) 1 * width kindC) (r .corridors)) (take (number (r .lines) 2 * width kindO) (r .occupancies))
+
 -- the numbers of a group do not make whole lines of the kind
 abbrev pub leftOver : Kind → List ℕ → Bool
 leftOver k l = not (eqb (length l % width k) 0)
+
+-- the first group is not exactly one S line's numbers, or another has numbers left over after its last whole line
+abbrev pub uneven : Groups → Bool
+uneven g = not (eqb (length (g .head)) (width kindS)) || leftOver kindC (g .corridors) || leftOver kindO (g .occupancies)
 
 -- the lines of a group
 abbrev pub groupRows : Kind → List ℕ → List (List ℕ)
 groupRows k l = rows (width k) (length l / width k) l
 
-abbrev pub sheetOfGroups : List ℕ → List ℕ → List ℕ → Sheet
-sheetOfGroups h cs os = record { head = h; corridors = groupRows kindC cs; occupancies = groupRows kindO os }
+abbrev pub sheetOfGroups : Groups → Sheet
+sheetOfGroups g = record { head = g .head; corridors = groupRows kindC (g .corridors); occupancies = groupRows kindO (g .occupancies) }
+
+-- the lines of the groups, by the reader's tests
+unfoldable pub judgedGroups : Groups → Outcome
+unfolding judge
+judgedGroups g = judge [] (map some (sheetLines (sheetOfGroups g)))
 
 -- the writer's answer, and the lent buffer afterwards
 pub record WriteEnd : Type 0 where
@@ -54,22 +68,21 @@ pub record WriteEnd : Type 0 where
 abbrev pub writeEnd : SheetWritten → List ℕ → WriteEnd
 writeEnd r out = record { answer = r; out = out }
 
-abbrev pub writeRefused : ℕ → ℕ → List ℕ → WriteEnd
-writeRefused k n out = record { answer = record { refusal = k; line = n; bytes = 0 }; out = out }
+abbrev pub writeRefused : List ℕ → ℕ → ℕ → WriteEnd
+writeRefused out k n = writeEnd (record { refusal = k; line = n; bytes = 0 }) out
 
 -- the text at the front of the buffer, what is past it kept; 12 where the buffer is shorter
-abbrev pub written : List ℕ → List ℕ → WriteEnd
-written t out =
-    pick (ltb (length out) (length t)) (writeRefused 12 0 out)
-    (record { answer = record { refusal = 0; line = 0; bytes = length t }; out = t ++ drop (length t) out })
-
-abbrev pub writeJudged : Outcome → List ℕ → WriteEnd
-writeJudged (refused k n) out = writeRefused k n out
-writeJudged (loaded s) out = written (sheetText s) out
+unfoldable pub written : List ℕ → Sheet → WriteEnd
+unfolding sheetText
+written out s =
+    let t = sheetText s in
+    pick (ltb (length out) (length t)) (writeRefused out 12 0) (writeEnd (record { refusal = 0; line = 0; bytes = length t }) (t ++ drop (length t) out))
 
 -- 2 at line 0 by the lengths of the groups; then the lines, by the reader's tests; then 12
-unfoldable pub writeCall : List ℕ → List ℕ → List ℕ → List ℕ → WriteEnd
-unfolding judge sheetText
-writeCall h cs os out =
-    pick (not (eqb (length h) (width kindS)) || leftOver kindC cs || leftOver kindO os) (writeRefused 2 0 out)
-    (writeJudged (judge [] (map some (sheetLines (sheetOfGroups h cs os)))) out)
+unfoldable pub writeGroups : Groups → List ℕ → WriteEnd
+unfolding judgedGroups written
+writeGroups g out = pick (uneven g) (writeRefused out 2 0) (told (writeRefused out) (written out) (judgedGroups g))
+
+-- the call that writes a sheet
+abbrev pub writeCall : List ℕ → List ℕ → List ℕ → List ℕ → WriteEnd
+writeCall head corridors occupancies out = writeGroups (groups head corridors occupancies) out

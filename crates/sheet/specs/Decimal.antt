@@ -29,5 +29,5 @@ digitsOf zero n = []
 digitsOf (suc most) n = pick (ltb n 10) ((48 + n) ∷ []) (digitsOf most (n / 10) ++ ((48 + n % 10) ∷ []))
 
 -- the most digits of a number on a sheet
-abbrev pub most : ℕ
-most = 5
+abbrev pub mostDigits : ℕ
+mostDigits = 5

@@ -1,40 +1,128 @@
 -- What the functions of the reader and the writer promise each other. The contracts of `read` and `write` cite nothing of this file.
-use mathlib.Core.Bool.{true, false}
+use mathlib.Core.Bool.{Bool, true, false, not, _&&_, _||_}
 use mathlib.Core.Path.{_≡_}
 use mathlib.Core.List.{List, [], _∷_, _++_, map}
 use mathlib.Core.Option.{Option, some, none}
-use Prim.Native.Nat.{ℕ, zero, suc, _+_, _/_, _≤_, _<_}
-use lib.Dec.{ltb, leb, eqb}
-use lib.ListN.{length, take, drop}
-use Rattle.sheet.specs.Lists.{pick, _∈_, filter, filled, rows, bind, flat}
+use Prim.Native.Nat.{ℕ, zero, suc, _+_, _*_, _-_, _≤_, _<_}
+use lib.Dec.{leb, eqb}
+use lib.ListN.{length, getD, take, drop}
+use lib.Seq.{sets}
+use Rattle.sheet.specs.Lists.{pick, number, any, lexb, rows, bind}
 use Rattle.sheet.specs.Bytes.{kindOf, comma, split}
-use Rattle.sheet.specs.Decimal.{digitsFrom, numberOf, most}
-use Rattle.sheet.specs.Kinds.{Limit, between, place, Kind, kindS, kindC, kindO}
-use Rattle.sheet.specs.Lines.{Line, line, textLines}
-use Rattle.sheet.specs.Sheet.{isKind, group, placesIn, latest, fault, refused, judge}
-use Rattle.sheet.specs.Text.{lineText}
-use Rattle.sheet.specs.Calls.{width}
+use Rattle.sheet.specs.Decimal.{digitsFrom, numberOf, mostDigits}
+use Rattle.sheet.specs.Kinds.{Limit, between, place, step, cost, Pair, alone, different, ordered, Kind, width, kindS, kinds}
+use Rattle.sheet.specs.Lines.{Line, line, lineOf, textLines}
+use Rattle.sheet.specs.Sheet.{Sheet, group, fault, lacking, Outcome, refused, loaded, judge}
+use Rattle.sheet.specs.Text.{lineText, sheetText}
+use Rattle.sheet.specs.Calls.{readAnswer, groupRows}
+use Rattle.sheet.specs.Store.{kindAt, baseOf, spread, StoreOf}
+use Rattle.sheet.specs.Laws.Judge.{Passes}
 use Rattle.sheet.specs.Laws.Shape.{AllShaped}
+use Rattle.sheet.specs.declared.SheetRead.{SheetRead}
+use Rattle.sheet.specs.declared.kinds.Row.{Row}
 use Rattle.sheet.specs.declared.lines.Field.{Field}
 use Rattle.sheet.specs.declared.lines.Numbers.{Numbers}
 use Rattle.sheet.specs.declared.lines.Parsed.{Parsed}
-use Rattle.sheet.specs.declared.judge.Tally.{Tally}
-use Rattle.sheet.specs.declared.judge.Verdict.{Verdict}
-use Rattle.sheet.specs.declared.reader.Next.{Next}
+use Rattle.sheet.specs.declared.lines.Next.{Next}
+use Rattle.sheet.specs.declared.reader.Verdict.{Verdict}
 
--- the kind of line with number k in the order of kinds
-abbrev pub kindAt : ℕ → Kind
-kindAt zero = kindS
-kindAt (suc zero) = kindC
-kindAt (suc (suc k)) = kindO
+-- the limit and the pair that the numbers in a row stand for
+abbrev pub limitAt : ℕ → Limit
+limitAt zero = place
+limitAt (suc zero) = step
+limitAt (suc (suc zero)) = cost
+limitAt (suc (suc (suc n))) = between 1 64
 
--- the kind that a number stands for; none from 3 on
-abbrev pub asKind : ℕ → Option Kind
-asKind k = pick (ltb k 3) (some (kindAt k)) none
+abbrev pub pairAt : ℕ → ℕ → ℕ → Pair
+pairAt zero i j = alone
+pairAt (suc zero) i j = different i j
+pairAt (suc (suc n)) i j = ordered i j
 
--- the limit that two ends stand for: the low and the high end, or 0 as the high end of a place
-abbrev pub limitOf : ℕ → ℕ → Limit
-limitOf low high = pick (eqb high 0) place (between low high)
+-- r is the row of the kind with number k
+pub record RowIs (k : ℕ) (r : Row) : Type 0 where
+  pub letter-is : r .letter ≡ kindAt k .letter
+  pub width-is : r .width ≡ width (kindAt k)
+  pub limits-are : map limitAt (take (r .width) (r .limits)) ≡ kindAt k .limits
+  pub most-is : r .most ≡ kindAt k .most
+  pub pair-is : pairAt (r .pair) (r .one) (r .other) ≡ kindAt k .pair
+  pub one-inside : r .one < r .width
+  pub other-inside : r .other < r .width
+  pub key-is : r .key ≡ kindAt k .key
+  pub base-is : r .base ≡ baseOf k
+
+-- the line of kind number k whose numbers stand in the array v
+abbrev pub lineAt : ℕ → List ℕ → Line
+lineAt k v = line (kindAt k) (take (width (kindAt k)) v)
+
+-- test 3, from the counts of lines; test 5, from the last row of n
+abbrev pub misplacedBy : List ℕ → ℕ → Bool
+misplacedBy lines k =
+    pick (eqb k 0) (not (eqb (number lines 0) 0)) (eqb (number lines 0) 0 || any (λ n. not (eqb n 0)) (drop (suc k) lines))
+
+abbrev pub notAboveBy : List ℕ → Row → ℕ → List ℕ → Bool
+notAboveBy all r n v = not (eqb n 0) && not (lexb (take (r .key) (drop (r .base + (n - 1) * r .width) all)) (take (r .key) v))
+
+-- n lines of the row stand in an array of so many numbers
+pub record RowFits (r : Row) (n len : ℕ) : Type 0 where
+  pub narrow : r .width ≤ 8
+  pub key-inside : r .key ≤ r .width
+  pub few : n ≤ 256
+  pub low : r .base ≤ 100000
+  pub inside : r .base + n * r .width ≤ len
+
+-- lines that are in shape and pass stand in the array, with these counts
+pub record Stored (before : List Line) (lines all : List ℕ) : Type 0 where
+  pub shaped : AllShaped before
+  pub passes : Passes [] before
+  pub counts : lines ≡ map (λ k. length (group k before)) kinds
+  pub cells : all ≡ spread kinds (map (λ k. group k before) kinds)
+
+pub record Kept (lines all : List ℕ) : Type 0 where
+  pub before : List Line
+  pub stored : Stored before lines all
+
+-- n is the fault of the line l after the lines in the array
+pub record FaultIs (lines all : List ℕ) (l : Line) (n : ℕ) : Type 0 where
+  pub of : (before : List Line) → Stored before lines all → n ≡ fault before l
+
+-- b tells whether something is missing where the input ends
+pub record LacksIs (lines : List ℕ) (b : Bool) : Type 0 where
+  pub of : (before : List Line) (all : List ℕ) → Stored before lines all → b ≡ lacking before
+
+-- r is the fault of the line l after the lines in the array; where it is 0, the array holds the line too
+pub record Takes (lines all : List ℕ) (l : Line) (lines′ all′ : List ℕ) (r : ℕ) : Type 0 where
+  pub fault-is : FaultIs lines all l r
+  pub stored : (before : List Line) → Stored before lines all → r ≡ 0 → Stored (before ++ (l ∷ [])) lines′ all′
+
+-- lines stand in the array after which the lines `todo` are judged as `end`; n is the number of the next line
+pub record Reached (end : Outcome) (todo : List (Option Line)) (lines all : List ℕ) (n : ℕ) : Type 0 where
+  pub before : List Line
+  pub stored : Stored before lines all
+  pub next : n ≡ suc (length before)
+  pub same : judge before todo ≡ end
+
+-- r is what the reader hands back of the sheet in the array
+pub record AnswerIs (lines all : List ℕ) (r : SheetRead) : Type 0 where
+  pub of : (s : Sheet) → StoreOf s lines all → r ≡ readAnswer (loaded s)
+
+-- v tells how a group's lines were judged: the refusal, or 0 and the number of the next line, with the lines of the rest still to be judged
+pub record GroupIs (end : Outcome) (rest : List (Option Line)) (lines all : List ℕ) (v : Verdict) : Type 0 where
+  pub refuses : (v .refusal ≡ 0 → ⊥) → end ≡ refused (v .refusal) (v .line)
+  pub reaches : v .refusal ≡ 0 → Reached end rest lines all (v .line)
+
+-- the array holds lines, and n is the number of the next one
+pub record GroupReached (lines all : List ℕ) (n : ℕ) : Type 0 where
+  pub before : List Line
+  pub stored : Stored before lines all
+  pub next : n ≡ suc (length before)
+
+-- the lines of the kind with number k whose numbers stand in g one after another
+abbrev pub groupLines : ℕ → List ℕ → List Line
+groupLines k g = map (line (kindAt k)) (groupRows (kindAt k) g)
+
+-- v tells how the lines of a group were judged, whatever comes after them
+pub record GroupTaken (k : ℕ) (g lines all : List ℕ) (n : ℕ) (lines′ all′ : List ℕ) (v : Verdict) : Type 0 where
+  pub of : (end : Outcome) (rest : List (Option Line)) → Reached end (map some (groupLines k g) ++ rest) lines all n → GroupIs end rest lines′ all′ v
 
 -- the values of f at i and the numbers after it, n of them
 abbrev pub listed : (ℕ → ℕ) → ℕ → ℕ → List ℕ
@@ -64,89 +152,77 @@ asField r = pick (r .ok) (some (r .value)) none
 abbrev pub asNumbers : ℕ → Numbers → Option (List ℕ)
 asNumbers w r = pick (r .ok) (some (take w (r .values))) none
 
--- the line of kind number k whose numbers stand in the array v
-abbrev pub lineAt : ℕ → List ℕ → Line
-lineAt k v = line (kindAt k) (take (width (kindAt k)) v)
+-- the letters and the counts of numbers of these kinds of lines, of at most eight numbers each
+pub record Forms (ks : List Kind) (letters widths : List ℕ) : Type 0 where
+  pub letters-are : letters ≡ map (λ k. k .letter) ks
+  pub widths-are : widths ≡ map width ks
+  pub narrow : (i : ℕ) → number widths i ≤ 8
 
-abbrev pub asParsed : Parsed → Option Line
-asParsed r = pick (r .ok) (some (lineAt (r .kind) (r .values))) none
+pub record SomeForms (letters widths : List ℕ) : Type 0 where
+  pub kinds-of : List Kind
+  pub forms : Forms kinds-of letters widths
+
+-- the position of the first c in a list, or its length
+abbrev pub positionOf : ℕ → List ℕ → ℕ
+positionOf c [] = 0
+positionOf c (x ∷ l) = let r = suc (positionOf c l) in pick (eqb x c) 0 r
+
+-- the line of the kind at position k of ks whose numbers stand in the array v
+abbrev pub lineOfKinds : List Kind → ℕ → List ℕ → Line
+lineOfKinds ks k v = line (getD ks k kindS) (take (width (getD ks k kindS)) v)
+
+abbrev pub asParsed : List Kind → Parsed → Option Line
+asParsed ks r = pick (r .ok) (some (lineOfKinds ks (r .kind) (r .values))) none
+
+-- r is what the bytes p of a line stand for, among lines of these forms
+pub record LineIs (most : ℕ) (letters widths p : List ℕ) (r : Parsed) : Type 0 where
+  pub known : r .ok ≡ true → r .kind < length letters
+  pub of : (ks : List Kind) → Forms ks letters widths → asParsed ks r ≡ lineOf most ks p
+
+-- r is the next line of the text from `at` on, where something is left: up to its line feed, or refused by test 2
+pub record NextIs (most : ℕ) (letters widths src : List ℕ) (at : ℕ) (r : Next) : Type 0 where
+  pub ahead : at ≤ r .end
+  pub within : r .ok ≡ true → r .end < length src
+  pub known : r .ok ≡ true → r .kind < length letters
+  pub bad : (ks : List Kind) → Forms ks letters widths → r .ok ≡ false → (ls : List (Option Line)) × (textLines most ks (drop at src) ≡ none ∷ ls)
+  pub good : (ks : List Kind) → Forms ks letters widths → r .ok ≡ true
+      → textLines most ks (drop at src) ≡ some (lineOfKinds ks (r .kind) (r .values)) ∷ textLines most ks (drop (r .end + 1) src)
 
 -- the bytes from a position on up to the first comma
 abbrev pub fieldFrom : List ℕ → ℕ → List ℕ
 fieldFrom l at = take (spanOf comma (drop at l)) (drop at l)
 
 -- r is the digits of the field from `at` on; where it is not ok, the field is no number
-pub record DigitsAre (l : List ℕ) (at : ℕ) (r : Field) : Type 0 where
+pub record DigitsAre (most : ℕ) (l : List ℕ) (at : ℕ) (r : Field) : Type 0 where
   pub ends : r .ok ≡ true → r .end ≡ at + spanOf comma (drop at l)
   pub reads : r .ok ≡ true → digitsFrom 0 (fieldFrom l at) ≡ some (r .value)
   pub fails : r .ok ≡ false → numberOf most (fieldFrom l at) ≡ none
 
 -- r is the number of the field from `at` on
-pub record FieldIs (l : List ℕ) (at : ℕ) (r : Field) : Type 0 where
+pub record FieldIs (most : ℕ) (l : List ℕ) (at : ℕ) (r : Field) : Type 0 where
   pub ends : r .ok ≡ true → r .end ≡ at + spanOf comma (drop at l)
   pub number : asField r ≡ numberOf most (fieldFrom l at)
 
--- the line before, of a tally
-abbrev pub lineBefore : Tally → Option Line
-lineBefore t = pick (eqb (t .lines) 0) none (some (lineAt (t .kind) (t .values)))
+-- the array has the numbers of n lines of the kind with number k
+pub record GroupFits (k n : ℕ) (all : List ℕ) : Type 0 where
+  pub few : n ≤ 256
+  pub inside : baseOf k + n * width (kindAt k) ≤ length all
 
--- the tally of the lines before a line: their count; the places of the sheet; the last of them, with the number of lines of its kind
-pub record Tallied (before : List Line) (t : Tally) : Type 0 where
-  pub counted : t .lines ≡ length before
-  pub places : t .places ≡ placesIn before
-  pub known : t .kind < 3
-  pub last : latest before ≡ lineBefore t
-  pub of-kind : t .count ≡ length (filter (isKind (kindAt (t .kind))) before)
-  pub none-later : (l : Line) → l ∈ before → l .kind .order ≤ t .kind
-
--- n is the fault of the line l after the lines that t tallies
-pub record FaultIs (t : Tally) (l : Line) (n : ℕ) : Type 0 where
-  pub of : (before : List Line) → Tallied before t → n ≡ fault before l
-
--- r tallies the lines of t and then l, where l has no fault
-pub record Continues (t : Tally) (l : Line) (r : Tally) : Type 0 where
-  pub of : (before : List Line) → Tallied before t → fault before l ≡ 0 → Tallied (before ++ (l ∷ [])) r
-
--- the groups in the reader's arrays: the numbers of the lines of each kind, zeros past them, and the count of lines of each; the lines are in shape
-pub record Stored (before : List Line) (head corridors occupancies lines : List ℕ) : Type 0 where
-  pub shaped : AllShaped before
-  pub of-s : head ≡ filled 7 (flat (group kindS before))
-  pub of-c : corridors ≡ filled 1280 (flat (group kindC before))
-  pub of-o : occupancies ≡ filled 768 (flat (group kindO before))
-  pub counts : lines ≡ length (group kindS before) ∷ length (group kindC before) ∷ length (group kindO before) ∷ []
-
--- the arrays hold lines after which l has no fault
-pub record Storable (l : Line) (head corridors occupancies lines : List ℕ) : Type 0 where
-  pub before : List Line
-  pub stored : Stored before head corridors occupancies lines
-  pub no-fault : fault before l ≡ 0
-
--- the arrays afterwards hold the same lines and then l
-pub record Stores (l : Line) (head corridors occupancies lines head′ corridors′ occupancies′ lines′ : List ℕ) : Type 0 where
-  pub of : (before : List Line) → Stored before head corridors occupancies lines → fault before l ≡ 0 → Stored (before ++ (l ∷ [])) head′ corridors′ occupancies′ lines′
-
--- r is the next line of the text from `at` on, judged after the lines that t tallies: the refusal, or the line up to its line feed, with no fault
-pub record NextIs (src : List ℕ) (at : ℕ) (t : Tally) (r : Next) : Type 0 where
-  pub known : r .kind < 3
-  pub ahead : at ≤ r .end
-  pub within : r .refusal ≡ 0 → r .end < length src
-  pub refuses : (before : List Line) → Tallied before t → (r .refusal ≡ 0 → ⊥) → judge before (textLines (drop at src)) ≡ refused (r .refusal) (suc (length before))
-  pub no-fault : (before : List Line) → Tallied before t → r .refusal ≡ 0 → fault before (lineAt (r .kind) (r .values)) ≡ 0
-  pub passes : (before : List Line) → Tallied before t → r .refusal ≡ 0 → judge before (textLines (drop at src)) ≡ judge (before ++ (lineAt (r .kind) (r .values) ∷ [])) (textLines (drop (r .end + 1) src))
-
--- the judgement of a group's lines, after the lines before it and ahead of the rest: the refusal, or the tally with them
-pub data JudgedGroup (before ls : List Line) (v : Verdict) : Type 0 where
-  refuses : (v .refusal ≡ 0 → ⊥) → ((rest : List (Option Line)) → judge before (map some ls ++ rest) ≡ refused (v .refusal) (v .line)) → JudgedGroup before ls v
-  passes : v .refusal ≡ 0 → ((rest : List (Option Line)) → judge before (map some ls ++ rest) ≡ judge (before ++ ls) rest) → Tallied (before ++ ls) (v .tally) → JudgedGroup before ls v
-
-pub record GroupIs (t : Tally) (ls : List Line) (v : Verdict) : Type 0 where
-  pub of : (before : List Line) → Tallied before t → JudgedGroup before ls v
-
--- the lines of the kind with number k whose numbers stand in g one after another
-abbrev pub groupLines : ℕ → List ℕ → List Line
-groupLines k g = map (line (kindAt k)) (rows (width (kindAt k)) (length g / width (kindAt k)) g)
-
--- the text of n lines of the kind with number k, whose numbers stand in g one after another
+-- the text of n lines of the kind with number k, whose numbers stand in the array
 unfoldable pub groupText : ℕ → ℕ → List ℕ → List ℕ
 unfolding lineText
-groupText k n g = bind (map (line (kindAt k)) (rows (width (kindAt k)) n g)) lineText
+groupText k n all = bind (map (line (kindAt k)) (rows (width (kindAt k)) n (drop (baseOf k) all))) (lineText mostDigits)
+
+-- r is the count of bytes of the sheet in the array
+pub record BytesAre (lines all : List ℕ) (r : ℕ) : Type 0 where
+  pub of : (s : Sheet) → StoreOf s lines all → r ≡ length (sheetText s)
+
+-- a sheet stands in the array, and the buffer has room for its text
+pub record SheetFits (lines all out : List ℕ) : Type 0 where
+  pub sheet : Sheet
+  pub store : StoreOf sheet lines all
+  pub room : length (sheetText sheet) ≤ length out
+
+-- the text of the sheet in the array was written to the front of the buffer
+pub record PutsSheet (lines all out out′ : List ℕ) : Type 0 where
+  pub of : (s : Sheet) → StoreOf s lines all → out′ ≡ sets out 0 (sheetText s)

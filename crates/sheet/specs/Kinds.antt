@@ -3,7 +3,8 @@
 --   `C,from,to,c1,c2,c3`                   up to 256, strictly ascending by (from, to)
 --   `O,place,first,last`                   up to 256, strictly ascending by (place, first, last)
 use mathlib.Core.List.{List, [], _∷_}
-use Prim.Native.Nat.{ℕ}
+use Prim.Native.Nat.{ℕ, _*_}
+use lib.ListN.{length}
 
 -- what a number may be: from the one to the other, both included; or a place of this sheet, below its `places`
 pub data Limit : Type 0 where
@@ -28,6 +29,13 @@ pub record Kind : Type 0 where
   pub key : ℕ
   -- its place in the order of kinds
   pub order : ℕ
+
+-- the count of numbers in a line of the kind, and in the most lines of it
+abbrev pub width : Kind → ℕ
+width k = length (k .limits)
+
+abbrev pub room : Kind → ℕ
+room k = k .most * width k
 
 abbrev pub step : Limit
 step = between 0 255

@@ -8,6 +8,7 @@ pub mod Sheet
 pub mod Text
 pub mod Valid
 pub mod Calls
+pub mod Store
 pub mod Inner
 pub mod LineEnds
 pub mod Laws

@@ -1,14 +1,16 @@
 -- The line reader (document 01, "The sheet": "The line reader goes on from the byte after the last line feed"; refusal 2: "a line feed missing"):
 -- where the line from a position on ends, what such an answer stands for, and where the reader stands.
 -- The contracts of `read` and `write` cite nothing of this file.
+use mathlib.Core.Path.{_≡_}
 use mathlib.Core.List.{List, [], _∷_}
 use mathlib.Core.Option.{Option, none}
-use Prim.Native.Nat.{ℕ, _+_, _-_}
+use Prim.Native.Nat.{ℕ, _+_, _-_, _≤_, _<_}
 use lib.Dec.{leb, eqb}
 use lib.ListN.{length, take, drop}
 use denote.Ref.{RefT}
 use Rattle.sheet.specs.Lists.{pick}
 use Rattle.sheet.specs.Bytes.{lineFeed}
+use Rattle.sheet.specs.Kinds.{Kind}
 use Rattle.sheet.specs.Lines.{Line, lineOf, textLines}
 use Rattle.sheet.specs.Inner.{spanOf}
 use Rattle.sheet.specs.declared.line_reader.LineReader.{LineReader}
@@ -23,12 +25,22 @@ feedFrom src at = at + spanOf lineFeed (drop at src)
 abbrev pub lineEndAt : List ℕ → ℕ → LineEnd
 lineEndAt src at = pick (leb (length src) at) Over (pick (eqb (feedFrom src at) (length src)) Missing (At (feedFrom src at)))
 
--- the lines of the text from `at` on, by where the first of them ends; test 2 refuses the one whose line feed is missing.
--- At `lineEndAt src at` they are `textLines (drop at src)` (`told`, proofs/LineEnding.antt)
-abbrev pub linesBy : List ℕ → ℕ → LineEnd → List (Option Line)
-linesBy src at (At e) = lineOf (take (e - at) (drop at src)) ∷ textLines (drop (e + 1) src)
-linesBy src at Missing = none ∷ []
-linesBy src at Over = []
+-- what such an answer says of the position, and what it stands for: the lines of the text from `at` on; test 2 refuses the one whose line feed is missing
+abbrev pub inside : List ℕ → ℕ → LineEnd → Type 0
+inside src at (At e) = (at ≤ e) × (e < length src)
+inside src at Missing = at < length src
+inside src at Over = length src ≤ at
+
+abbrev pub linesBy : ℕ → List Kind → List ℕ → ℕ → LineEnd → List (Option Line)
+linesBy most ks src at (At e) = lineOf most ks (take (e - at) (drop at src)) ∷ textLines most ks (drop (e + 1) src)
+linesBy most ks src at Missing = none ∷ []
+linesBy most ks src at Over = []
+
+-- r is where the line from `at` on ends, and the text from there on has the lines that r stands for
+pub record EndIs (src : List ℕ) (at : ℕ) (r : LineEnd) : Type 0 where
+  pub found : r ≡ lineEndAt src at
+  pub within : inside src at r
+  pub lines : (most : ℕ) (ks : List Kind) → textLines most ks (drop at src) ≡ linesBy most ks src at r
 
 -- the reader of a sheet's bytes, and the same bytes after the line feed at e
 abbrev pub opened : RefT (List ℕ) → LineReader

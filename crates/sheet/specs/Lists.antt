@@ -4,6 +4,7 @@ use mathlib.Core.Path.{_≡_}
 use mathlib.Core.Logic.{_⊎_}
 use mathlib.Core.Bool.{Bool, true, false, _&&_, _||_}
 use mathlib.Core.List.{List, [], _∷_, _++_}
+use mathlib.Core.Option.{Option, some, none}
 use Prim.Native.Nat.{ℕ, zero, suc, _-_, _<_}
 use lib.Dec.{ltb, eqb}
 use lib.ListN.{length, getD, take, drop, replicate}
@@ -12,6 +13,12 @@ use lib.ListN.{length, getD, take, drop, replicate}
 abbrev pub pick {ℓ} : {A : Type ℓ} → Bool → A → A → A
 pick true a b = a
 pick false a b = b
+
+infixl 40 _then_
+-- what f makes of a value, where there is one
+abbrev pub _then_ : {A B : Type 0} → Option A → (A → Option B) → Option B
+none then f = none
+(some a) then f = f a
 
 -- number i of a list, from 0; 0 past its end
 abbrev pub number : List ℕ → ℕ → ℕ
@@ -85,15 +92,3 @@ lexb [] [] = false
 lexb [] (y ∷ b) = true
 lexb (x ∷ a) [] = false
 lexb (x ∷ a) (y ∷ b) = after (ltb x y) (eqb x y) (lexb a b)
-
--- things in the order of their keys, which are lists of numbers
-module _ {A : Type 0} (key : A → List ℕ) where
-  -- x stands before the first member
-  abbrev pub Before : A → List A → Type 0
-  Before x [] = Unit {0}
-  Before x (y ∷ l) = Lex (key x) (key y)
-
-  -- strictly ascending
-  abbrev pub Ascending : List A → Type 0
-  Ascending [] = Unit {0}
-  Ascending (x ∷ l) = Before x l × Ascending l

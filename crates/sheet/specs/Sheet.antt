@@ -1,13 +1,14 @@
 -- The sheet: its groups, the tests of a line, and what bytes read as (document 01, "The sheet" and "Who causes which refusal").
 -- The lines before a line are given whole, in the order of the sheet.
-use mathlib.Core.Bool.{Bool, false, not, _&&_, _||_}
+use mathlib.Core.Bool.{Bool, true, false, not, _||_}
 use mathlib.Core.List.{List, [], _∷_, _++_, map}
 use mathlib.Core.Option.{Option, some, none}
 use Prim.Native.Nat.{ℕ, suc}
 use lib.Dec.{ltb, leb, eqb}
 use lib.ListN.{length, take}
 use Rattle.sheet.specs.Lists.{pick, number, filter, any, flat, lexb}
-use Rattle.sheet.specs.Kinds.{Limit, between, place, Pair, alone, different, ordered, Kind, kindS, kindC, kindO}
+use Rattle.sheet.specs.Decimal.{mostDigits}
+use Rattle.sheet.specs.Kinds.{Limit, between, place, Pair, alone, different, ordered, Kind, kindS, kindC, kindO, kinds}
 use Rattle.sheet.specs.Lines.{Line, line, textLines}
 
 -- the three groups: the numbers of the S line, of each C line and of each O line
@@ -46,21 +47,27 @@ first o = number o 1
 abbrev pub last : List ℕ → ℕ
 last o = number o 2
 
--- the line is of the kind k
-abbrev pub isKind : Kind → Line → Bool
-isKind k l = eqb (l .kind .order) (k .order)
-
 -- the numbers of each line of the kind k
 abbrev pub group : Kind → List Line → List (List ℕ)
-group k ls = map (λ l. l .numbers) (filter (isKind k) ls)
+group k ls = map (λ l. l .numbers) (filter (λ l. eqb (l .kind .order) (k .order)) ls)
 
 -- the sheet with these lines
 abbrev pub sheetOf : List Line → Sheet
 sheetOf ls = record { head = flat (group kindS ls); corridors = group kindC ls; occupancies = group kindO ls }
 
+-- the groups of a sheet, in the order of kinds
+abbrev pub groupsOf : Sheet → List (List (List ℕ))
+groupsOf s = (s .head ∷ []) ∷ s .corridors ∷ s .occupancies ∷ []
+
+-- the lines of groups, one group for each kind
+abbrev pub linesFrom : List Kind → List (List (List ℕ)) → List Line
+linesFrom [] gs = []
+linesFrom (k ∷ ks) [] = []
+linesFrom (k ∷ ks) (g ∷ gs) = map (line k) g ++ linesFrom ks gs
+
 -- the lines of a sheet: S, then the C lines, then the O lines
 abbrev pub sheetLines : Sheet → List Line
-sheetLines s = line kindS (s .head) ∷ (map (line kindC) (s .corridors) ++ map (line kindO) (s .occupancies))
+sheetLines s = linesFrom kinds (groupsOf s)
 
 -- test 3: no S line first, a second S, or a line after one of a later kind
 abbrev pub misplaced : List Line → Line → Bool
@@ -69,7 +76,7 @@ misplaced (m ∷ before) l = eqb (l .kind .order) 0 || any (λ k. ltb (l .kind .
 
 -- test 7: one line more than its kind may have
 abbrev pub tooMany : List Line → Line → Bool
-tooMany before l = leb (l .kind .most) (length (filter (isKind (l .kind)) before))
+tooMany before l = leb (l .kind .most) (length (group (l .kind) before))
 
 -- the number n is outside its limit, on a sheet of p places
 abbrev pub beyond : ℕ → Limit → ℕ → Bool
@@ -93,16 +100,16 @@ unpaired alone ns = false
 unpaired (different i j) ns = eqb (number ns i) (number ns j)
 unpaired (ordered i j) ns = ltb (number ns j) (number ns i)
 
--- the line before, if there is one
-abbrev pub latest : List Line → Option Line
+-- the last of a list, if there is one
+abbrev pub latest : List (List ℕ) → Option (List ℕ)
 latest [] = none
-latest (l ∷ []) = some l
-latest (l ∷ m ∷ ls) = latest (m ∷ ls)
+latest (n ∷ []) = some n
+latest (n ∷ m ∷ ns) = latest (m ∷ ns)
 
--- test 5: not above the line before, of the same kind
-abbrev pub notAbove : Option Line → Line → Bool
-notAbove none l = false
-notAbove (some m) l = isKind (l .kind) m && not (lexb (take (l .kind .key) (m .numbers)) (take (l .kind .key) (l .numbers)))
+-- test 5: not above the line of its kind before it, by the numbers that the kind ascends by
+abbrev pub notAbove : ℕ → Option (List ℕ) → List ℕ → Bool
+notAbove key none ns = false
+notAbove key (some ms) ns = not (lexb (take key ms) (take key ns))
 
 -- a test of a line: the refusal's number, and whether the line fails
 pub record Test : Type 0 where
@@ -119,7 +126,7 @@ tests before l =
     ∷ test 7 (tooMany before l)
     ∷ test 4 (outside (placesIn (before ++ (l ∷ []))) (l .kind .limits) (l .numbers))
     ∷ test 6 (unpaired (l .kind .pair) (l .numbers))
-    ∷ test 5 (notAbove (latest before) l)
+    ∷ test 5 (notAbove (l .kind .key) (latest (group (l .kind) before)) (l .numbers))
     ∷ []
 
 -- the number of the first test that fails, 0 where none does
@@ -136,12 +143,20 @@ pub data Outcome : Type 0 where
   refused : ℕ → ℕ → Outcome
   loaded : Sheet → Outcome
 
--- The lines one after another, each judged after those before it: the first faulty line is named, lines counting from 1.
--- Where there is no line at all, the S line is missing at line 1.
+-- what is made of an outcome: of the refusal's number and line, or of the sheet
+abbrev pub told : {A : Type 0} → (ℕ → ℕ → A) → (Sheet → A) → Outcome → A
+told refuse serve (refused k n) = refuse k n
+told refuse serve (loaded s) = serve s
+
+-- what is missing where the input ends after these lines (refusal 3): the S line
+abbrev pub lacking : List Line → Bool
+lacking [] = true
+lacking (l ∷ before) = false
+
+-- the lines one after another, each judged after those before it: the first faulty line is named, lines counting from 1
 unfoldable pub judge : List Line → List (Option Line) → Outcome
 unfolding fault
-judge [] [] = refused 3 1
-judge (m ∷ before) [] = loaded (sheetOf (m ∷ before))
+judge before [] = pick (lacking before) (refused 3 (suc (length before))) (loaded (sheetOf before))
 judge before (none ∷ ls) = refused 2 (suc (length before))
 judge before (some l ∷ ls) =
     let r = judge (before ++ (l ∷ [])) ls in
@@ -154,4 +169,4 @@ mostBytes = 10240
 -- what bytes read as
 unfoldable pub readOf : List ℕ → Outcome
 unfolding judge textLines
-readOf b = let r = judge [] (textLines b) in pick (ltb mostBytes (length b)) (refused 1 0) r
+readOf b = let r = judge [] (textLines mostDigits kinds b) in pick (ltb mostBytes (length b)) (refused 1 0) r

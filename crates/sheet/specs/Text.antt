@@ -1,20 +1,25 @@
--- What is written of a sheet (document 01, "The sheet" and "Written sheet"): each line's letter, a comma before each number, a line feed.
+-- What is written of lines (document 01, "The sheet" and "Written sheet"): a letter, a comma before each number, a line feed.
 use mathlib.Core.List.{List, [], _∷_, _++_}
 use Prim.Native.Nat.{ℕ}
 use Rattle.sheet.specs.Lists.{bind}
-use Rattle.sheet.specs.Decimal.{digitsOf, most}
+use Rattle.sheet.specs.Decimal.{digitsOf, mostDigits}
 use Rattle.sheet.specs.Lines.{Line}
 use Rattle.sheet.specs.Sheet.{Sheet, sheetLines}
 
--- a comma and the digits
-unfoldable pub numberText : ℕ → List ℕ
+-- a comma and the digits, of which there are at most `most`
+unfoldable pub numberText : ℕ → ℕ → List ℕ
 unfolding digitsOf
-numberText n = 44 ∷ digitsOf most n
+numberText most n = 44 ∷ digitsOf most n
 
-unfoldable pub lineText : Line → List ℕ
+-- the line with the letter c and these numbers
+unfoldable pub printed : ℕ → ℕ → List ℕ → List ℕ
 unfolding numberText
-lineText l = l .kind .letter ∷ (bind (l .numbers) numberText ++ (10 ∷ []))
+printed most c ns = c ∷ (bind ns (numberText most) ++ (10 ∷ []))
+
+unfoldable pub lineText : ℕ → Line → List ℕ
+unfolding printed
+lineText most l = printed most (l .kind .letter) (l .numbers)
 
 unfoldable pub sheetText : Sheet → List ℕ
 unfolding lineText
-sheetText s = bind (sheetLines s) lineText
+sheetText s = bind (sheetLines s) (lineText mostDigits)

@@ -4,7 +4,8 @@ use mathlib.Core.Logic.{_≢_}
 use mathlib.Core.List.{List}
 use Prim.Native.Nat.{ℕ, _≤_, _<_}
 use lib.ListN.{length, take}
-use Rattle.sheet.specs.Lists.{number, _∈_, Ascending}
+use Rattle.sheet.specs.Lists.{number, _∈_}
+use Rattle.sheet.specs.Sorting.{Ascending}
 use Rattle.sheet.specs.Kinds.{kindC, kindO}
 use Rattle.sheet.specs.Sheet.{Sheet, places, steps, start, goal, from, to, placeOf, first, last}
 

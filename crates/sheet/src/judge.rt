@@ -1,61 +1,68 @@
-// The tests of a line after the lines before it (document 01, "Who causes which refusal"): 3, 7, 4, 6, 5.
+// The tests of a line after the lines before it (document 01, "Who causes which refusal"): 3, 7, 4, 6, 5. The lines before stand in the array of all
+// groups, so that a test may look at each of them.
 ghost use mathlib.Core.Path.{_≡_};
-ghost use mathlib.Core.Bool.{not, _&&_, _||_};
-ghost use mathlib.Core.List.{[]};
+ghost use mathlib.Core.List.{map};
 ghost use Prim.Native.Nat.{_+_, _≤_, _<_};
-ghost use lib.Dec.{ltb, eqb};
-ghost use lib.ListN.{getD, take};
+ghost use lib.Dec.{eqb};
+ghost use lib.ListN.{length, getD, take, drop};
 ghost use Rattle.sheet.specs.Lists.{pick, lexb};
 ghost use Rattle.sheet.specs.Sheet.{beyond, outside, unpaired};
-ghost use Rattle.sheet.specs.Calls.{width};
-ghost use Rattle.sheet.specs.Inner.{kindAt, limitOf, lineAt, Tallied, FaultIs, Continues};
-use crate::kinds::key_of;
-use crate::kinds::limit_of;
-use crate::kinds::most_of;
-use crate::kinds::width_of;
+ghost use Rattle.sheet.specs.Store.{kindCount};
+ghost use Rattle.sheet.specs.Inner.{limitAt, pairAt, lineAt, misplacedBy, notAboveBy, RowFits, Kept, LacksIs, FaultIs};
+use crate::kinds::ALONE;
+use crate::kinds::COST;
+use crate::kinds::DIFFERENT;
+use crate::kinds::KINDS;
+use crate::kinds::PLACE;
+use crate::kinds::Row;
+use crate::kinds::STEP;
+use crate::kinds::row_of;
 
-// The lines before a line: their count, the places of the sheet, and the last of them, with the number of lines of its kind.
-pub struct Tally {
-    pub lines: usize,
-    pub places: u32,
-    pub kind: usize,
-    pub count: usize,
-    pub values: [u32; 8],
-}
-
-// The tally of no lines.
-pub fn no_lines() -> Tally
-    ensures { λ r. ⌜ Tallied [] r ⌝ }
+// Test 3: no S line first, a second S, or a line after one of a later kind.
+fn is_misplaced(lines: &[u32], kind: usize) -> bool
+    requires { ⌜ (length (now lines) ≡ kindCount) × (kind < kindCount) ⌝ }
+    ensures { λ r. ⌜ r ≡ misplacedBy (now (lines .entry)) kind ⌝ }
 {
-    Tally {
-        lines: 0,
-        places: 0,
-        kind: 0,
-        count: 0,
-        values: [0u32; 8],
+    if kind == 0 {
+        return lines[0] != 0;
     }
+    if lines[0] == 0 {
+        return true;
+    }
+    let mut j = kind + 1;
+    while j < KINDS {
+        if lines[j] != 0 {
+            return true;
+        }
+        j += 1;
+    }
+    false
 }
 
-// Whether n is outside the limit with these ends, on a sheet of `places` places.
-fn is_beyond(places: u32, low: u32, high: u32, n: u32) -> bool
-    ensures { λ r. ⌜ r ≡ beyond places (limitOf low high) n ⌝ }
+// Whether n is outside the limit, on a sheet of `places` places.
+fn is_beyond(places: u32, limit: u8, n: u32) -> bool
+    ensures { λ r. ⌜ r ≡ beyond places (limitAt limit) n ⌝ }
 {
-    if high == 0 {
+    if limit == PLACE {
         return places <= n;
     }
-    (n < low) | (high < n)
+    if limit == STEP {
+        return 255 < n;
+    }
+    if limit == COST {
+        return 60000 < n;
+    }
+    (n < 1) | (64 < n)
 }
 
-// Test 4: a number of the line is outside its limit.
-fn is_outside(places: u32, kind: usize, values: [u32; 8]) -> bool
-    requires { ⌜ kind < 3 ⌝ }
-    ensures { λ r. ⌜ r ≡ outside places (kindAt kind .limits) (take (width (kindAt kind)) values) ⌝ }
+// Test 4: one of the first w numbers is outside its limit.
+fn is_outside(places: u32, limits: [u8; 8], w: usize, values: [u32; 8]) -> bool
+    requires { ⌜ w ≤ 8 ⌝ }
+    ensures { λ r. ⌜ r ≡ outside places (map limitAt (take w limits)) (take w values) ⌝ }
 {
-    let w = width_of(kind);
     let mut i = 0;
     while i < w {
-        let e = limit_of(kind, i);
-        if is_beyond(places, e.low, e.high, values[i]) {
+        if is_beyond(places, limits[i], values[i]) {
             return true;
         }
         i += 1;
@@ -63,31 +70,42 @@ fn is_outside(places: u32, kind: usize, values: [u32; 8]) -> bool
     false
 }
 
-// Test 6: a corridor from a place to itself, or last below first.
-fn is_unpaired(kind: usize, values: [u32; 8]) -> bool
-    requires { ⌜ kind < 3 ⌝ }
-    ensures { λ r. ⌜ r ≡ unpaired (kindAt kind .pair) (take (width (kindAt kind)) values) ⌝ }
+// The places of the sheet: the first number of the S line, which is this line or stands first in the array.
+fn places_with(all: &[u32], kind: usize, values: [u32; 8]) -> u32
+    requires { ⌜ 1 ≤ length (now all) ⌝ }
+    ensures { λ r. ⌜ r ≡ pick (eqb kind 0) (getD values 0 0) (getD (now (all .entry)) 0 0) ⌝ }
 {
-    if kind == 1 {
-        return values[0] == values[1];
+    if kind == 0 {
+        return values[0];
     }
-    if kind == 2 {
-        return values[2] < values[1];
-    }
-    false
+    all[0]
 }
 
-// Whether the first n numbers of a stand before those of b.
-fn is_before(a: [u32; 8], b: [u32; 8], n: usize) -> bool
-    requires { ⌜ n ≤ 8 ⌝ }
-    ensures { λ r. ⌜ r ≡ lexb (take n a) (take n b) ⌝ }
+// Test 6: a corridor from a place to itself, or last below first.
+fn is_unpaired(pair: u8, one: usize, other: usize, values: [u32; 8]) -> bool
+    requires { ⌜ (one < 8) × (other < 8) ⌝ }
+    ensures { λ r. ⌜ r ≡ unpaired (pairAt pair one other) values ⌝ }
+{
+    if pair == ALONE {
+        return false;
+    }
+    if pair == DIFFERENT {
+        return values[one] == values[other];
+    }
+    values[other] < values[one]
+}
+
+// Whether the n numbers of a from `at` on stand before the first n of b.
+fn is_before(a: &[u32], at: usize, b: [u32; 8], n: usize) -> bool
+    requires { ⌜ (n ≤ 8) × (at + n ≤ length (now a)) ⌝ }
+    ensures { λ r. ⌜ r ≡ lexb (take n (drop at (now (a .entry)))) (take n b) ⌝ }
 {
     let mut i = 0;
     while i < n {
-        if a[i] < b[i] {
+        if a[at + i] < b[i] {
             return true;
         }
-        if b[i] < a[i] {
+        if b[i] < a[at + i] {
             return false;
         }
         i += 1;
@@ -95,97 +113,48 @@ fn is_before(a: [u32; 8], b: [u32; 8], n: usize) -> bool
     false
 }
 
-// Test 3: no S line first, a second S, or a line after one of a later kind.
-fn is_misplaced(lines: usize, last: usize, kind: usize) -> bool
-    ensures { λ r. ⌜ r ≡ (pick (eqb lines 0) (not (eqb kind 0)) (eqb kind 0 || ltb kind last)) ⌝ }
+// Test 5: not above the last of the n lines of its kind.
+fn is_not_above(all: &[u32], row: Row, n: u32, values: [u32; 8]) -> bool
+    requires { ⌜ RowFits row n (length (now all)) ⌝ }
+    ensures { λ r. ⌜ r ≡ notAboveBy (now (all .entry)) row n values ⌝ }
 {
-    if lines == 0 {
-        return kind != 0;
-    }
-    (kind == 0) | (kind < last)
-}
-
-// How many lines of the kind there are among the lines before.
-fn count_of(t: Tally, kind: usize) -> usize
-    ensures { λ r. ⌜ r ≡ pick (eqb (t .kind) kind) (t .count) 0 ⌝ }
-{
-    let k = t.kind;
-    if k == kind {
-        return t.count;
-    }
-    0
-}
-
-// Test 5: not above the line before, of the same kind.
-fn is_not_above(t: Tally, kind: usize, values: [u32; 8]) -> bool
-    requires { ⌜ (kind < 3) × (t .kind < 3) ⌝ }
-    ensures { λ r. ⌜ r ≡ (not (eqb (t .lines) 0) && eqb (t .kind) kind && not (lexb (take (kindAt kind .key) (t .values)) (take (kindAt kind .key) values))) ⌝ }
-{
-    let n = t.lines;
-    let k = t.kind;
     if n == 0 {
         return false;
     }
-    if k != kind {
-        return false;
-    }
-    let before = t.values;
-    !is_before(before, values, key_of(kind))
+    let at = row.base + (n as usize - 1) * row.width;
+    !is_before(all, at, values, row.key)
 }
 
-// The places of the sheet: those of the first line, which is this one where there is no line before.
-fn places_with(t: Tally, values: [u32; 8]) -> u32
-    ensures { λ r. ⌜ r ≡ pick (eqb (t .lines) 0) (getD values 0 0) (t .places) ⌝ }
+// The fault of a line after the lines in the array: the number of the first test that it fails, 0 for none.
+pub fn fault_of(lines: &[u32], all: &[u32], kind: usize, values: [u32; 8]) -> u32
+    requires { ⌜ (kind < kindCount) × (Kept (now lines) (now all)) ⌝ }
+    ensures { λ r. ⌜ FaultIs (now (lines .entry)) (now (all .entry)) (lineAt kind values) r ⌝ }
 {
-    let n = t.lines;
-    if n == 0 {
-        return values[0];
-    }
-    t.places
-}
-
-// The fault of a line after the lines that t tallies: the number of the first test that it fails, 0 for none.
-pub fn fault_of(t: Tally, kind: usize, values: [u32; 8]) -> u32
-    requires { ⌜ (kind < 3) × (t .kind < 3) ⌝ }
-    ensures { λ r. ⌜ FaultIs t (lineAt kind values) r ⌝ }
-{
-    if is_misplaced(t.lines, t.kind, kind) {
+    let row = row_of(kind);
+    let n = lines[kind];
+    let limits = row.limits;
+    if is_misplaced(lines, kind) {
         return 3;
     }
-    if most_of(kind) <= count_of(t, kind) {
+    if row.most <= n {
         return 7;
     }
-    if is_outside(places_with(t, values), kind, values) {
+    if is_outside(places_with(all, kind, values), limits, row.width, values) {
         return 4;
     }
-    if is_unpaired(kind, values) {
+    if is_unpaired(row.pair, row.one, row.other, values) {
         return 6;
     }
-    if is_not_above(t, kind, values) {
+    if is_not_above(all, row, n, values) {
         return 5;
     }
     0
 }
 
-// The tally with a line more that has no fault.
-pub fn with_line(t: Tally, kind: usize, values: [u32; 8]) -> Tally
-    requires { ⌜ (kind < 3) × (t .lines ≤ 15000000000000000000) × (t .count ≤ 15000000000000000000) ⌝ }
-    ensures { λ r. ⌜ (Continues t (lineAt kind values) r) × (r .kind ≡ kind) × (r .lines ≡ t .lines + 1) × (r .count ≤ t .count + 1) ⌝ }
+// Whether something is missing where the input ends after the lines in the array: the S line.
+pub fn lacks(lines: &[u32]) -> bool
+    requires { ⌜ length (now lines) ≡ kindCount ⌝ }
+    ensures { λ r. ⌜ LacksIs (now (lines .entry)) r ⌝ }
 {
-    let count = count_of(t, kind) + 1;
-    let places = places_with(t, values);
-    Tally {
-        lines: t.lines + 1,
-        places,
-        kind,
-        count,
-        values,
-    }
-}
-
-// The judgement of a group of lines: the refusal with its line, or 0 and the tally with them.
-pub struct Verdict {
-    pub refusal: u32,
-    pub line: usize,
-    pub tally: Tally,
+    lines[0] == 0
 }

@@ -1,135 +1,100 @@
-// The kinds of lines, a number for each in the order of kinds: S 0, C 1, O 2. What is known of a kind is told by tests of its number, since a
-// constant table is made anew wherever it is named.
-ghost use mathlib.Core.Path.{_≡_};
-ghost use Prim.Native.Nat.{_<_, _≤_};
-ghost use lib.ListN.{getD};
-ghost use Rattle.sheet.specs.Kinds.{kinds, kindS, kindC, place};
-ghost use Rattle.sheet.specs.Lines.{withLetter};
-ghost use Rattle.sheet.specs.Calls.{width};
-ghost use Rattle.sheet.specs.Inner.{kindAt, asKind, limitOf};
+// The kinds of lines, a number for each in the order of kinds: S 0, C 1, O 2. One row for each, as specs/Kinds.antt has it; and the lengths of groups
+// of lines. A row is told by tests of the kind's number, since a constant table is made anew wherever it is named.
+ghost use Prim.Native.Nat.{_<_};
+ghost use Rattle.sheet.specs.Store.{kindCount};
+ghost use Rattle.sheet.specs.Inner.{RowIs};
 
-// The kind with the letter c; 3 for none.
-pub fn with_letter(c: u8) -> usize
-    ensures { λ r. ⌜ (asKind r ≡ withLetter c kinds) × (r ≤ 3) ⌝ }
-{
-    if c == b'S' {
-        return 0;
-    }
-    if c == b'C' {
-        return 1;
-    }
-    if c == b'O' {
-        return 2;
-    }
-    3
+// How many kinds there are.
+pub const KINDS: usize = 3;
+
+// The numbers of a line of each kind, and of the most lines of it.
+pub const HEAD: usize = 7;
+
+pub const CORRIDOR: usize = 5;
+
+pub const OCCUPANCY: usize = 3;
+
+pub const CORRIDORS: usize = 256 * CORRIDOR;
+
+pub const OCCUPANCIES: usize = 256 * OCCUPANCY;
+
+// Where the groups of C and O lines begin in the array of all groups, and its length.
+pub const FIRST_CORRIDOR: usize = HEAD;
+
+pub const FIRST_OCCUPANCY: usize = FIRST_CORRIDOR + CORRIDORS;
+
+pub const STORE: usize = FIRST_OCCUPANCY + OCCUPANCIES;
+
+// The limits of numbers: a place of the sheet; 0 to 255; 0 to 60,000; 1 to 64.
+pub const PLACE: u8 = 0;
+
+pub const STEP: u8 = 1;
+
+pub const COST: u8 = 2;
+
+pub const COUNT: u8 = 3;
+
+// What two numbers of a line must be: nothing; different; the first at most the second.
+pub const ALONE: u8 = 0;
+
+pub const DIFFERENT: u8 = 1;
+
+pub const ORDERED: u8 = 2;
+
+// A kind of line: its letter, the count of its numbers and their limits, the most lines, what the numbers at two positions must be, by how many first
+// numbers its lines ascend, and where its group begins in the array of all groups.
+pub struct Row {
+    pub letter: u8,
+    pub width: usize,
+    pub limits: [u8; 8],
+    pub most: u32,
+    pub pair: u8,
+    pub one: usize,
+    pub other: usize,
+    pub key: usize,
+    pub base: usize,
 }
 
-// The letter of the kind k.
-pub fn letter_of(k: usize) -> u8
-    requires { ⌜ k < 3 ⌝ }
-    ensures { λ r. ⌜ r ≡ kindAt k .letter ⌝ }
-{
-    if k == 0 {
-        return b'S';
-    }
-    if k == 1 {
-        return b'C';
-    }
-    b'O'
-}
-
-// The count of numbers in a line of the kind k.
-pub fn width_of(k: usize) -> usize
-    requires { ⌜ k < 3 ⌝ }
-    ensures { λ r. ⌜ r ≡ width (kindAt k) ⌝ }
-{
-    if k == 0 {
-        return 7;
-    }
-    if k == 1 {
-        return 5;
-    }
-    3
-}
-
-// The most lines of the kind k.
-pub fn most_of(k: usize) -> usize
-    requires { ⌜ k < 3 ⌝ }
-    ensures { λ r. ⌜ r ≡ kindAt k .most ⌝ }
-{
-    if k == 0 {
-        return 1;
-    }
-    256
-}
-
-// By how many first numbers the lines of the kind k ascend.
-pub fn key_of(k: usize) -> usize
-    requires { ⌜ k < 3 ⌝ }
-    ensures { λ r. ⌜ r ≡ kindAt k .key ⌝ }
-{
-    if k == 2 {
-        return 3;
-    }
-    if k == 1 {
-        return 2;
-    }
-    0
-}
-
-// The ends of a number's limit; the high end of a place is 0.
-pub struct Ends {
-    pub low: u32,
-    pub high: u32,
-}
-
-// The limit of number i of an S line.
-fn limit_of_s(i: usize) -> Ends
-    requires { ⌜ i < 7 ⌝ }
-    ensures { λ r. ⌜ limitOf (r .low) (r .high) ≡ getD (kindS .limits) i place ⌝ }
-{
-    if i == 0 {
-        return Ends { low: 1, high: 64 };
-    }
-    if i == 1 {
-        return Ends { low: 0, high: 255 };
-    }
-    if i < 4 {
-        return Ends { low: 0, high: 0 };
-    }
-    Ends {
-        low: 0,
-        high: 60000,
-    }
-}
-
-// The limit of number i of a C line.
-fn limit_of_c(i: usize) -> Ends
-    requires { ⌜ i < 5 ⌝ }
-    ensures { λ r. ⌜ limitOf (r .low) (r .high) ≡ getD (kindC .limits) i place ⌝ }
-{
-    if i < 2 {
-        return Ends { low: 0, high: 0 };
-    }
-    Ends {
-        low: 0,
-        high: 60000,
-    }
-}
-
-// The limit of number i of a line of the kind k.
-pub fn limit_of(k: usize, i: usize) -> Ends
-    requires { ⌜ (k < 3) × (i < width (kindAt k)) ⌝ }
-    ensures { λ r. ⌜ limitOf (r .low) (r .high) ≡ getD (kindAt k .limits) i place ⌝ }
+// The row of the kind k.
+pub fn row_of(k: usize) -> Row
+    requires { ⌜ k < kindCount ⌝ }
+    ensures { λ r. ⌜ RowIs k r ⌝ }
 {
     if k == 0 {
-        return limit_of_s(i);
+        return Row {
+            letter: b'S',
+            width: HEAD,
+            limits: [COUNT, STEP, PLACE, PLACE, COST, COST, COST, 0],
+            most: 1,
+            pair: ALONE,
+            one: 0,
+            other: 0,
+            key: 0,
+            base: 0,
+        };
     }
     if k == 1 {
-        return limit_of_c(i);
+        return Row {
+            letter: b'C',
+            width: CORRIDOR,
+            limits: [PLACE, PLACE, COST, COST, COST, 0, 0, 0],
+            most: 256,
+            pair: DIFFERENT,
+            one: 0,
+            other: 1,
+            key: 2,
+            base: FIRST_CORRIDOR,
+        };
     }
-    if i == 0 {
-        return Ends { low: 0, high: 0 };
+    Row {
+        letter: b'O',
+        width: OCCUPANCY,
+        limits: [PLACE, STEP, STEP, 0, 0, 0, 0, 0],
+        most: 256,
+        pair: ORDERED,
+        one: 1,
+        other: 2,
+        key: 3,
+        base: FIRST_OCCUPANCY,
     }
-    Ends { low: 0, high: 255 }
 }

@@ -4,10 +4,16 @@ pub mod bytes; // bytes.rt: the kinds of bytes
 pub mod kinds; // kinds.rt: the kinds of lines, by their numbers
 pub mod lines; // lines.rt: what the bytes of a line stand for
 pub mod judge; // judge.rt: the tests of a line
+pub mod store; // store.rt: the lines so far, in one array
 pub mod text; // text.rt: what is written of numbers and lines
 pub mod line_reader; // line_reader.rt: a sheet's bytes and a position in them
 pub mod reader; // reader.rt: from bytes to the groups
 pub mod writer; // writer.rt: from the groups to bytes
+
+use crate::kinds::CORRIDORS;
+use crate::kinds::HEAD;
+use crate::kinds::KINDS;
+use crate::kinds::OCCUPANCIES;
 
 // A place of the sheet, numbered from 0: the source's node (001).
 pub struct Place(pub u32);
@@ -20,10 +26,10 @@ pub struct Step(pub u32);
 pub struct SheetRead {
     pub refusal: u32,
     pub line: u32,
-    pub lines: [u32; 3],
-    pub head: [u32; 7],
-    pub corridors: [u32; 1280],
-    pub occupancies: [u32; 768],
+    pub lines: [u32; KINDS],
+    pub head: [u32; HEAD],
+    pub corridors: [u32; CORRIDORS],
+    pub occupancies: [u32; OCCUPANCIES],
 }
 
 // What a written sheet hands back: the count of bytes.

@@ -4,7 +4,7 @@ ghost use mathlib.Core.Path.{_≡_};
 ghost use Prim.Native.Nat.{_+_, _<_, _^_};
 ghost use lib.ListN.{length};
 ghost use Rattle.sheet.specs.Inner.{kindTable};
-ghost use Rattle.sheet.specs.LineEnds.{lineEndAt, opened, goneOn};
+ghost use Rattle.sheet.specs.LineEnds.{EndIs, opened, goneOn};
 use crate::bytes::LINE_FEED;
 use crate::bytes::until;
 
@@ -23,7 +23,7 @@ pub enum LineEnd {
 // Where the line from `at` on ends.
 fn end_at(kinds: &[u8; 256], src: &[u8], at: usize) -> LineEnd
     requires { ⌜ now kinds ≡ kindTable ⌝ }
-    ensures { λ r. ⌜ r ≡ lineEndAt (now (src .entry)) at ⌝ }
+    ensures { λ r. ⌜ EndIs (now (src .entry)) at r ⌝ }
 {
     if src.len() <= at {
         return LineEnd::Over;
@@ -53,7 +53,7 @@ pub fn open<'a>(src: &'a [u8]) -> LineReader<'a>
 // Where the reader's next line ends.
 pub fn next_line<'k, 'a>(kinds: &'k [u8; 256], r: LineReader<'a>) -> LineEnd
     requires { ⌜ now kinds ≡ kindTable ⌝ }
-    ensures { λ e. ⌜ e ≡ lineEndAt (now (r .entry .src)) (r .entry .at) ⌝ }
+    ensures { λ e. ⌜ EndIs (now (r .entry .src)) (r .entry .at) e ⌝ }
 {
     end_at(kinds, r.src, r.at)
 }
@@ -78,7 +78,7 @@ pub fn begin(src: &[u8]) -> usize
 // Where the line from `at` on ends: the next line of the reader at `at`. Time grows with the bytes of the line.
 pub fn line_from(kinds: &[u8; 256], src: &[u8], at: usize) -> LineEnd
     requires { ⌜ now kinds ≡ kindTable ⌝ }
-    ensures { λ r. ⌜ r ≡ lineEndAt (now (src .entry)) at ⌝ }
+    ensures { λ r. ⌜ EndIs (now (src .entry)) at r ⌝ }
 {
     next_line(kinds, LineReader { src, at })
 }

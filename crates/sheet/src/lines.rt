@@ -1,18 +1,17 @@
-// What the bytes of a field, of fields and of a line stand for.
+// What the bytes of a field, of fields and of a line stand for, of any kinds of lines and any most digits of a number.
 ghost use mathlib.Core.Bool.{false};
 ghost use mathlib.Core.Path.{_≡_};
-ghost use mathlib.Core.Option.{none};
 ghost use Prim.Native.Nat.{_≤_, _<_};
 ghost use lib.ListN.{length};
 ghost use Rattle.sheet.specs.Bytes.{comma};
-ghost use Rattle.sheet.specs.Lines.{numbersOf, lineOf};
-ghost use Rattle.sheet.specs.Inner.{kindTable, partsFrom, asNumbers, asParsed, DigitsAre, FieldIs};
+ghost use Rattle.sheet.specs.Lines.{numbersOf};
+ghost use Rattle.sheet.specs.Inner.{kindTable, partsFrom, asNumbers, SomeForms, positionOf, LineIs, NextIs, DigitsAre, FieldIs};
 use crate::bytes::COMMA;
 use crate::bytes::DIGIT;
 use crate::bytes::kind_of;
 use crate::bytes::until;
-use crate::kinds::width_of;
-use crate::kinds::with_letter;
+use crate::line_reader::LineEnd;
+use crate::line_reader::line_from;
 
 // The field of a line from some position on: ok where it is read, then with its end and its value.
 pub struct Field {
@@ -31,15 +30,15 @@ fn bad_field() -> Field
     }
 }
 
-// The field from `at` on, ok where it is digits up to the comma or the end; not with more than six digits.
-fn digits_from(kinds: &[u8; 256], line: &[u8], at: usize) -> Field
-    requires { ⌜ (now kinds ≡ kindTable) × (at ≤ length (now line)) ⌝ }
-    ensures { λ r. ⌜ DigitsAre (now (line .entry)) at r ⌝ }
+// The field from `at` on, ok where it is digits up to the comma or the end; not with more than one digit above the most.
+fn digits_from(kinds: &[u8; 256], line: &[u8], at: usize, most: usize) -> Field
+    requires { ⌜ (now kinds ≡ kindTable) × (at ≤ length (now line)) × (most ≤ 8) ⌝ }
+    ensures { λ r. ⌜ DigitsAre most (now (line .entry)) at r ⌝ }
 {
     let mut value: u32 = 0;
     let mut i = at;
     while i < line.len() {
-        if 5 < i - at {
+        if most < i - at {
             return bad_field();
         }
         let b = line[i];
@@ -61,26 +60,21 @@ fn digits_from(kinds: &[u8; 256], line: &[u8], at: usize) -> Field
     }
 }
 
-// The field from `at` on, ok where it is a number: one to five digits, no leading zero except 0 itself.
-fn field_at(kinds: &[u8; 256], line: &[u8], at: usize) -> Field
-    requires { ⌜ (now kinds ≡ kindTable) × (at ≤ length (now line)) ⌝ }
-    ensures { λ r. ⌜ FieldIs (now (line .entry)) at r ⌝ }
+// The field from `at` on, ok where it is a number: one to `most` digits, no leading zero except 0 itself.
+fn field_at(kinds: &[u8; 256], line: &[u8], at: usize, most: usize) -> Field
+    requires { ⌜ (now kinds ≡ kindTable) × (at ≤ length (now line)) × (most ≤ 8) ⌝ }
+    ensures { λ r. ⌜ FieldIs most (now (line .entry)) at r ⌝ }
 {
-    let f = digits_from(kinds, line, at);
+    let f = digits_from(kinds, line, at, most);
     if !f.ok {
         return f;
     }
     let n = f.end - at;
-    if n == 0 {
+    if (n == 0) | (most < n) {
         return bad_field();
     }
-    if 5 < n {
+    if (1 < n) & (line[at] == 48) {
         return bad_field();
-    }
-    if 1 < n {
-        if line[at] == 48 {
-            return bad_field();
-        }
     }
     f
 }
@@ -91,10 +85,10 @@ pub struct Numbers {
     pub values: [u32; 8],
 }
 
-// The numbers of exactly `width` fields from `start` on.
-fn numbers_in(kinds: &[u8; 256], line: &[u8], start: usize, width: usize) -> Numbers
-    requires { ⌜ (now kinds ≡ kindTable) × (width ≤ 8) ⌝ }
-    ensures { λ r. ⌜ asNumbers width r ≡ numbersOf width (partsFrom comma start (now (line .entry))) ⌝ }
+// The numbers of exactly `width` fields from `start` on, of at most `most` digits each.
+fn numbers_in(kinds: &[u8; 256], line: &[u8], start: usize, width: usize, most: usize) -> Numbers
+    requires { ⌜ (now kinds ≡ kindTable) × (width ≤ 8) × (most ≤ 8) ⌝ }
+    ensures { λ r. ⌜ asNumbers width r ≡ numbersOf most width (partsFrom comma start (now (line .entry))) ⌝ }
 {
     let mut values = [0u32; 8];
     let mut at = start;
@@ -103,7 +97,7 @@ fn numbers_in(kinds: &[u8; 256], line: &[u8], start: usize, width: usize) -> Num
         if line.len() < at {
             return Numbers { ok: false, values };
         }
-        let f = field_at(kinds, line, at);
+        let f = field_at(kinds, line, at, most);
         if !f.ok {
             return Numbers { ok: false, values };
         }
@@ -117,7 +111,7 @@ fn numbers_in(kinds: &[u8; 256], line: &[u8], start: usize, width: usize) -> Num
     Numbers { ok: true, values }
 }
 
-// A line: its kind and its numbers, where test 2 passed it.
+// A line: the position of its kind among the letters, and its numbers, where test 2 passed it.
 pub struct Parsed {
     pub ok: bool,
     pub kind: usize,
@@ -125,7 +119,7 @@ pub struct Parsed {
 }
 
 fn bad_line() -> Parsed
-    ensures { λ r. ⌜ (asParsed r ≡ none) × (r .kind < 3) ⌝ }
+    ensures { λ r. ⌜ r .ok ≡ false ⌝ }
 {
     Parsed {
         ok: false,
@@ -134,27 +128,76 @@ fn bad_line() -> Parsed
     }
 }
 
-// The line that the bytes of l are, without a line feed.
-pub fn line_in(kinds: &[u8; 256], l: &[u8]) -> Parsed
-    requires { ⌜ now kinds ≡ kindTable ⌝ }
-    ensures { λ r. ⌜ (asParsed r ≡ lineOf (now (l .entry))) × (r .kind < 3) ⌝ }
+// The position of the letter c, or the count of letters where it is none of them.
+fn position(letters: &[u8], c: u8) -> usize
+    ensures { λ r. ⌜ r ≡ positionOf c (now (letters .entry)) ⌝ }
+{
+    let mut k = 0;
+    while k < letters.len() {
+        if letters[k] == c {
+            return k;
+        }
+        k += 1;
+    }
+    k
+}
+
+// The line that the bytes of l are, without a line feed, among lines with these letters and counts of numbers of at most `most` digits.
+pub fn line_in(kinds: &[u8; 256], l: &[u8], letters: &[u8], widths: &[usize], most: usize) -> Parsed
+    requires { ⌜ (now kinds ≡ kindTable) × (SomeForms (now letters) (now widths)) × (most ≤ 8) ⌝ }
+    ensures { λ r. ⌜ LineIs most (now (letters .entry)) (now (widths .entry)) (now (l .entry)) r ⌝ }
 {
     if until(kinds, l, 0, COMMA) != 1 {
         return bad_line();
     }
-    let k = with_letter(l[0]);
-    if k == 3 {
+    let k = position(letters, l[0]);
+    if k == letters.len() {
         return bad_line();
     }
-    let w = width_of(k);
-    let n = numbers_in(kinds, l, 2, w);
-    if n.ok {
-        let values = n.values;
-        return Parsed {
-            ok: true,
-            kind: k,
-            values,
-        };
+    let n = numbers_in(kinds, l, 2, widths[k], most);
+    let values = n.values;
+    Parsed {
+        ok: n.ok,
+        kind: k,
+        values,
     }
-    bad_line()
+}
+
+// The next line of a text: its end, its kind and its numbers, where test 2 passed it.
+pub struct Next {
+    pub ok: bool,
+    pub end: usize,
+    pub kind: usize,
+    pub values: [u32; 8],
+}
+
+// The line of src from `at` on, where something is left, among lines with these letters and counts of numbers of at most `most` digits.
+pub fn parsed_line(
+    kinds: &[u8; 256],
+    src: &[u8],
+    at: usize,
+    letters: &[u8],
+    widths: &[usize],
+    most: usize,
+) -> Next
+    requires { ⌜ (now kinds ≡ kindTable) × (at < length (now src)) × (SomeForms (now letters) (now widths)) × (most ≤ 8) ⌝ }
+    ensures { λ r. ⌜ NextIs most (now (letters .entry)) (now (widths .entry)) (now (src .entry)) at r ⌝ }
+{
+    let found = line_from(kinds, src, at);
+    let LineEnd::At(e) = found else {
+        return Next {
+            ok: false,
+            end: src.len(),
+            kind: 0,
+            values: [0u32; 8],
+        };
+    };
+    let l = line_in(kinds, &src[at..e], letters, widths, most);
+    let values = l.values;
+    Next {
+        ok: l.ok,
+        end: e,
+        kind: l.kind,
+        values,
+    }
 }

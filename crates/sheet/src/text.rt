@@ -1,20 +1,20 @@
-// What is written of a number, of a line and of a group of lines.
+// What is written of a number, of a line and of the lines of a sheet.
 ghost use mathlib.Core.Path.{_≡_};
-ghost use Prim.Native.Nat.{_+_, _*_, _≤_, _<_, _/_};
-ghost use lib.ListN.{length, take, drop};
+ghost use Prim.Native.Nat.{_+_, _*_, _≤_, _<_};
+ghost use lib.ListN.{length};
 ghost use lib.Seq.{sets};
 ghost use Rattle.sheet.specs.Decimal.{digitsOf};
-ghost use Rattle.sheet.specs.Lines.{line};
-ghost use Rattle.sheet.specs.Text.{numberText, lineText};
-ghost use Rattle.sheet.specs.Calls.{width};
-ghost use Rattle.sheet.specs.Inner.{kindAt, groupText};
-use crate::kinds::letter_of;
-use crate::kinds::width_of;
+ghost use Rattle.sheet.specs.Text.{numberText, printed};
+ghost use Rattle.sheet.specs.Store.{kindCount, SomeStore};
+ghost use Rattle.sheet.specs.Inner.{GroupFits, groupText, BytesAre, PutsSheet, SheetFits};
+ghost use Rattle.sheet.specs.Laws.Puts.{Puts};
+use crate::kinds::KINDS;
+use crate::kinds::row_of;
 
 // Writes the digits of n, at most `most` of them, from `at` on; the position after them.
-pub fn put_digits(out: &mut [u8], at: usize, n: u32, most: usize) -> usize
+pub fn put_digits(out: &mut [u8], at: usize, n: u64, most: usize) -> usize
     requires { ⌜ at + length (digitsOf most n) ≤ length (now out) ⌝ }
-    ensures { λ r. ⌜ (r ≡ at + length (digitsOf most n)) × (now (out .exit) ≡ sets (now (out .entry)) at (digitsOf most n)) ⌝ }
+    ensures { λ r. ⌜ Puts (digitsOf most n) (now (out .entry)) at (now (out .exit)) r ⌝ }
 {
     if most == 0 {
         return at;
@@ -28,8 +28,45 @@ pub fn put_digits(out: &mut [u8], at: usize, n: u32, most: usize) -> usize
     next + 1
 }
 
+// Writes a comma and the digits of n, at most `most` of them; the position after them.
+fn put_number(out: &mut [u8], at: usize, n: u64, most: usize) -> usize
+    requires { ⌜ at + length (numberText most n) ≤ length (now out) ⌝ }
+    ensures { λ r. ⌜ Puts (numberText most n) (now (out .entry)) at (now (out .exit)) r ⌝ }
+{
+    out[at] = 44;
+    put_digits(out, at + 1, n, most)
+}
+
+// Writes the line with the letter and the numbers, of at most `most` digits each; the position after it.
+pub fn put_line(out: &mut [u8], at: usize, letter: u8, numbers: &[u64], most: usize) -> usize
+    requires { ⌜ at + length (printed most letter (now numbers)) ≤ length (now out) ⌝ }
+    ensures { λ r. ⌜ Puts (printed most letter (now (numbers .entry))) (now (out .entry)) at (now (out .exit)) r ⌝ }
+{
+    out[at] = letter;
+    let mut next = at + 1;
+    let mut i = 0;
+    while i < numbers.len() {
+        next = put_number(out, next, numbers[i], most);
+        i += 1;
+    }
+    out[next] = 10;
+    next + 1
+}
+
+// Writes the numbers to the front of `to`.
+pub fn widen(numbers: &[u32], to: &mut [u64])
+    requires { ⌜ length (now numbers) ≤ length (now to) ⌝ }
+    ensures { λ _. ⌜ now (to .exit) ≡ sets (now (to .entry)) 0 (now (numbers .entry)) ⌝ }
+{
+    let mut i = 0;
+    while i < numbers.len() {
+        to[i] = numbers[i] as u64;
+        i += 1;
+    }
+}
+
 // The count of the digits of n, at most `most` of them.
-pub fn digits_in(n: u32, most: usize) -> usize
+pub fn digits_in(n: u64, most: usize) -> usize
     ensures { λ r. ⌜ (r ≡ length (digitsOf most n)) × (r ≤ most) ⌝ }
 {
     if most == 0 {
@@ -41,61 +78,65 @@ pub fn digits_in(n: u32, most: usize) -> usize
     digits_in(n / 10, most - 1) + 1
 }
 
-// Writes a comma and the digits of n; the position after them.
-fn put_number(out: &mut [u8], at: usize, n: u32) -> usize
-    requires { ⌜ at + length (numberText n) ≤ length (now out) ⌝ }
-    ensures { λ r. ⌜ (r ≡ at + length (numberText n)) × (now (out .exit) ≡ sets (now (out .entry)) at (numberText n)) ⌝ }
+// Writes the first n lines of kind k in the array; the position after them.
+fn put_group(out: &mut [u8], at: usize, k: usize, all: &[u32], n: usize) -> usize
+    requires { ⌜ (k < kindCount) × GroupFits k n (now all) × (at + length (groupText k n (now all)) ≤ length (now out)) ⌝ }
+    ensures { λ r. ⌜ Puts (groupText k n (now (all .entry))) (now (out .entry)) at (now (out .exit)) r ⌝ }
 {
-    out[at] = 44;
-    put_digits(out, at + 1, n, 5)
-}
-
-// Writes the line of kind k whose numbers stand in g from `from` on; the position after it.
-fn put_line(out: &mut [u8], at: usize, k: usize, g: &[u32], from: usize) -> usize
-    requires { ⌜ (k < 3) × (from + width (kindAt k) ≤ length (now g)) × (at + length (lineText (line (kindAt k) (take (width (kindAt k)) (drop from (now g))))) ≤ length (now out)) ⌝ }
-    ensures { λ r. ⌜ (r ≡ at + length (lineText (line (kindAt k) (take (width (kindAt k)) (drop from (now (g .entry))))))) × (now (out .exit) ≡ sets (now (out .entry)) at (lineText (line (kindAt k) (take (width (kindAt k)) (drop from (now (g .entry))))))) ⌝ }
-{
-    let w = width_of(k);
-    out[at] = letter_of(k);
-    let mut next = at + 1;
-    let mut i = 0;
-    while i < w {
-        next = put_number(out, next, g[from + i]);
-        i += 1;
-    }
-    out[next] = 10;
-    next + 1
-}
-
-// Writes n lines of kind k whose numbers stand in g one after another; the position after them.
-pub fn put_group(out: &mut [u8], at: usize, k: usize, g: &[u32], n: usize) -> usize
-    requires { ⌜ (k < 3) × (n * width (kindAt k) ≤ length (now g)) × (at + length (groupText k n (now g)) ≤ length (now out)) ⌝ }
-    ensures { λ r. ⌜ (r ≡ at + length (groupText k n (now (g .entry)))) × (now (out .exit) ≡ sets (now (out .entry)) at (groupText k n (now (g .entry)))) ⌝ }
-{
-    let w = width_of(k);
+    let row = row_of(k);
+    let w = row.width;
+    let base = row.base;
+    let mut numbers = [0u64; 8];
     let mut next = at;
-    let mut from = 0;
     let mut i = 0;
     while i < n {
-        next = put_line(out, next, k, g, from);
-        from += w;
+        let from = base + i * w;
+        let to = from + w;
+        widen(&all[from..to], &mut numbers);
+        next = put_line(out, next, row.letter, &numbers[..w], 5);
         i += 1;
     }
     next
 }
 
-// The count of bytes of n lines of kind k whose numbers stand in g one after another.
-pub fn group_bytes(k: usize, g: &[u32], n: usize) -> usize
-    requires { ⌜ (k < 3) × (n * width (kindAt k) ≤ length (now g)) × (n ≤ 256) ⌝ }
-    ensures { λ r. ⌜ r ≡ length (groupText k n (now (g .entry))) ⌝ }
+// The count of bytes of the first n lines of kind k in the array.
+fn group_bytes(k: usize, all: &[u32], n: usize) -> usize
+    requires { ⌜ (k < kindCount) × GroupFits k n (now all) ⌝ }
+    ensures { λ r. ⌜ (r ≡ length (groupText k n (now (all .entry)))) × (r ≤ 12800) ⌝ }
 {
-    let w = width_of(k);
-    let m = n * w;
+    let row = row_of(k);
+    let base = row.base;
+    let m = n * row.width;
     let mut bytes = 2 * n;
     let mut i = 0;
     while i < m {
-        bytes += 1 + digits_in(g[i], 5);
+        bytes += 1 + digits_in(all[base + i] as u64, 5);
         i += 1;
     }
     bytes
+}
+
+// The count of bytes of the sheet in the array.
+pub fn sheet_bytes(lines: &[u32], all: &[u32]) -> usize
+    requires { ⌜ SomeStore (now lines) (now all) ⌝ }
+    ensures { λ r. ⌜ BytesAre (now (lines .entry)) (now (all .entry)) r ⌝ }
+{
+    let mut bytes = 0;
+    for k in 0..KINDS {
+        let n = lines[k] as usize;
+        bytes += group_bytes(k, all, n);
+    }
+    bytes
+}
+
+// Writes the lines of the sheet in the array to the front of the buffer.
+pub fn put_sheet(lines: &[u32], all: &[u32], out: &mut [u8])
+    requires { ⌜ SheetFits (now lines) (now all) (now out) ⌝ }
+    ensures { λ _. ⌜ PutsSheet (now (lines .entry)) (now (all .entry)) (now (out .entry)) (now (out .exit)) ⌝ }
+{
+    let mut next = 0;
+    for k in 0..KINDS {
+        let n = lines[k] as usize;
+        next = put_group(out, next, k, all, n);
+    }
 }

@@ -1,21 +1,24 @@
-// The writer: from the three groups to the bytes of a sheet.
+// The writer: from the groups to the bytes of a sheet.
 ghost use mathlib.Core.Path.{_≡_};
-ghost use mathlib.Core.List.{[]};
 ghost use Prim.Native.Nat.{_+_, _≤_, _<_};
 ghost use lib.ListN.{length, take, drop};
 ghost use Rattle.sheet.specs.Lists.{filled};
-ghost use Rattle.sheet.specs.Sheet.{sheetLines};
-ghost use Rattle.sheet.specs.Calls.{sheetOfGroups, writeCall, writeEnd};
-ghost use Rattle.sheet.specs.Inner.{groupLines, GroupIs, JudgedGroup};
+ghost use Rattle.sheet.specs.Kinds.{width, kindS};
+ghost use Rattle.sheet.specs.Calls.{groups, judgedGroups, writeCall, writeEnd};
+ghost use Rattle.sheet.specs.Store.{kindCount, Blank, SomeStore, VerdictIs, WrittenIs};
+ghost use Rattle.sheet.specs.Inner.{GroupReached, GroupTaken};
 use crate::SheetWritten;
-use crate::judge::Tally;
-use crate::judge::Verdict;
-use crate::judge::fault_of;
-use crate::judge::no_lines;
-use crate::judge::with_line;
-use crate::kinds::width_of;
-use crate::text::group_bytes;
-use crate::text::put_group;
+use crate::judge::lacks;
+use crate::kinds::CORRIDOR;
+use crate::kinds::HEAD;
+use crate::kinds::KINDS;
+use crate::kinds::OCCUPANCY;
+use crate::kinds::STORE;
+use crate::kinds::row_of;
+use crate::reader::Verdict;
+use crate::store::take_line;
+use crate::text::put_sheet;
+use crate::text::sheet_bytes;
 
 // The numbers of g from `from` on, w of them, then zeros.
 fn row_at(g: &[u32], from: usize, w: usize) -> [u32; 8]
@@ -31,32 +34,67 @@ fn row_at(g: &[u32], from: usize, w: usize) -> [u32; 8]
     v
 }
 
-// Judges the lines of kind k whose numbers stand in g one after another, after the lines that t tallies.
-fn judge_group(t: Tally, k: usize, g: &[u32]) -> Verdict
-    requires { ⌜ (k < 3) × (t .kind < 3) × (t .lines ≤ 5000000000000000000) × (t .count ≤ 5000000000000000000) ⌝ }
-    ensures { λ r. ⌜ GroupIs t (groupLines k (now (g .entry))) r ⌝ }
+// Takes the lines of kind k whose numbers stand in g one after another, of which the first has the number n: the first refusal with its line, or 0 and
+// the number of the line after them.
+fn take_group(lines: &mut [u32], all: &mut [u32], k: usize, g: &[u32], n: u32) -> Verdict
+    requires { ⌜ (k < kindCount) × (GroupReached (now lines) (now all) n) ⌝ }
+    ensures { λ r. ⌜ GroupTaken k (now (g .entry)) (now (lines .entry)) (now (all .entry)) n (now (lines .exit)) (now (all .exit)) r ⌝ }
 {
-    let w = width_of(k);
-    let n = g.len() / w;
-    let mut tally = t;
+    let row = row_of(k);
+    let w = row.width;
+    let count = g.len() / w;
+    let mut next = n;
     let mut i = 0;
-    while i < n {
+    while i < count {
         let v = row_at(g, i * w, w);
-        let f = fault_of(tally, k, v);
-        if f != 0 {
+        let fault = take_line(lines, all, k, v);
+        if fault != 0 {
             return Verdict {
-                refusal: f,
-                line: tally.lines + 1,
-                tally,
+                refusal: fault,
+                line: next,
             };
         }
-        tally = with_line(tally, k, v);
+        next += 1;
         i += 1;
     }
     Verdict {
         refusal: 0,
+        line: next,
+    }
+}
+
+// Takes the groups as the lines of a sheet into the array of all groups, with the counts of lines: 0, or a refusal with the line at fault.
+fn take_groups(
+    head: &[u32],
+    corridors: &[u32],
+    occupancies: &[u32],
+    lines: &mut [u32],
+    all: &mut [u32],
+) -> Verdict
+    requires { ⌜ (length (now head) ≡ width kindS) × (Blank (now lines) (now all)) ⌝ }
+    ensures { λ r. ⌜ VerdictIs (judgedGroups (groups (now (head .entry)) (now (corridors .entry)) (now (occupancies .entry)))) (now (lines .exit)) (now (all .exit)) r ⌝ }
+{
+    let s = take_group(lines, all, 0, head, 1);
+    if s.refusal != 0 {
+        return s;
+    }
+    let c = take_group(lines, all, 1, corridors, s.line);
+    if c.refusal != 0 {
+        return c;
+    }
+    let o = take_group(lines, all, 2, occupancies, c.line);
+    if o.refusal != 0 {
+        return o;
+    }
+    if lacks(lines) {
+        return Verdict {
+            refusal: 3,
+            line: o.line,
+        };
+    }
+    Verdict {
+        refusal: 0,
         line: 0,
-        tally,
     }
 }
 
@@ -70,48 +108,39 @@ fn refuse(number: u32, line: u32) -> SheetWritten
     }
 }
 
-// Judges the three groups as the lines of a sheet.
-fn judge_groups(head: &[u32], corridors: &[u32], occupancies: &[u32]) -> Verdict
-    requires { ⌜ length (now head) ≡ 7 ⌝ }
-    ensures { λ r. ⌜ JudgedGroup [] (sheetLines (sheetOfGroups (now (head .entry)) (now (corridors .entry)) (now (occupancies .entry)))) r ⌝ }
+// Writes the sheet in the array: the count of bytes, or 12 where the buffer is shorter. What is past the bytes is kept.
+pub fn write_stored(lines: &[u32], all: &[u32], out: &mut [u8]) -> SheetWritten
+    requires { ⌜ SomeStore (now lines) (now all) ⌝ }
+    ensures { λ r. ⌜ WrittenIs (now (lines .entry)) (now (all .entry)) (now (out .entry)) (now (out .exit)) r ⌝ }
 {
-    let s = judge_group(no_lines(), 0, head);
-    if s.refusal != 0 {
-        return s;
-    }
-    let c = judge_group(s.tally, 1, corridors);
-    if c.refusal != 0 {
-        return c;
-    }
-    judge_group(c.tally, 2, occupancies)
-}
-
-// Writes the sheet of the three groups: the S line's seven numbers, five for each corridor, three for each occupancy. Hands back the count of
-// bytes, or one numbered refusal with the line at fault; the buffer past the bytes is kept, and a refusal writes nothing.
-pub fn write(head: &[u32], corridors: &[u32], occupancies: &[u32], out: &mut [u8]) -> SheetWritten
-    ensures { λ r. ⌜ writeEnd r (now (out .exit)) ≡ writeCall (now (head .entry)) (now (corridors .entry)) (now (occupancies .entry)) (now (out .entry)) ⌝ }
-{
-    if (head.len() != 7) | (corridors.len() % 5 != 0) | (occupancies.len() % 3 != 0) {
-        return refuse(2, 0);
-    }
-    let v = judge_groups(head, corridors, occupancies);
-    if v.refusal != 0 {
-        return refuse(v.refusal, v.line as u32);
-    }
-    let c = corridors.len() / 5;
-    let o = occupancies.len() / 3;
-    let bytes = group_bytes(0, head, 1)
-        + group_bytes(1, corridors, c)
-        + group_bytes(2, occupancies, o);
+    let bytes = sheet_bytes(lines, all);
     if out.len() < bytes {
         return refuse(12, 0);
     }
-    let a = put_group(out, 0, 0, head, 1);
-    let b = put_group(out, a, 1, corridors, c);
-    put_group(out, b, 2, occupancies, o);
+    put_sheet(lines, all, out);
     SheetWritten {
         refusal: 0,
         line: 0,
         bytes: bytes as u32,
     }
+}
+
+// Writes the sheet of the groups: the S line's numbers, and those of each corridor and of each occupancy. Hands back the count of bytes, or one
+// numbered refusal with the line at fault; the buffer past the bytes is kept, and a refusal writes nothing.
+pub fn write(head: &[u32], corridors: &[u32], occupancies: &[u32], out: &mut [u8]) -> SheetWritten
+    ensures { λ r. ⌜ writeEnd r (now (out .exit)) ≡ writeCall (now (head .entry)) (now (corridors .entry)) (now (occupancies .entry)) (now (out .entry)) ⌝ }
+{
+    if (head.len() != HEAD)
+        | (corridors.len() % CORRIDOR != 0)
+        | (occupancies.len() % OCCUPANCY != 0)
+    {
+        return refuse(2, 0);
+    }
+    let mut lines = [0u32; KINDS];
+    let mut all = [0u32; STORE];
+    let v = take_groups(head, corridors, occupancies, &mut lines, &mut all);
+    if v.refusal != 0 {
+        return refuse(v.refusal, v.line);
+    }
+    write_stored(&lines, &all, out)
 }

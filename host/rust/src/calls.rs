@@ -57,9 +57,9 @@ pub struct FrontAnswer {
     /// The line at fault, from 1; 0 where no line is at fault.
     pub line: u32,
     /// The count of front costs.
-    pub costs: u32,
+    pub costs: u64,
     /// The number of leading arrivals.
-    pub arrivals: u32,
+    pub arrivals: u64,
 }
 
 impl FrontAnswer {
@@ -191,9 +191,9 @@ mod tests {
         assert_eq!([offset_of!(SheetWritten, refusal), offset_of!(SheetWritten, line)], [0, 4]);
         assert_eq!(offset_of!(SheetWritten, bytes), 8);
 
-        assert_eq!((size_of::<FrontAnswer>(), align_of::<FrontAnswer>()), (16, 4));
+        assert_eq!((size_of::<FrontAnswer>(), align_of::<FrontAnswer>()), (24, 8));
         assert_eq!([offset_of!(FrontAnswer, refusal), offset_of!(FrontAnswer, line)], [0, 4]);
-        assert_eq!([offset_of!(FrontAnswer, costs), offset_of!(FrontAnswer, arrivals)], [8, 12]);
+        assert_eq!([offset_of!(FrontAnswer, costs), offset_of!(FrontAnswer, arrivals)], [8, 16]);
 
         assert_eq!((size_of::<JourneyAnswer>(), align_of::<JourneyAnswer>()), (24, 4));
         assert_eq!([offset_of!(JourneyAnswer, refusal), offset_of!(JourneyAnswer, line)], [0, 4]);

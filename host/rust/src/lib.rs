@@ -5,8 +5,8 @@
 //! the sheet's values and [`write()`](fn@write) the text of a sheet. Each gives a result or one numbered [`Refusal`].
 //! [`calls`] has the calls themselves, on buffers that the caller lends.
 //!
-//! The functions keep nothing between calls and may run on several threads at once. Each uses up to 256 KiB of stack
-//! in the planner (measured; docs/DECISIONS.md, "Stack"); the arrivals table and the front list are on the heap.
+//! The functions keep nothing between calls and may run on several threads at once. Each uses up to 200,000 bytes of
+//! stack in the planner (measured; docs/DECISIONS.md, "Stack"); the arrivals table and the front list are on the heap.
 //! examples/plan.rs shows their use.
 
 #![deny(unsafe_code)]

@@ -19,7 +19,7 @@ impl Refusal {
         if number == 0 { Ok(()) } else { Err(Refusal { number, line }) }
     }
 
-    /// What the number means.
+    /// What the number means, in the words of host/refusals.txt.
     pub fn meaning(&self) -> &'static str {
         match self.number {
             1 => "the sheet has more than 10,240 bytes",

@@ -187,7 +187,7 @@ fn front_page(tried: &Tried, lens: [usize; 2], random: &mut Random) -> Result<St
     }
     let mut page = format!("F,{},{}\n", answer.costs, answer.arrivals);
     page.extend(arrivals.chunks(5).take(answer.arrivals as usize).map(|row| line_of('A', row)));
-    for number in 0..answer.costs {
+    for number in (0..).take(answer.costs as usize) {
         page.push_str(&journey_page(tried, number, [lens[0], 256], random)?);
     }
     Ok(page)

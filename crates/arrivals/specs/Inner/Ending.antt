@@ -2,14 +2,15 @@
 -- zeros; where there is no room, the rows found and the one more are leading arrivals, so that there are more of them than room.
 use mathlib.Core.Path.{_≡_, refl, sym, ap, ap₂, _∙_, subst}
 use mathlib.Core.Bool.{Bool, true, false}
-use mathlib.Core.List.{List, [], _∷_, _++_, reverse, reverse-cons, append-nil, append-assoc}
+use mathlib.Core.List.{List, _∷_, _++_, reverse, reverse-cons, append-nil, append-assoc, []}
 use mathlib.Core.Logic.{_⊎_, inl, inr, ⊎-elim}
 use Prim.Native.Nat.{ℕ, zero, suc, _+_, _*_, _-_, _≤_, _<_, _/_}
 use native.Mathlib.Omega.{arith}
-use lib.ListN.{length, getD, take, replicate, length-append, length-reverse, length-replicate}
-use lib.Seq.{ext-getD, take-suc, length-take-le}
+use lib.ListN.{length, getD, take, replicate, length-append, length-reverse, length-replicate, List·getD-append}
+use lib.Seq.{ext-getD, take-suc, length-take-le, getD-take, getD-append-add}
 use borrow.Author.Tests.{lt-ltb, le-ltb}
-use Rattle.sheet.specs.Lists.{_∈_, numbersFrom, number, bind, Lex, Ascending}
+use Rattle.sheet.specs.Lists.{_∈_, numbersFrom, number, bind, Lex}
+use Rattle.sheet.specs.Sorting.{Ascending}
 use Rattle.sheet.specs.Sheet.{Sheet, steps}
 use Rattle.sheet.specs.Laws.Binds.{bind-append}
 use Rattle.sheet.specs.Laws.Order.{Lex-irrefl, Lex-trans}
@@ -17,12 +18,51 @@ use Rattle.sheet.specs.Laws.Members.{mem-left, mem-right, mem-append}
 use Rattle.sheet.specs.Laws.Ascending.{before-all, ascending-append, ascending-unique}
 use Rattle.arrivals.specs.Arrivals.{Arrival, keyOf}
 use Rattle.arrivals.specs.Computed.{leading}
-use Rattle.arrivals.specs.Table.{arrivalRow, crowded, arrivalTable, SearchEnd, searchOn}
+use Rattle.arrivals.specs.Table.{arrivalRow, crowded, arrivalTable}
+use Rattle.arrivals.specs.Search.{SearchEnd, searchOn}
 use Rattle.arrivals.specs.Laws.Leading.{is-leading, leading-is, leading-ascending}
-use Rattle.arrivals.specs.Inner.Facts.{lt-or-le}
-use Rattle.arrivals.specs.Inner.Rows.{Row, rowAt, rowsOf, here, there}
-use Rattle.arrivals.specs.Inner.Table.{Case, RowBefore, Falling, none-falling, more-falling, Filled, Crowded, Search, cut-below, cut-past, count-rows}
-use Rattle.arrivals.specs.Inner.Meaning.{In, Fits, in-all, rows-lead, leads-rows, filling-lead}
+use Rattle.sheet.specs.Laws.Decided.{false-not-true, lt-or-le, In, here, there, in-all}
+use Rattle.arrivals.specs.Rows.{Row, rowAt}
+use Rattle.arrivals.specs.Inner.Rows.{rowsOf, rows-kept, zeros-at, count-rows}
+use Rattle.arrivals.specs.Inner.Network.{Case}
+use Rattle.arrivals.specs.Inner.Filling.{RowBefore, Falling, none-falling, more-falling, Filled, filled-as, Crowded}
+use Rattle.arrivals.specs.Inner.Meaning.{Fits, rows-lead, leads-rows, filling-lead}
+use Rattle.arrivals.specs.declared.offers.Outcome.{Outcome}
+
+-- what the whole search leaves in a table of the given length: all rows before step t, and zeros; or zeros alone, where there is no room
+pub record Search (k : Case) (t size : ℕ) (xs : List ℕ) (ok : Bool) (n : ℕ) : Type 0 where
+  pub same : length xs ≡ size
+  pub room : n * 5 ≤ size
+  pub done : ok ≡ true → Filled k (rowsOf xs n) t 0
+  pub rest : (j : ℕ) → n * 5 ≤ j → getD xs j 0 ≡ 0
+  pub full : ok ≡ false → (n ≡ 0) × Crowded k size t 0
+
+abbrev pub Ends : Case → ℕ → ℕ → List ℕ → Outcome → Type 0
+Ends k last size xs o = Search k (last + 1) size xs (o .ok) (o .rows)
+
+-- zeros after the rows
+
+module _ (xs : List ℕ) (a b : ℕ) (fits : a ≤ length xs) where
+  pub cut-below : (j : ℕ) → j < a → getD (take a xs ++ replicate b 0) j 0 ≡ getD xs j 0
+  cut-below j l = List·getD-append (take a xs) (replicate b 0) 0 j (omega (arith, length-take-le a xs fits)) ∙ getD-take a xs j 0 l
+
+  pub cut-past : (j : ℕ) → a ≤ j → getD (take a xs ++ replicate b 0) j 0 ≡ 0
+  cut-past j l =
+      ap (λ (i : ℕ). getD (take a xs ++ replicate b 0) i 0) (omega (arith, length-take-le a xs fits)) ∙ getD-append-add (take a xs) (replicate b 0) (j - a) 0 ∙ zeros-at b (j - a)
+
+pub search-ok : (k : Case) (t size : ℕ) (xs ys : List ℕ) (n : ℕ) → length ys ≡ size → n * 5 ≤ size → n * 5 ≤ length xs → Filled k (rowsOf xs n) t 0 → ys ≡ take (n * 5) xs ++ replicate (length xs - n * 5) 0 → Search k t size ys true n
+search-ok k t size xs ys n same wide l f e =
+    record {
+      same = same;
+      room = wide;
+      done = λ _. filled-as (rows-kept xs ys n (λ j m. ap (λ (z : List ℕ). getD z j 0) e ∙ cut-below xs (n * 5) (length xs - n * 5) l j m)) f;
+      rest = λ j m. ap (λ (z : List ℕ). getD z j 0) e ∙ cut-past xs (n * 5) (length xs - n * 5) l j m;
+      full = λ z. absurd (false-not-true z refl);
+    }
+
+pub search-full : (k : Case) (t size : ℕ) (ys : List ℕ) (m : ℕ) → length ys ≡ size → ys ≡ replicate m 0 → Crowded k size t 0 → Search k t size ys false 0
+search-full k t size ys m same e c =
+    record { same = same; room = omega arith; done = λ z. absurd (false-not-true refl z); rest = λ j l. ap (λ (z : List ℕ). getD z j 0) e ∙ zeros-at m j; full = λ z. (refl, c) }
 
 -- members
 in-mem : {r : Row} {rs : List Row} → In r rs → r ∈ rs

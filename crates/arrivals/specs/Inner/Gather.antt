@@ -1,21 +1,28 @@
 -- Once every cost of entering a place at a step has been offered, the group is what the search has to add.
 use mathlib.Core.Path.{_≡_, refl, sym, ap, _∙_, subst}
-use mathlib.Core.List.{List, [], _∷_, _++_}
+use mathlib.Core.List.{List, _∷_, _++_, []}
 use mathlib.Core.Bool.{true}
 use mathlib.Core.Logic.{_⊎_, inl, inr, ⊎-elim}
 use Prim.Native.Nat.{ℕ, zero, suc, _+_, _*_, _-_, _≤_, _<_}
 use native.Mathlib.Omega.{arith}
-use lib.ListN.{getD, length}
+use lib.ListN.{getD}
 use Rattle.sheet.specs.Lists.{Lex}
 use Rattle.sheet.specs.Laws.Order.{Lex-trans}
-use Rattle.costs.specs.Costs.{add, times, AtMost}
+use Rattle.sheet.specs.Laws.Decided.{lt-or-le, Any, All, In, here, there, none, more, any-cons, any-nil, all-head, all-tail, all-map, all-both, all-join, any-map, any-all, any-right, any-left, any-split, none-of}
+use Rattle.costs.specs.Costs.{Cost, add, times, AtMost}
 use Rattle.costs.specs.Laws.Figures.{fig-add, at-most-refl, at-most-trans, Lex-compared}
-use Rattle.arrivals.specs.Inner.Facts.{lt-or-le}
-use Rattle.arrivals.specs.Inner.Rows.{Row, rowAt, rowsOf, row-path, Any, All, here, there, none, more, any-cons, any-nil, all-head, all-tail, all-at, rows-kept, Bounded, RowLeads}
-use Rattle.arrivals.specs.Inner.Search.{sinceIn, Enters, Led}
-use Rattle.arrivals.specs.Inner.Table.{Case, caseOf, Given, Legal, since, Vacant, Cand, Lead, Open, Less, Sound, entered, Falling, more-falling, Filled, startRow, self-leads, all-map, all-both, any-map, any-all, cand-down, cand-bounded, row-after, filling-of, filled-as, Result, result-done}
-use Rattle.arrivals.specs.Inner.Index.{Indexed, Due, dueOf, due-rests, indexed-more, indexed-kept, Grown, grown-none, grown-more, NotedAs}
-use Rattle.arrivals.specs.Inner.Group.{Put, tailOf, tail-zero, rows-tail, Swept, swept-none, Beaten, Thin, thin-none, thin-drop, thin-keep, Stops, stops-none, stops-at, Insert, insert-here, insert-past, Offered, offered-not, offered-in, Offers, offers-none, offers-more}
+use Rattle.arrivals.specs.Rows.{Row, rowAt, Put}
+use Rattle.arrivals.specs.Laws.Rows.{row-path}
+use Rattle.arrivals.specs.Inner.Rows.{rowsOf, all-at, rows-kept, rows-tail, tailOf, tail-zero, Bounded}
+use Rattle.arrivals.specs.Inner.Network.{Case, caseOf, Link, Legal, since, sinceIn, Vacant, linkOf, linksOf, links-find, countOf}
+use Rattle.arrivals.specs.Inner.Entering.{Enters, RowLeads, Led, LedAt, Stands, Cand, Lead, Open, Less, cand-down, cand-bounded, self-leads, led-lead}
+use Rattle.arrivals.specs.Inner.Pruning.{Steady, steady-none}
+use Rattle.arrivals.specs.Inner.Filling.{Sound, entered, Falling, more-falling, Filled, startRow, row-after, filling-of, filled-place, filled-as, result-done, Grown, grown-none, grown-more, Visiting, Visited}
+use Rattle.arrivals.specs.Inner.Offering.{Beaten, Thin, thin-none, thin-drop, thin-keep, Stops, stops-none, stops-at, Insert, insert-here, insert-past, Offered, offered-not, offered-in, Offers, offers-none, offers-more}
+use Rattle.arrivals.specs.Inner.Sweeps.{SweptAt}
+use Rattle.arrivals.specs.Inner.Index.{Indexed, newestOf, dueOf, row-newest-in, indexed-more, indexed-kept, NotedAs}
+use Rattle.arrivals.specs.Inner.Due.{Due}
+use Rattle.arrivals.specs.declared.network.Here.{Here}
 
 abbrev pub Apart : List ℕ → Row → Type 0
 Apart g q = Lex (q .cost) g × (AtMost (q .cost) g → ⊥)
@@ -60,10 +67,6 @@ insert-all : {P : Row → Type 0} {r : Row} {ps qs : List Row} → Insert r ps q
 insert-all (insert-here s) p a = more p a
 insert-all (insert-past l i) p a = more (all-head a) (insert-all i p (all-tail a))
 
-none-of : {P : Row → Type 0} (ps : List Row) → (Any P ps → ⊥) → All (λ q. P q → ⊥) ps
-none-of [] n = none
-none-of (q ∷ ps) n = more (λ p. n (here p)) (none-of ps (λ a. n (there a)))
-
 all-behind : {r : Row} {ps : List Row} → Stops r ps → Sorted ps → (Beaten ps (r .cost) → ⊥) → All (Apart (r .cost)) ps
 all-behind stops-none s n = none
 all-behind {r} (stops-at {q} {qs} b) s n =
@@ -77,7 +80,7 @@ insert-sorted n m s (insert-past b i) = sorted-more (insert-all i (b, all-head m
 
 module _ (k : Case) (rs : List Row) (v t : ℕ) where
   abbrev Older : List ℕ → Type 0
-  Older h = Led rs v t (since k v t) (k .wait) h
+  Older h = Led rs v t (since k v t) (k .wait v) h
 
   pub gathered : {S : List ℕ → Type 0} {gs : List Row} → ((h : List ℕ) → S h → Cand k rs v t h) → Offers S Older v t [] gs → All (Own k rs v t) gs × Sorted gs
   gathered f offers-none = (none, sorted-none)
@@ -88,22 +91,6 @@ module _ (k : Case) (rs : List Row) (v t : ℕ) where
       go a b (offered-in n h y i) =
           let own : Own k rs v t (record { place = v; step = t; cost = g }) = record { place = refl; step = refl; fresh = record { cand = f g s; unled = λ l. h (l .row) } } in
           (insert-all i own (thin-all y a), insert-sorted (λ z. n (thin-any y z)) (thin-left y) (thin-sorted y b) i)
-
-any-right : {P : Row → Type 0} (gs : List Row) {rs : List Row} → Any P rs → Any P (gs ++ rs)
-any-right [] a = a
-any-right (g ∷ gs) a = there (any-right gs a)
-
-any-left : {P : Row → Type 0} {gs : List Row} (rs : List Row) → Any P gs → Any P (gs ++ rs)
-any-left rs (here p) = here p
-any-left rs (there a) = there (any-left rs a)
-
-any-split : {P : Row → Type 0} (gs : List Row) {rs : List Row} → Any P (gs ++ rs) → Any P gs ⊎ Any P rs
-any-split [] a = inr a
-any-split (g ∷ gs) a = ⊎-elim (λ p. inl (here p)) (λ b. ⊎-elim (λ c. inl (there c)) (λ c. inr c) (any-split gs b)) (any-cons a)
-
-all-join : {P : Row → Type 0} {gs rs : List Row} → All P gs → All P rs → All P (gs ++ rs)
-all-join none b = b
-all-join (more p a) b = more p (all-join a b)
 
 less-sum : (a b g : List ℕ) → AtMost (add a b) g → AtMost a g
 less-sum a b g l = record { every = λ i. omega (arith, fig-add a b i, l .every i) }
@@ -117,17 +104,17 @@ record Part (k : Case) (qs : List Row) (t v : ℕ) : Type 0 where
 
 module _ (k : Case) (rs : List Row) (t v : ℕ) (legal : Legal k) (one : 1 ≤ t) (inside : v < k .places) (free : Vacant k v t) (f : Filled k rs t v) where
   cand-up : (gs : List Row) (g : List ℕ) → Cand k rs v t g → Cand k (gs ++ rs) v t g
-  cand-up gs g c = record { over = any-map (λ l e. record { into = e .into; by = any-right gs (e .by) }) (c .over) }
+  cand-up gs g c = record { over = any-map (λ l e. record { into = e .into; opens = e .opens; by = any-right gs (e .by) }) (c .over) }
 
   cand-back : {gs : List Row} (u s : ℕ) (g : List ℕ) → s ≤ t → All (Own k rs v t) gs → Cand k (gs ++ rs) u s g → Cand k rs u s g
   cand-back u s g l none c = c
-  cand-back u s g l (more {r} {rs = gs} p a) c = cand-back u s g l a (cand-down k r (gs ++ rs) u s g (omega (arith, p .step)) c)
+  cand-back u s g l (more {x = r} {l = gs} p a) c = cand-back u s g l a (cand-down k r (gs ++ rs) u s g (omega (arith, p .step)) c)
 
   add-row : (gs : List Row) (g : List ℕ) → Part k (gs ++ rs) t v → All (Own k rs v t) gs → All (Apart g) gs → Open k rs v t g → Part k (record { place = v; step = t; cost = g } ∷ gs ++ rs) t v
   add-row gs g p a s o =
       record {
         bounded = more (cand-bounded k rs v t g legal (f .bounded) (o .cand)) (p .bounded);
-        keys = more {r = record { place = v; step = t; cost = g }} (inr (refl, omega arith)) (p .keys);
+        keys = more {x = record { place = v; step = t; cost = g }} (inr (refl, omega arith)) (p .keys);
         ascending = more-falling (all-both (row-after v t g) (p .keys) (all-join (all-map (λ q x y z. x .0) s) (all-map (λ r l e w. absurd (⊎-elim (λ b. omega arith) (λ b. omega (arith, b .1)) l)) (f .keys)))) (p .ascending);
         sound = entered inside one free (record { cand = cand-up gs g (o .cand); unled = λ l. ⊎-elim (λ x. any-all (λ q d y. y .1 (less-sum (q .cost) _ g (d .least))) x s) (λ x. o .unled (record { row = x })) (any-split gs (l .row)) }) (p .sound);
         started = λ w. there (p .started w);
@@ -135,23 +122,23 @@ module _ (k : Case) (rs : List Row) (t v : ℕ) (legal : Legal k) (one : 1 ≤ t
 
   part : {gs : List Row} → All (Own k rs v t) gs → Sorted gs → Part k (gs ++ rs) t v
   part none s = let w = filling-of k rs t v f in record { bounded = w .bounded; keys = w .keys; ascending = w .ascending; sound = w .sound; started = w .started }
-  part (more {r} {rs = gs} p a) s =
+  part (more {x = r} {l = gs} p a) s =
       subst (λ (q : Row). Part k (q ∷ gs ++ rs) t v) (row-path (sym (p .place)) (sym (p .step)) refl) (add-row gs (r .cost) (part a (sorted-tail s)) a (sorted-head s) (p .fresh))
 
-  held-lead : {gs : List Row} (h : List ℕ) → All (Own k rs v t) gs → Beaten gs h ⊎ Led rs v t (since k v t) (k .wait) h → Lead k (gs ++ rs) v t h
+  held-lead : {gs : List Row} (h : List ℕ) → All (Own k rs v t) gs → Beaten gs h ⊎ Led rs v t (since k v t) (k .wait v) h → Lead k (gs ++ rs) v t h
   held-lead {gs} h a (inl b) = record { row = any-left rs (own-leads a b) }
     where
-      own-leads : {gs : List Row} → All (Own k rs v t) gs → Beaten gs h → Any (RowLeads v t (since k v t) (k .wait) h) gs
+      own-leads : {gs : List Row} → All (Own k rs v t) gs → Beaten gs h → Any (RowLeads v t (since k v t) (k .wait v) h) gs
       own-leads none b = absurd (any-nil b)
-      own-leads (more {r} {rs = gs} p a) b =
+      own-leads (more {x = r} {l = gs} p a) b =
           ⊎-elim
-          (λ l. let z = self-leads v t (since k v t) (k .wait) (r .cost) free in
-          here (record { place = p .place; late = omega (arith, p .step); early = omega (arith, p .step); least = at-most-trans _ (r .cost) h (subst (λ (n : ℕ). AtMost (add (r .cost) (times (t - n) (k .wait))) (r .cost)) (sym (p .step)) (z .least)) l }))
+          (λ l. let z = self-leads v t (since k v t) (k .wait v) (r .cost) free in
+          here (record { place = p .place; late = omega (arith, p .step); early = omega (arith, p .step); least = at-most-trans _ (r .cost) h (subst (λ (n : ℕ). AtMost (add (r .cost) (times (t - n) (k .wait v))) (r .cost)) (sym (p .step)) (z .least)) l }))
           (λ c. there (own-leads a c))
           (any-cons b)
   held-lead {gs} h a (inr b) = record { row = any-right gs b }
 
-  pub filled-group : {gs : List Row} → All (Own k rs v t) gs → Sorted gs → ((h : List ℕ) → Cand k rs v t h → Beaten gs h ⊎ Led rs v t (since k v t) (k .wait) h) → Filled k (gs ++ rs) t (v + 1)
+  pub filled-group : {gs : List Row} → All (Own k rs v t) gs → Sorted gs → ((h : List ℕ) → Cand k rs v t h → Beaten gs h ⊎ Led rs v t (since k v t) (k .wait v) h) → Filled k (gs ++ rs) t (v + 1)
   filled-group {gs} a s held =
       let p = part a s in
       record {
@@ -179,31 +166,46 @@ unfolding tailOf
 tail-all xs a zero i l x = absurd (omega arith)
 tail-all {P} xs a (suc d) i l x = ⊎-elim (λ lt. tail-all xs a d i lt (all-tail x)) (λ ge. let e : d ≡ i = omega arith in subst (λ (k : ℕ). P (rowAt xs (a + k))) e (all-head x)) (lt-or-le i d)
 
-abbrev pub AllEntries : Case → List Row → ℕ → ℕ → List ℕ → Type 0
-AllEntries k rs v t h = Any (Enters (k .free) rs v t (since k v t) (k .wait) h) (k .links)
-
-pub swept-filled : (k : Case) (xs ys : List ℕ) (rows d t v : ℕ) → Legal k → 1 ≤ t → v < k .places → Vacant k v t → Filled k (rowsOf xs rows) t v
-    → Swept (AllEntries k (rowsOf xs rows) v t) (Led (rowsOf xs rows) v t (since k v t) (k .wait)) v t rows xs ys 0 true d → Result k ys t (v + 1) true (rows + d) × Grown xs ys rows (rows + d) v t
-swept-filled k xs ys rows d t v legal one inside free f s =
+-- every cost of entering where a cart stands has been offered
+pub swept-filled : (k : Case) (xs ys : List ℕ) (rows d : ℕ) (h : Here) → Legal k → Stands k h → Filled k (rowsOf xs rows) (h .step .0) (h .place .0)
+    → SweptAt (λ g. Any (Enters k (rowsOf xs rows) (h .place .0) (h .step .0) g) (k .links)) h rows xs ys 0 true d → Visited k xs ys rows (h .place .0) (h .step .0) (record { ok = true; rows = rows + d })
+swept-filled k xs ys rows d h legal st f s =
     let rs = rowsOf xs rows in
-    let o = subst (λ (gs : List Row). Offers (AllEntries k rs v t) (Led rs v t (since k v t) (k .wait)) v t gs (tailOf ys rows d)) (tail-zero xs rows) (s .done refl) in
-    let g = gathered k rs v t (λ h e. record { over = e }) o in
-    let e : rowsOf ys (rows + d) ≡ tailOf ys rows d ++ rs = rows-tail ys rows d ∙ ap (λ (qs : List Row). tailOf ys rows d ++ qs) (rows-kept xs ys rows (s .below)) in (
-      result-done k ys t (v + 1) (rows + d) (s .room) (filled-as e (filled-group k rs t v legal one inside free f (g .0) (g .1) (λ h c. s .all refl h (c .over)))),
-      record { more = omega arith; below = s .below; own = λ i l m. let q : rows + (i - rows) ≡ i = omega arith in let w = tail-all ys rows d (i - rows) (omega arith) (g .0) in subst (λ (j : ℕ). (rowAt ys j .place ≡ v) × (rowAt ys j .step ≡ t)) q (w .place, w .step) },
-    )
+    let v = h .place .0 in
+    let t = h .step .0 in
+    let o = subst (λ (w : Cost). Offers (λ g. Any (Enters k rs v t g) (k .links)) (Led rs v t (since k v t) w) v t [] (tailOf ys rows d)) (st .wait)
+    (subst (λ (y : ℕ). Offers (λ g. Any (Enters k rs v t g) (k .links)) (Led rs v t y (h .wait)) v t [] (tailOf ys rows d)) (st .since)
+    (subst (λ (gs : List Row). Offers (λ g. Any (Enters k rs v t g) (k .links)) (LedAt rs h) v t gs (tailOf ys rows d)) (tail-zero xs rows) (s .done refl))) in
+    let g = gathered k rs v t (λ x e. record { over = e }) o in
+    let e : rowsOf ys (rows + d) ≡ tailOf ys rows d ++ rs = rows-tail ys rows d ∙ ap (λ (qs : List Row). tailOf ys rows d ++ qs) (rows-kept xs ys rows (s .below)) in
+    record {
+      result = result-done k ys t (v + 1) (rows + d) (s .room)
+          (filled-as e (filled-group k rs t v legal (st .first) (st .inside) (st .vacant) f (g .0) (g .1) (λ x c. ⊎-elim (λ b. inl b) (λ l. inr (led-lead h st l .row)) (s .all refl x (c .over)))));
+      grown = record { more = omega arith; below = s .below; own = λ i l m. let q : rows + (i - rows) ≡ i = omega arith in let w = tail-all ys rows d (i - rows) (omega arith) (g .0) in subst (λ (j : ℕ). (rowAt ys j .place ≡ v) × (rowAt ys j .step ≡ t)) q (w .place, w .step) };
+    }
 
--- a place that rests adds nothing
-module _ (free links : List ℕ) (m : ℕ) (wait : List ℕ) (places start : ℕ) where
-  abbrev Rested : Case
-  Rested = caseOf free links m wait places start
+-- a place that rests adds nothing: the rule covers every corridor into it
+pub rests-filled : (free net xs ix : List ℕ) (rows v t : ℕ) → Visiting free net xs rows v t → Indexed xs rows ix t → Due net ix → sinceIn free v t < t → Steady (caseOf free net) v t → dueOf ix v < t
+    → Visited (caseOf free net) xs xs rows v t (record { ok = true; rows = rows })
+rests-filled free net xs ix rows v t a w d began steady late =
+    record {
+      result = result-done k xs t (v + 1) rows (a .room)
+          (filled-place k rs t v (filling-of k rs t v (a .filled)) (λ g o. o .unled (steady-none k (a .given .legal) rs v t g (a .filled .complete) (a .last) began steady old (o .cand .over))));
+      grown = grown-none xs rows v t;
+    }
+  where
+    k : Case
+    k = caseOf free net
 
-  pub rests-filled : (xs ix : List ℕ) (rows t v : ℕ) → Given (caseOf free links m wait places start) links m free → 1 ≤ t → v < places → Vacant (caseOf free links m wait places start) v t → Filled (caseOf free links m wait places start) (rowsOf xs rows) t v → rows * 5 ≤ length xs
-      → Indexed xs rows ix t → Due links m ix → (sinceIn free v t ≡ t → ⊥) → dueOf ix v < t → Result (caseOf free links m wait places start) xs t (v + 1) true rows × Grown xs xs rows rows v t
-  rests-filled xs ix rows t v given one inside vacant f room w d n l =
-      let e : rows + 0 ≡ rows = omega arith in
-      subst (λ (i : ℕ). Result Rested xs t (v + 1) true i × Grown xs xs rows i v t) e
-      (swept-filled Rested xs xs rows 0 t v (given .legal) one inside vacant f (swept-none (omega arith) (λ h z. absurd (due-rests xs rows ix t free links m v (sinceIn free v t) wait h w d (given .legal .links) (omega (arith, given .places)) n l z))))
+    rs : List Row
+    rs = rowsOf xs rows
+
+    old : (l : Link) → In l (linksOf net (countOf net)) → l .to ≡ v → (r : Row) → In r (rowsOf xs rows) → r .place ≡ l .from → r .step + 1 < t
+    old l m into r i p =
+        let q = links-find net (countOf net) m in
+        let from : linkOf net 0 (q .at) ≡ r .place = ap (λ (x : Link). x .from) (q .fits) ∙ sym p in
+        let to : linkOf net 1 (q .at) ≡ v = ap (λ (x : Link). x .to) (q .fits) ∙ into in
+        omega (arith, row-newest-in w r i, subst (λ (u : ℕ). newestOf ix u ≤ dueOf ix v) from (subst (λ (u : ℕ). newestOf ix (linkOf net 0 (q .at)) ≤ dueOf ix u) to (d .due (q .at) (q .upto))))
 
 pub grown-base : (xs ys zs : List ℕ) (n m v t : ℕ) → ((j : ℕ) → j < n * 5 → getD ys j 0 ≡ getD xs j 0) → Grown ys zs n m v t → Grown xs zs n m v t
 grown-base xs ys zs n m v t same g = record { more = g .more; below = λ j l. g .below j l ∙ same j l; own = g .own }

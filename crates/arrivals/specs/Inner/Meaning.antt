@@ -1,6 +1,7 @@
 -- The rows of a search are leading arrivals of the sheet that it searches: every arrival is led by a row, each row arrives, and no row leads
 -- another; so the rows of a finished search are exactly the leading arrivals, and those of one that is under way are leading arrivals.
 use mathlib.Core.Path.{_≡_, refl, sym, ap, _∙_, subst}
+use mathlib.Core.Bool.{true}
 use mathlib.Core.List.{List, [], _∷_}
 use mathlib.Core.Logic.{inl, inr, ⊎-elim}
 use Prim.Native.Nat.{ℕ, zero, suc, _+_, _*_, _-_, _≤_, _<_}
@@ -9,22 +10,20 @@ use native.Mathlib.Nat.{add-mul, one-mul}
 use native.Mathlib.Numerals.{add-one}
 use lib.ListN.{length}
 use Rattle.sheet.specs.Sheet.{Sheet, steps, start}
+use Rattle.sheet.specs.Laws.Decided.{lt-or-le, All, In, there, none, more, any-cons, any-nil, all-head, all-tail, all-map, any-map, any-all, any-find, in-all}
 use Rattle.costs.specs.Costs.{Cost, fig, zeroCost, add, times, AtMost}
 use Rattle.costs.specs.Laws.Figures.{fig-add, fig-times, at-most-trans, same?, at-most-not-Lex}
 use Rattle.costs.specs.Moves.{waitOf, Crossing}
 use Rattle.intervals.specs.Intervals.{Free, Run}
 use Rattle.arrivals.specs.Ways.{Move, waits, crosses}
-use Rattle.arrivals.specs.Arrivals.{Arrival, arrival, keyOf, Arrives, waited, Leads, Leading}
+use Rattle.arrivals.specs.Arrivals.{Arrival, arrival, keyOf, Arrives, Leads, Leading}
+use Rattle.arrivals.specs.Rows.{Row}
 use Rattle.arrivals.specs.Laws.Trails.{Begins, Trail}
 use Rattle.arrivals.specs.Laws.Leading.{key-inj, arrives-came, arrives-three, Covers, leads-covers, covers-trans, covers-antisym, covers-leads, came-arrives}
 use Rattle.arrivals.specs.Laws.Steps.{arrives-on, arrives-back, arrives-until}
-use Rattle.arrivals.specs.Inner.Facts.{lt-or-le}
-use Rattle.arrivals.specs.Inner.Rows.{Row, Any, All, here, there, none, more, any-cons, any-nil, all-head, all-tail, RowLeads}
-use Rattle.arrivals.specs.Inner.Search.{sinceIn, reach, Joins, Enters, Near}
-use Rattle.arrivals.specs.Inner.Table.{Case, since, Vacant, Cand, Lead, RowBefore, Falling, more-falling, Sound, empty, first, entered, Filled, Filling, Complete, Less, startRow, lead-of, any-map, any-all, all-map, self-leads}
-
-abbrev pub In : Row → List Row → Type 0
-In r rs = Any (λ q. q ≡ r) rs
+use Rattle.arrivals.specs.Inner.Network.{Link, openb, Case, since, Vacant}
+use Rattle.arrivals.specs.Inner.Entering.{reach, Joins, Enters, RowLeads, Cand, Lead, Less, Complete, lead-of, lead-weaken, self-leads}
+use Rattle.arrivals.specs.Inner.Filling.{RowBefore, Falling, more-falling, Sound, empty, first, entered, Filled, Filling, startRow}
 
 -- the case is that of the sheet: its free runs within the horizon, its corridors, its waiting cost, its places and its start
 pub record Fits (s : Sheet) (k : Case) : Type 0 where
@@ -32,55 +31,45 @@ pub record Fits (s : Sheet) (k : Case) : Type 0 where
   pub vacant : (v t : ℕ) → v < k .places → t ≤ steps s → Free s v t → Vacant k v t
   pub runs : (v u t : ℕ) → v < k .places → t ≤ steps s → since k v t ≤ u → u ≤ t → since k v u ≡ since k v t
   pub soonest : (v u t : ℕ) → v < k .places → t ≤ steps s → u ≤ t → Run s v u t → since k v t ≤ u
-  pub crossing : (l : Row) → In l (k .links) → (t : ℕ) → Crossing s (l .place) (l .step) t (l .cost)
-  pub listed : (u v t : ℕ) (c : Cost) → Crossing s u v t c → In (record { place = u; step = v; cost = c }) (k .links)
-  pub from : (l : Row) → In l (k .links) → l .place < k .places
-  pub into : (l : Row) → In l (k .links) → l .step < k .places
-  pub wait : (v : ℕ) → waitOf s v ≡ k .wait
+  pub crossing : (l : Link) → In l (k .links) → (t : ℕ) → openb l t ≡ true → Crossing s (l .from) (l .to) t (l .cost)
+  pub listed : (u v t : ℕ) (c : Cost) → Crossing s u v t c → In (record { from = u; to = v; cost = c }) (k .links) × (openb (record { from = u; to = v; cost = c }) t ≡ true)
+  pub from : (l : Link) → In l (k .links) → l .from < k .places
+  pub into : (l : Link) → In l (k .links) → l .to < k .places
+  pub wait : (v : ℕ) → v < k .places → waitOf s v ≡ k .wait v
   pub start : k .start ≡ start s
   pub start-place : k .start < k .places
 
-any-find : {P : Row → Type 0} {rs : List Row} → Any P rs → (r : Row) × In r rs × P r
-any-find (here p) = (_, here refl, p)
-any-find (there a) = let f = any-find a in (f .0, there (f .1), f .2)
-
-pub in-all : {P : Row → Type 0} {r : Row} {rs : List Row} → In r rs → All P rs → P r
-in-all {P} i a = any-all (λ q e p. subst P e p) i a
-
 one-more : (n m : ℕ) → (n + 1) * m ≡ n * m + m
 one-more n m = add-mul n 1 m ∙ ap (λ (x : ℕ). n * m + x) (one-mul m)
-
-lead-weaken : (k : Case) (rs : List Row) (v t : ℕ) (g h : Cost) → AtMost g h → Lead k rs v t g → Lead k rs v t h
-lead-weaken k rs v t g h a l = record { row = any-map (λ r d. record { place = d .place; late = d .late; early = d .early; least = at-most-trans _ g h (d .least) a }) (l .row) }
 
 module _ (s : Sheet) (k : Case) (fit : Fits s k) where
   run-of : (v u t : ℕ) → v < k .places → t ≤ steps s → since k v t ≤ u → u ≤ t → Run s v u t
   run-of v u t i l a b j x y = fit .free v j i (omega arith) (omega (arith, fit .runs v j t i l (omega arith) y))
 
   -- a row that leads covers, and the other way round
-  row-covers : (v t : ℕ) (g : Cost) (q : Row) → v < k .places → t ≤ steps s → RowLeads v t (since k v t) (k .wait) g q → Covers s q (arrival v t g)
+  row-covers : (v t : ℕ) (g : Cost) (q : Row) → v < k .places → t ≤ steps s → RowLeads v t (since k v t) (k .wait v) g q → Covers s q (arrival v t g)
   row-covers v t g q i l d =
       record {
         same-place = d .place;
         run = run-of v (q .step) t i l (d .late) (d .early);
         no-later = d .early;
-        no-dearer = subst (λ (w : Cost). AtMost (add (q .cost) (times (t - q .step) w)) g) (sym (fit .wait v)) (d .least);
+        no-dearer = subst (λ (w : Cost). AtMost (add (q .cost) (times (t - q .step) w)) g) (sym (fit .wait v i)) (d .least);
       }
 
-  covers-row : (v t : ℕ) (g : Cost) (q : Row) → v < k .places → t ≤ steps s → Covers s q (arrival v t g) → RowLeads v t (since k v t) (k .wait) g q
+  covers-row : (v t : ℕ) (g : Cost) (q : Row) → v < k .places → t ≤ steps s → Covers s q (arrival v t g) → RowLeads v t (since k v t) (k .wait v) g q
   covers-row v t g q i l c =
       record {
         place = c .same-place;
         late = fit .soonest v (q .step) t i l (c .no-later) (c .run);
         early = c .no-later;
-        least = subst (λ (w : Cost). AtMost (add (q .cost) (times (t - q .step) w)) g) (fit .wait v) (c .no-dearer);
+        least = subst (λ (w : Cost). AtMost (add (q .cost) (times (t - q .step) w)) g) (fit .wait v i) (c .no-dearer);
       }
 
   -- a row that leads an arrival leads what waiting makes of it
-  lead-wait : (rs : List Row) (v t : ℕ) (g : Cost) → v < k .places → t + 1 ≤ steps s → Vacant k v (t + 1) → Lead k rs v t g → Lead k rs v (t + 1) (add g (k .wait))
+  lead-wait : (rs : List Row) (v t : ℕ) (g : Cost) → v < k .places → t + 1 ≤ steps s → Vacant k v (t + 1) → Lead k rs v t g → Lead k rs v (t + 1) (add g (k .wait v))
   lead-wait rs v t g i l f lead = record { row = any-map step (lead .row) }
     where
-      step : (r : Row) → RowLeads v t (since k v t) (k .wait) g r → RowLeads v (t + 1) (since k v (t + 1)) (k .wait) (add g (k .wait)) r
+      step : (r : Row) → RowLeads v t (since k v t) (k .wait v) g r → RowLeads v (t + 1) (since k v (t + 1)) (k .wait v) (add g (k .wait v)) r
       step r d =
           let late = d .late in
           let early = d .early in
@@ -92,93 +81,46 @@ module _ (s : Sheet) (k : Case) (fit : Fits s k) where
             early = omega arith;
             least = record {
               every = λ i.
-                  let e : (t + 1 - r .step) * fig (k .wait) i ≡ (t - r .step) * fig (k .wait) i + fig (k .wait) i = ap (λ (n : ℕ). n * fig (k .wait) i) (omega arith) ∙ one-more (t - r .step) (fig (k .wait) i) in
+                  let e : (t + 1 - r .step) * fig (k .wait v) i ≡ (t - r .step) * fig (k .wait v) i + fig (k .wait v) i = ap (λ (n : ℕ). n * fig (k .wait v) i) (omega arith) ∙ one-more (t - r .step) (fig (k .wait v) i) in
                   omega (
                     arith,
-                    fig-add (r .cost) (times (t + 1 - r .step) (k .wait)) i,
-                    fig-times (t + 1 - r .step) (k .wait) i,
-                    fig-add g (k .wait) i,
+                    fig-add (r .cost) (times (t + 1 - r .step) (k .wait v)) i,
+                    fig-times (t + 1 - r .step) (k .wait v) i,
+                    fig-add g (k .wait v) i,
                     d .least .every i,
-                    fig-add (r .cost) (times (t - r .step) (k .wait)) i,
-                    fig-times (t - r .step) (k .wait) i,
+                    fig-add (r .cost) (times (t - r .step) (k .wait v)) i,
+                    fig-times (t - r .step) (k .wait v) i,
                   );
             };
           }
 
-  -- crossing from a row, n steps after it
-  module _ (rs : List Row) (T W : ℕ) (l r : Row) (f : Complete k rs T W) (mem : In l (k .links)) (in-rs : In r rs) (place : r .place ≡ l .place) where
-    cross-cand : (t : ℕ) → since k (l .place) (t - 1) ≤ r .step → r .step < t → Near (r .step) t (since k (l .step) t) → Cand k rs (l .step) t (reach t (k .wait) (l .cost) r)
-    cross-cand t late early near =
-        let h = reach t (k .wait) (l .cost) r in
-        let j : Joins (l .place) (sinceIn (k .free) (l .place) (t - 1)) t (since k (l .step) t) (k .wait) (l .cost) h r = record { place = place; late = late; early = early; near = near; sum = refl } in
-        record {
-          over = any-map
-              (λ q e. subst (Enters (k .free) rs (l .step) t (since k (l .step) t) (k .wait) h) (sym e)
-              (record { into = refl; by = any-map (λ q e. subst (Joins (l .place) (sinceIn (k .free) (l .place) (t - 1)) t (since k (l .step) t) (k .wait) (l .cost) h) (sym e) j) in-rs }))
-              mem;
-        }
-
-    cross-from : (n t : ℕ) → t ≡ r .step + n + 1 → since k (l .place) (t - 1) ≤ r .step → t ≤ T → t ≤ steps s → Vacant k (l .step) t
-        → (Cand k rs (l .step) t (reach t (k .wait) (l .cost) r) → Lead k rs (l .step) t (reach t (k .wait) (l .cost) r)) → Lead k rs (l .step) t (reach t (k .wait) (l .cost) r)
-    cross-from zero t e late le in-time free now = now (cross-cand t late (omega arith) (inl (omega arith)))
-    cross-from (suc n) t e late le in-time free now = ⊎-elim (before (cross-from n)) (λ ge. now (cross-cand t late (omega arith) (inr (omega arith)))) (lt-or-le (since k (l .step) t) t)
-      where
-        before : ((u : ℕ) → u ≡ r .step + n + 1 → since k (l .place) (u - 1) ≤ r .step → u ≤ T → u ≤ steps s → Vacant k (l .step) u
-            → (Cand k rs (l .step) u (reach u (k .wait) (l .cost) r) → Lead k rs (l .step) u (reach u (k .wait) (l .cost) r)) → Lead k rs (l .step) u (reach u (k .wait) (l .cost) r))
-            → since k (l .step) t < t → Lead k rs (l .step) t (reach t (k .wait) (l .cost) r)
-        before ih lt =
-            let s′ = r .step in
-            let u = t - 1 in
-            let back : u + 1 ≡ t = omega arith in
-            let free′ : Vacant k (l .step) u = omega (arith, fit .runs (l .step) u t (fit .into l mem) in-time (omega arith) (omega arith)) in
-            let prior = ih u (omega arith) (omega (arith, fit .runs (l .place) (u - 1) (t - 1) (fit .from l mem) (omega arith) (omega arith) (omega arith))) (omega arith) (omega arith) free′
-            (λ c. f u (l .step) _ (inl (omega arith)) (omega arith) (fit .into l mem) free′ c) in
-            let waited = lead-wait rs (l .step) u (reach u (k .wait) (l .cost) r) (fit .into l mem) (omega arith) (subst (Vacant k (l .step)) (sym back) free) prior in
-            subst (λ (m : ℕ). Lead k rs (l .step) m (reach t (k .wait) (l .cost) r)) back
-            (lead-weaken k rs (l .step) (u + 1) (add (reach u (k .wait) (l .cost) r) (k .wait)) (reach t (k .wait) (l .cost) r)
-            (record {
-              every = λ i.
-                  let q : (t - 1 - s′) * fig (k .wait) i ≡ (u - 1 - s′) * fig (k .wait) i + fig (k .wait) i = ap (λ (n : ℕ). n * fig (k .wait) i) (omega arith) ∙ one-more (u - 1 - s′) (fig (k .wait) i) in
-                  omega (
-                    arith,
-                    fig-add (reach u (k .wait) (l .cost) r) (k .wait) i,
-                    fig-add (add (r .cost) (times (u - 1 - s′) (k .wait))) (l .cost) i,
-                    fig-add (r .cost) (times (u - 1 - s′) (k .wait)) i,
-                    fig-times (u - 1 - s′) (k .wait) i,
-                    fig-add (add (r .cost) (times (t - 1 - s′) (k .wait))) (l .cost) i,
-                    fig-add (r .cost) (times (t - 1 - s′) (k .wait)) i,
-                    fig-times (t - 1 - s′) (k .wait) i,
-                  );
-            })
-            waited)
-
   -- crossing from where a row leads
-  lead-cross : (rs : List Row) (t T W : ℕ) (g : Cost) (l : Row) → Complete k rs T W → t + 1 ≤ T → t + 1 ≤ steps s → In l (k .links) → Vacant k (l .step) (t + 1)
-      → ((h : Cost) → AtMost h (add g (l .cost)) → Cand k rs (l .step) (t + 1) h → Lead k rs (l .step) (t + 1) h) → Lead k rs (l .place) t g → Lead k rs (l .step) (t + 1) (add g (l .cost))
-  lead-cross rs t T W g l f le in-time mem free now lead =
+  lead-cross : (rs : List Row) (t : ℕ) (g : Cost) (l : Link) → In l (k .links) → openb l t ≡ true
+      → ((h : Cost) → AtMost h (add g (l .cost)) → Cand k rs (l .to) (t + 1) h → Lead k rs (l .to) (t + 1) h) → Lead k rs (l .from) t g → Lead k rs (l .to) (t + 1) (add g (l .cost))
+  lead-cross rs t g l mem opens now lead =
       let found = any-find (lead .row) in
       let r = found .0 in
       let d = found .2 in
-      let early = d .early in
+      let h = reach (t + 1) (k .wait (l .from)) (l .cost) r in
       let t1 : t + 1 - 1 ≡ t = omega arith in
-      let h = reach (t + 1) (k .wait) (l .cost) r in
       let b : AtMost h (add g (l .cost)) =
       record {
         every = λ i.
-            let e : (t + 1 - 1 - r .step) * fig (k .wait) i ≡ (t - r .step) * fig (k .wait) i = ap (λ (n : ℕ). n * fig (k .wait) i) (omega arith) in
+            let e : (t + 1 - 1 - r .step) * fig (k .wait (l .from)) i ≡ (t - r .step) * fig (k .wait (l .from)) i = ap (λ (n : ℕ). n * fig (k .wait (l .from)) i) (omega arith) in
             omega (
               arith,
-              fig-add (add (r .cost) (times (t + 1 - 1 - r .step) (k .wait))) (l .cost) i,
-              fig-add (r .cost) (times (t + 1 - 1 - r .step) (k .wait)) i,
-              fig-times (t + 1 - 1 - r .step) (k .wait) i,
+              fig-add (add (r .cost) (times (t + 1 - 1 - r .step) (k .wait (l .from)))) (l .cost) i,
+              fig-add (r .cost) (times (t + 1 - 1 - r .step) (k .wait (l .from))) i,
+              fig-times (t + 1 - 1 - r .step) (k .wait (l .from)) i,
               fig-add g (l .cost) i,
               d .least .every i,
-              fig-add (r .cost) (times (t - r .step) (k .wait)) i,
-              fig-times (t - r .step) (k .wait) i,
+              fig-add (r .cost) (times (t - r .step) (k .wait (l .from))) i,
+              fig-times (t - r .step) (k .wait (l .from)) i,
             );
       } in
-      lead-weaken k rs (l .step) (t + 1) h (add g (l .cost)) b
-      (cross-from rs T W l r f mem (found .1) (d .place) (t - r .step) (t + 1) (omega arith) (subst (λ (n : ℕ). since k (l .place) n ≤ r .step) (sym t1) (d .late)) le in-time free (now h b))
+      let j : Joins k l (t + 1) h r = record { place = d .place; late = subst (λ (n : ℕ). since k (l .from) n ≤ r .step) (sym t1) (d .late); early = omega (arith, d .early); sum = refl } in
+      let e : Enters k rs (l .to) (t + 1) h l = record { into = refl; opens = subst (λ (n : ℕ). openb l n ≡ true) (sym t1) opens; by = any-map (λ q x. subst (Joins k l (t + 1) h) (sym x) j) (found .1) } in
+      lead-weaken k rs (l .to) (t + 1) h (add g (l .cost)) b (now h b (record { over = any-map (λ q x. subst (Enters k rs (l .to) (t + 1) h) (sym x) e) mem }))
 
   -- an arrival at step 0 is the start's
   start-leads : (rs : List Row) (v : ℕ) (g : Cost) → Begins s v g → (Vacant k (k .start) 0 → In (startRow k) rs) → Lead k rs v 0 g
@@ -186,7 +128,7 @@ module _ (s : Sheet) (k : Case) (fit : Fits s k) where
       let ev : v ≡ k .start = b .starts ∙ sym (fit .start) in
       let w : Vacant k (k .start) 0 = fit .vacant (k .start) 0 (fit .start-place) (omega arith) (subst (λ (u : ℕ). Free s u 0) ev (b .free)) in
       let l : Lead k rs (k .start) 0 zeroCost =
-      record { row = any-map (λ r e. subst (RowLeads (k .start) 0 (since k (k .start) 0) (k .wait) zeroCost) (sym e) (self-leads (k .start) 0 (since k (k .start) 0) (k .wait) zeroCost w)) (st w) } in
+      record { row = any-map (λ r e. subst (RowLeads (k .start) 0 (since k (k .start) 0) (k .wait (k .start)) zeroCost) (sym e) (self-leads (k .start) 0 (since k (k .start) 0) (k .wait (k .start)) zeroCost w)) (st w) } in
       subst (λ (u : ℕ). Lead k rs u 0 g) (sym ev) (subst (Lead k rs (k .start) 0) (sym (b .nothing)) l)
 
   begins-of : (v : ℕ) (g : Cost) → Arrives s (arrival v 0 g) → Begins s v g
@@ -203,7 +145,7 @@ module _ (s : Sheet) (k : Case) (fit : Fits s k) where
     where
       go : {u : ℕ} {c : Cost} → Move s u v t c → u < k .places → v < k .places
       go (waits p q) i = omega arith
-      go {u} {c} (crosses x) i = fit .into (record { place = u; step = v; cost = c }) (fit .listed u v t c x)
+      go {u} {c} (crosses x) i = fit .into (record { from = u; to = v; cost = c }) (fit .listed u v t c x .0)
 
   -- every arrival before place W at step T is led by a row
   covered : (rs : List Row) (T W : ℕ) → Complete k rs T W → (Vacant k (k .start) 0 → In (startRow k) rs) → (t v : ℕ) (g : Cost) → Arrives s (arrival v t g) → Less t v T W → Lead k rs v t g
@@ -220,22 +162,19 @@ module _ (s : Sheet) (k : Case) (fit : Fits s k) where
 
       go : {u : ℕ} {h c : Cost} → Move s u v t c → u < k .places → Lead k rs u t h → Free s v (suc t) → Lead k rs v (suc t) (add h c)
       go {u} {h} {c} (waits p q) i l fr =
-          let e : c ≡ k .wait = q ∙ fit .wait u in
+          let e : c ≡ k .wait v = q ∙ ap (waitOf s) p ∙ fit .wait v (omega arith) in
           let w : Vacant k v (t + 1) = fit .vacant v (t + 1) (omega arith) (omega (arith, a .in-time)) (subst (Free s v) (sym up) fr) in
           subst (λ (n : ℕ). Lead k rs v n (add h c)) up
           (subst (λ (x : Cost). Lead k rs v (t + 1) (add h x)) (sym e) (lead-wait rs v t h (omega arith) (omega (arith, a .in-time)) w (subst (λ (n : ℕ). Lead k rs n t h) p l)))
       go {u} {h} {c} (crosses x) i l fr =
           let m = fit .listed u v t c x in
-          let link : Row = record { place = u; step = v; cost = c } in
-          let w : Vacant k v (t + 1) = fit .vacant v (t + 1) (fit .into link m) (omega (arith, a .in-time)) (subst (Free s v) (sym up) fr) in
-          subst (λ (n : ℕ). Lead k rs v n (add h c)) up
-          (lead-cross rs t T W h link f (⊎-elim (λ y. omega arith) (λ y. omega (arith, y .0)) le) (omega (arith, a .in-time)) m w
-          (λ y b z. f (t + 1) v y le′ (omega arith) (fit .into link m) w z) l)
+          let link : Link = record { from = u; to = v; cost = c } in
+          let w : Vacant k v (t + 1) = fit .vacant v (t + 1) (fit .into link (m .0)) (omega (arith, a .in-time)) (subst (Free s v) (sym up) fr) in
+          subst (λ (n : ℕ). Lead k rs v n (add h c)) up (lead-cross rs t h link (m .0) (m .1) (λ y b z. f (t + 1) v y le′ (omega arith) (fit .into link (m .0)) w z) l)
 
   -- every row within the horizon arrives
-  reached : (l r : Row) (t : ℕ) (g : Cost) → In l (k .links) → Arrives s r → t ≤ steps s → Vacant k (l .step) t
-      → Joins (l .place) (sinceIn (k .free) (l .place) (t - 1)) t (since k (l .step) t) (k .wait) (l .cost) g r → Arrives s (arrival (l .step) t g)
-  reached l r t g mem a in-time free j =
+  reached : (l : Link) (r : Row) (t : ℕ) (g : Cost) → In l (k .links) → openb l (t - 1) ≡ true → Arrives s r → t ≤ steps s → Vacant k (l .to) t → Joins k l t g r → Arrives s (arrival (l .to) t g)
+  reached l r t g mem opens a in-time free j =
       let late = j .late in
       let early = j .early in
       let u = t - 1 in
@@ -243,10 +182,10 @@ module _ (s : Sheet) (k : Case) (fit : Fits s k) where
       let i : r .place < k .places = subst (λ (p : ℕ). p < k .places) (sym (j .place)) (fit .from l mem) in
       let run : Run s (r .place) (r .step) u = run-of (r .place) (r .step) u i (omega arith) (subst (λ (p : ℕ). since k p u ≤ r .step) (sym (j .place)) late) (omega arith) in
       let stay = arrives-until s u r a (omega arith) (omega arith) run in
-      let stay′ = subst (λ (w : Cost). Arrives s (arrival (r .place) u (add (r .cost) (times (u - r .step) w)))) (fit .wait (r .place)) stay in
-      let stay″ = subst (λ (p : ℕ). Arrives s (arrival p u (add (r .cost) (times (u - r .step) (k .wait))))) (j .place) stay′ in
-      let on = arrives-on s (l .place) (l .step) u _ (l .cost) stay″ (crosses (fit .crossing l mem u)) (subst (Free s (l .step)) (sym e) (fit .free (l .step) t (fit .into l mem) in-time free)) (omega arith) in
-      subst (λ (x : Cost). Arrives s (arrival (l .step) t x)) (sym (j .sum)) (subst (λ (n : ℕ). Arrives s (arrival (l .step) n (reach t (k .wait) (l .cost) r))) e on)
+      let stay′ = subst (λ (w : Cost). Arrives s (arrival (r .place) u (add (r .cost) (times (u - r .step) w)))) (fit .wait (r .place) i) stay in
+      let stay″ = subst (λ (p : ℕ). Arrives s (arrival p u (add (r .cost) (times (u - r .step) (k .wait p))))) (j .place) stay′ in
+      let on = arrives-on s (l .from) (l .to) u _ (l .cost) stay″ (crosses (fit .crossing l mem u opens)) (subst (Free s (l .to)) (sym e) (fit .free (l .to) t (fit .into l mem) in-time free)) (omega arith) in
+      subst (λ (x : Cost). Arrives s (arrival (l .to) t x)) (sym (j .sum)) (subst (λ (n : ℕ). Arrives s (arrival (l .to) n (reach t (k .wait (l .from)) (l .cost) r))) e on)
 
   entered-arrives : (rs : List Row) (v t : ℕ) (g : Cost) → All (Arrives s) rs → t ≤ steps s → Vacant k v t → Cand k rs v t g → Arrives s (arrival v t g)
   entered-arrives rs v t g all in-time free c =
@@ -255,8 +194,7 @@ module _ (s : Sheet) (k : Case) (fit : Fits s k) where
       let e = over .2 in
       let by = any-find (e .by) in
       subst (λ (p : ℕ). Arrives s (arrival p t g)) (e .into)
-      (reached l (by .0) t g (over .1) (in-all (by .1) all) in-time (subst (λ (p : ℕ). Vacant k p t) (sym (e .into)) free)
-      (subst (λ (p : ℕ). Joins (l .place) (sinceIn (k .free) (l .place) (t - 1)) t (since k p t) (k .wait) (l .cost) g (by .0)) (sym (e .into)) (by .2)))
+      (reached l (by .0) t g (over .1) (e .opens) (in-all (by .1) all) in-time (subst (λ (p : ℕ). Vacant k p t) (sym (e .into)) free) (by .2))
 
   pub all-arrive : (rs : List Row) → Sound k rs → All (λ r. r .step ≤ steps s) rs → All (Arrives s) rs
   all-arrive rs empty b = none
@@ -271,14 +209,14 @@ at-most-of g h wait t s e a =
     record { every = λ i. omega (arith, a .every i, fig-add g (times (t - s) wait) i) }
 
 abbrev LeadsRow : Case → Row → Row → Type 0
-LeadsRow k b a = RowLeads (b .place) (b .step) (since k (b .place) (b .step)) (k .wait) (b .cost) a
+LeadsRow k b a = RowLeads (b .place) (b .step) (since k (b .place) (b .step)) (k .wait (b .place)) (b .cost) a
 
 not-after : (k : Case) (b r : Row) → length (r .cost) ≡ length (b .cost) → RowBefore b r → LeadsRow k b r → ⊥
 not-after k b r len o d =
     let p = d .place in
     let early = d .early in
     ⊎-elim (λ l. ⊎-elim (λ x. omega arith) (λ x. omega (arith, x .1)) l)
-    (λ x. at-most-not-Lex (r .cost) (b .cost) len (at-most-of (r .cost) (b .cost) (k .wait) (b .step) (r .step) (x .0) (d .least)) (x .2)) (o .order)
+    (λ x. at-most-not-Lex (r .cost) (b .cost) len (at-most-of (r .cost) (b .cost) (k .wait (b .place)) (b .step) (r .step) (x .0) (d .least)) (x .2)) (o .order)
 
 antichain : (k : Case) (rs : List Row) (a b : Row) → length (a .cost) ≡ length (b .cost) → Sound k rs → Falling rs → In a rs → In b rs → LeadsRow k b a → a ≡ b
 antichain k rs a b len empty asc ia ib d = absurd (any-nil ia)
@@ -369,16 +307,16 @@ module _ (s : Sheet) (k : Case) (fit : Fits s k) (rs : List Row) (t v : ℕ) (f 
 
       go : {u : ℕ} {g c : Cost} → Move s u v n c → u < k .places → Lead k rs u n g → Free s v (suc n) → h ≡ add g c → Lead k rs v t (add g c)
       go {u} {g} {c} (waits p q) i l fr sum =
-          let ec : c ≡ k .wait = q ∙ fit .wait u in
+          let ec : c ≡ k .wait v = q ∙ ap (waitOf s) p ∙ fit .wait v (omega arith) in
           let w : Vacant k v (n + 1) = fit .vacant v (n + 1) (omega arith) (omega arith) (subst (Free s v) (sym (add-one n)) fr) in
           subst (λ (j : ℕ). Lead k rs v j (add g c)) up
           (subst (λ (x : Cost). Lead k rs v (n + 1) (add g x)) (sym ec) (lead-wait s k fit rs v n g (omega arith) (omega arith) w (subst (λ (j : ℕ). Lead k rs j n g) p l)))
       go {u} {g} {c} (crosses x) i l fr sum =
           let m = fit .listed u v n c x in
-          let link : Row = record { place = u; step = v; cost = c } in
-          let w : Vacant k v (n + 1) = fit .vacant v (n + 1) (fit .into link m) (omega arith) (subst (Free s v) (sym (add-one n)) fr) in
+          let link : Link = record { from = u; to = v; cost = c } in
+          let w : Vacant k v (n + 1) = fit .vacant v (n + 1) (fit .into link (m .0)) (omega arith) (subst (Free s v) (sym (add-one n)) fr) in
           subst (λ (j : ℕ). Lead k rs v j (add g c)) up
-          (lead-cross s k fit rs n t v g link (f .complete) (omega arith) (omega arith) m w
+          (lead-cross s k fit rs n g link (m .0) (m .1)
           (λ y b z. subst (λ (j : ℕ). Lead k rs v j y) (sym up)
           (led-now r mem rt rv y (at-most-trans y h (r .cost) (subst (AtMost y) (sym sum) b) below) (subst (Vacant k v) up w) (subst (λ (j : ℕ). Cand k rs v j y) up z)))
           l)

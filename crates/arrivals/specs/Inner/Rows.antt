@@ -1,56 +1,21 @@
--- A table of rows of five numbers: place, step and the three figures of a cost. The rows below n, the newest first.
-use mathlib.Core.Path.{_≡_, refl, sym, ap, ap₂, _∙_, subst}
-use mathlib.Core.List.{List, [], _∷_}
-use mathlib.Core.Logic.{_⊎_, inl, inr, ⊎-elim}
+-- The rows of a table below row n, and the d rows from row a on, the newest first.
+use mathlib.Core.Path.{_≡_, refl, ap, ap₂, _∙_, subst}
+use mathlib.Core.List.{List, [], _∷_, _++_}
+use mathlib.Core.Logic.{⊎-elim}
 use Prim.Native.Nat.{ℕ, zero, suc, _+_, _*_, _-_, _≤_, _<_}
 use native.Mathlib.Omega.{arith}
 use native.Mathlib.Numerals.{add-one}
 use native.Mathlib.Nat.{not-suc-le-zero}
-use lib.ListN.{length, getD, set, length-set}
-use lib.Seq.{getD-set-same, getD-set-other}
-use Rattle.sheet.specs.Lists.{numbersFrom}
-use Rattle.costs.specs.Costs.{figures, fig, add, times, Within, AtMost}
-use Rattle.arrivals.specs.Arrivals.{Arrival}
-use Rattle.arrivals.specs.Inner.Facts.{lt-or-le, from-same, from-of}
-
--- a row of the table is an arrival; a corridor is read as a row of from, to and cost
-abbrev pub Row : Type 0
-Row = Arrival
-
-abbrev pub costAt : List ℕ → ℕ → List ℕ
-costAt xs k = numbersFrom figures (k * 5 + 2) xs
-
-abbrev pub rowAt : List ℕ → ℕ → Row
-rowAt xs k = record { place = getD xs (k * 5) 0; step = getD xs (k * 5 + 1) 0; cost = costAt xs k }
+use lib.ListN.{length, getD, replicate, length-replicate, getD-replicate, List·getD-eq-default}
+use Rattle.sheet.specs.Laws.Decided.{lt-or-le, Any, All, here, there, any-cons, any-nil, all-head, all-tail, from-same}
+use Rattle.costs.specs.Costs.{figures}
+use Rattle.costs.specs.Priced.{Within}
+use Rattle.arrivals.specs.Rows.{Row, rowAt, Put}
+use Rattle.arrivals.specs.Laws.Rows.{row-path, row-kept}
 
 unfoldable pub rowsOf : List ℕ → ℕ → List Row
 rowsOf xs zero = []
 rowsOf xs (suc n) = rowAt xs n ∷ rowsOf xs n
-
-pub data Any (P : Row → Type 0) : List Row → Type 0 where
-  here : {r : Row} {rs : List Row} → P r → Any P (r ∷ rs)
-  there : {r : Row} {rs : List Row} → Any P rs → Any P (r ∷ rs)
-
-pub data All (P : Row → Type 0) : List Row → Type 0 where
-  none : All P []
-  more : {r : Row} {rs : List Row} → P r → All P rs → All P (r ∷ rs)
-
-pub any-cons : {P : Row → Type 0} {r : Row} {rs : List Row} → Any P (r ∷ rs) → P r ⊎ Any P rs
-any-cons (here p) = inl p
-any-cons (there a) = inr a
-
-pub any-nil : {P : Row → Type 0} → Any P [] → ⊥
-any-nil {P} a = go a refl
-  where
-    go : {rs : List Row} → Any P rs → rs ≡ [] → ⊥
-    go (here p) e = let z : _≡_ {A = ℕ} 0 1 = cc in omega arith
-    go (there p) e = let z : _≡_ {A = ℕ} 0 1 = cc in omega arith
-
-pub all-head : {P : Row → Type 0} {r : Row} {rs : List Row} → All P (r ∷ rs) → P r
-all-head (more p a) = p
-
-pub all-tail : {P : Row → Type 0} {r : Row} {rs : List Row} → All P (r ∷ rs) → All P rs
-all-tail (more p a) = a
 
 pub rows-zero : (xs : List ℕ) → rowsOf xs 0 ≡ []
 unfolding rowsOf
@@ -61,16 +26,6 @@ unfolding rowsOf
 rows-more xs n = ap (rowsOf xs) (add-one n)
 
 module _ (P : Row → Type 0) (xs : List ℕ) where
-  pub none-zero : Any P (rowsOf xs 0) → ⊥
-  unfolding rowsOf
-  none-zero a = any-nil a
-
-  pub none-more : (n : ℕ) → (Any P (rowsOf xs n) → ⊥) → (P (rowAt xs n) → ⊥) → Any P (rowsOf xs (n + 1)) → ⊥
-  none-more n f g a = ⊎-elim g f (any-cons (subst (Any P) (rows-more xs n) a))
-
-  pub none-end : (n k : ℕ) → k ≤ n → n ≤ k → (Any P (rowsOf xs k) → ⊥) → Any P (rowsOf xs n) → ⊥
-  none-end n k l m f a = f (subst (λ (j : ℕ). Any P (rowsOf xs j)) (omega arith) a)
-
   pub none-below : (n : ℕ) → ((j : ℕ) → j < n → P (rowAt xs j) → ⊥) → Any P (rowsOf xs n) → ⊥
   unfolding rowsOf
   none-below zero f a = any-nil a
@@ -94,16 +49,6 @@ pub record Bounded (r : Row) : Type 0 where
   pub within : Within (60000 * r .step) (r .cost)
   pub three : length (r .cost) ≡ figures
 
--- row r leads the cost g at place v and step t, where the safe interval of v at t starts at since
-pub record RowLeads (v t since : ℕ) (wait g : List ℕ) (r : Row) : Type 0 where
-  pub place : r .place ≡ v
-  pub late : since ≤ r .step
-  pub early : r .step ≤ t
-  pub least : AtMost (add (r .cost) (times (t - r .step) wait)) g
-
-pub row-path : {p q s t : ℕ} {g h : List ℕ} → p ≡ q → s ≡ t → g ≡ h → _≡_ {A = Row} (record { place = p; step = s; cost = g }) (record { place = q; step = t; cost = h })
-row-path e f g = λ i. record { place = e i; step = f i; cost = g i }
-
 -- the rows below n are made of the numbers below n * 5
 pub rows-kept : (xs ys : List ℕ) (n : ℕ) → ((j : ℕ) → j < n * 5 → getD ys j 0 ≡ getD xs j 0) → rowsOf ys n ≡ rowsOf xs n
 unfolding rowsOf
@@ -113,25 +58,72 @@ rows-kept xs ys (suc n) h =
     (row-path (h (n * 5) (omega arith)) (h (n * 5 + 1) (omega arith)) (from-same figures (n * 5 + 2) (n * 5 + 2) ys xs (λ i l. h (n * 5 + 2 + i) (omega arith))))
     (rows-kept xs ys n (λ j l. h j (omega arith)))
 
-pub pushed : (xs ys : List ℕ) (n p s : ℕ) (g : List ℕ) → length g ≡ 3 → ((j : ℕ) → j < n * 5 → getD ys j 0 ≡ getD xs j 0) → getD ys (n * 5) 0 ≡ p → getD ys (n * 5 + 1) 0 ≡ s
-    → ((q : ℕ) → q < 3 → getD ys (n * 5 + 2 + q) 0 ≡ fig g q) → rowsOf ys (n + 1) ≡ record { place = p; step = s; cost = g } ∷ rowsOf xs n
-pushed xs ys n p s g lg kept hp hs hg =
-    rows-more ys n ∙ ap₂ _∷_ (row-path hp hs (from-of figures (n * 5 + 2) ys g lg hg)) (rows-kept xs ys n kept)
+pub put-rows : {xs ys : List ℕ} {n : ℕ} {r : Row} → Put xs ys n r → rowsOf ys (n + 1) ≡ r ∷ rowsOf xs n
+put-rows {xs} {ys} {n} {r} p = rows-more ys n ∙ ap₂ _∷_ (p .row) (rows-kept xs ys n (p .below))
 
--- one store more, where f is written from base on
-pub fill-from : (f : ℕ → ℕ) (base : ℕ) (l : List ℕ) (i : ℕ) → base + i < length l → ((q : ℕ) → q < i → getD l (base + q) 0 ≡ f q) → (q : ℕ) → q < i + 1 → getD (set l (base + i) (f i)) (base + q) 0 ≡ f q
-fill-from f base l i n all q m =
-    ⊎-elim
-    (λ lt. getD-set-other l (base + i) (base + q) (f i) 0 (λ e. omega arith) ∙ all q lt)
-    (λ ge. let e : q ≡ i = omega arith in subst (λ (j : ℕ). getD (set l (base + i) (f i)) (base + j) 0 ≡ f j) (sym e) (getD-set-same l (base + i) (f i) 0 n))
-    (lt-or-le q i)
+pub count-rows : (xs : List ℕ) (n : ℕ) → length (rowsOf xs n) ≡ n
+unfolding rowsOf
+count-rows xs zero = refl
+count-rows xs (suc n) = ap suc (count-rows xs n)
 
--- the two numbers of a new row's head, then its figures
-pub pushed-set : (xs ys : List ℕ) (n p s : ℕ) (g : List ℕ) → n * 5 + 5 ≤ length xs → length g ≡ 3 → ((j : ℕ) → j < n * 5 + 2 → getD ys j 0 ≡ getD (set (set xs (n * 5) p) (n * 5 + 1) s) j 0)
-    → ((q : ℕ) → q < 3 → getD ys (n * 5 + 2 + q) 0 ≡ fig g q) → rowsOf ys (n + 1) ≡ record { place = p; step = s; cost = g } ∷ rowsOf xs n
-pushed-set xs ys n p s g room lg kept hg =
-    pushed xs ys n p s g lg
-    (λ j l. kept j (omega arith) ∙ getD-set-other (set xs (n * 5) p) (n * 5 + 1) j s 0 (λ e. omega arith) ∙ getD-set-other xs (n * 5) j p 0 (λ e. omega arith))
-    (kept (n * 5) (omega arith) ∙ getD-set-other (set xs (n * 5) p) (n * 5 + 1) (n * 5) s 0 (λ e. omega arith) ∙ getD-set-same xs (n * 5) p 0 (omega arith))
-    (kept (n * 5 + 1) (omega arith) ∙ getD-set-same (set xs (n * 5) p) (n * 5 + 1) s 0 (simp length-set (omega arith)))
-    hg
+-- the d rows from row a on, the newest first
+unfoldable pub tailOf : List ℕ → ℕ → ℕ → List Row
+tailOf xs a zero = []
+tailOf xs a (suc d) = rowAt xs (a + d) ∷ tailOf xs a d
+
+pub tail-zero : (xs : List ℕ) (a : ℕ) → tailOf xs a 0 ≡ []
+unfolding tailOf
+tail-zero xs a = refl
+
+pub tail-more : (xs : List ℕ) (a d : ℕ) → tailOf xs a (d + 1) ≡ rowAt xs (a + d) ∷ tailOf xs a d
+unfolding tailOf
+tail-more xs a d = ap (tailOf xs a) (add-one d)
+
+pub tail-kept : (xs ys : List ℕ) (a d : ℕ) → ((j : ℕ) → a * 5 ≤ j → j < (a + d) * 5 → getD ys j 0 ≡ getD xs j 0) → tailOf ys a d ≡ tailOf xs a d
+unfolding tailOf
+tail-kept xs ys a zero h = refl
+tail-kept xs ys a (suc d) h = ap₂ _∷_ (row-kept xs ys (a + d) (λ j l m. h j (omega arith) (omega arith))) (tail-kept xs ys a d (λ j l m. h j l (omega arith)))
+
+pub put-tail : {xs ys : List ℕ} {r : Row} (a d : ℕ) → Put xs ys (a + d) r → tailOf ys a (d + 1) ≡ r ∷ tailOf xs a d
+put-tail {xs} {ys} {r} a d p = tail-more ys a d ∙ ap₂ _∷_ (p .row) (tail-kept xs ys a d (λ j l m. p .below j m))
+
+pub rows-tail : (xs : List ℕ) (a d : ℕ) → rowsOf xs (a + d) ≡ tailOf xs a d ++ rowsOf xs a
+unfolding tailOf rowsOf
+rows-tail xs a zero = let e : a + 0 ≡ a = omega arith in ap (rowsOf xs) e
+rows-tail xs a (suc d) = let e : a + suc d ≡ suc (a + d) = omega arith in ap (rowsOf xs) e ∙ ap (λ (rs : List Row). rowAt xs (a + d) ∷ rs) (rows-tail xs a d)
+
+module _ (P : Row → Type 0) (xs : List ℕ) (a : ℕ) where
+  pub tail-none : Any P (tailOf xs a 0) → ⊥
+  unfolding tailOf
+  tail-none x = any-nil x
+
+  pub tail-none-more : (d : ℕ) → (Any P (tailOf xs a d) → ⊥) → (P (rowAt xs (a + d)) → ⊥) → Any P (tailOf xs a (d + 1)) → ⊥
+  tail-none-more d f g x = ⊎-elim g f (any-cons (subst (Any P) (tail-more xs a d) x))
+
+  pub tail-none-end : (d i : ℕ) → i ≤ d → d ≤ i → (Any P (tailOf xs a i) → ⊥) → Any P (tailOf xs a d) → ⊥
+  tail-none-end d i l m f x = f (subst (λ (j : ℕ). Any P (tailOf xs a j)) (omega arith) x)
+
+  pub tail-any : (d i : ℕ) → i < d → P (rowAt xs (a + i)) → Any P (tailOf xs a d)
+  unfolding tailOf
+  tail-any zero i l p = absurd (not-suc-le-zero l)
+  tail-any (suc d) i l p = ⊎-elim (λ lt. there (tail-any d i lt p)) (λ ge. here (subst (λ (k : ℕ). P (rowAt xs (a + k))) (omega arith) p)) (lt-or-le i d)
+
+-- from a list of rows to a number
+pub record Found (P : Row → Type 0) (xs : List ℕ) (a d : ℕ) : Type 0 where
+  pub at : ℕ
+  pub from : a ≤ at
+  pub upto : at < a + d
+  pub fits : P (rowAt xs at)
+
+pub tail-find : {P : Row → Type 0} (xs : List ℕ) (a d : ℕ) → Any P (tailOf xs a d) → Found P xs a d
+unfolding tailOf
+tail-find xs a zero x = absurd (any-nil x)
+tail-find xs a (suc d) x = ⊎-elim (λ p. record { at = a + d; from = omega arith; upto = omega arith; fits = p }) (λ y. let f = tail-find xs a d y in record { at = f .at; from = f .from; upto = omega (arith, f .upto); fits = f .fits }) (any-cons x)
+
+pub rows-find : {P : Row → Type 0} (xs : List ℕ) (n : ℕ) → Any P (rowsOf xs n) → Found P xs 0 n
+unfolding rowsOf
+rows-find xs zero x = absurd (any-nil x)
+rows-find xs (suc n) x = ⊎-elim (λ p. record { at = n; from = omega arith; upto = omega arith; fits = p }) (λ y. let f = rows-find xs n y in record { at = f .at; from = f .from; upto = omega (arith, f .upto); fits = f .fits }) (any-cons x)
+
+pub zeros-at : (n j : ℕ) → _≡_ {A = ℕ} (getD (replicate n 0) j 0) 0
+zeros-at n j = ⊎-elim (λ l. getD-replicate n j 0 0 l) (λ l. List·getD-eq-default (replicate n 0) 0 (omega (arith, length-replicate {A = ℕ} n 0))) (lt-or-le j n)

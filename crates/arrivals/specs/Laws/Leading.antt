@@ -9,7 +9,8 @@ use native.Mathlib.Omega.{arith}
 use lib.ListN.{length}
 use lib.Dec.{eqb, leb}
 use borrow.Author.Tests.{eqb-true, eq-eqb, eqb-false, leb-true, leb-false, le-leb, not-true}
-use Rattle.sheet.specs.Lists.{_∈_, number, Ascending}
+use Rattle.sheet.specs.Lists.{_∈_, number}
+use Rattle.sheet.specs.Sorting.{Ascending}
 use Rattle.sheet.specs.Sheet.{Sheet, steps}
 use Rattle.sheet.specs.Laws.Order.{and-true, true-and, decided}
 use Rattle.sheet.specs.Laws.Members.{mem-left, mem-right, mem-append, filter-mem, mem-filter, map-mem, mem-map, all-true, true-all, least-below, Least}

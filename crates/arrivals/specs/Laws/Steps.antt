@@ -1,28 +1,21 @@
--- Law B: a leading arrival after step 0 comes by a crossing from a leading arrival that has waited. A last wait is led by the arrival before it;
--- a crossing from an arrival that is not leading would be led by the crossing from its leader. And the converse: of these candidates, those that
--- no earlier leading arrival leads and no other candidate is below are exactly the leading arrivals of the step.
-use mathlib.Core.Path.{_≡_, refl, sym, _∙_, ap, subst}
-use mathlib.Core.Logic.{_↔_, _≢_}
-use mathlib.Core.Bool.{Bool, true, false}
-use mathlib.Core.List.{List, [], _∷_, _++_}
+-- An arrival one step on and one step back, and one that waits at its place.
+use mathlib.Core.Path.{_≡_, refl, sym, _∙_, subst}
+use mathlib.Core.List.{List, _∷_, _++_, []}
 use Prim.Native.Nat.{ℕ, zero, suc, _+_, _-_, _≤_}
 use native.Mathlib.Omega.{arith}
 use lib.ListN.{length}
 use lib.Seq.{getD-append-seam}
-use lib.Dec.{eqb, leb}
-use borrow.Author.Tests.{eqb-true, eqb-false, leb-true, leb-false}
 use Rattle.sheet.specs.Lists.{number}
 use Rattle.sheet.specs.Sheet.{Sheet, steps}
-use Rattle.costs.specs.Costs.{Cost, figures, fig, add, times, AtMost}
-use Rattle.costs.specs.Laws.Figures.{fig-add, length-add, length-times, add-assoc, times-suc, same-figures, same?}
-use Rattle.costs.specs.Moves.{waitOf, Crossing}
+use Rattle.costs.specs.Costs.{Cost, figures, add, times}
+use Rattle.costs.specs.Laws.Figures.{length-add, length-times, add-assoc, times-suc, same-figures}
+use Rattle.costs.specs.Moves.{waitOf}
 use Rattle.costs.specs.Laws.Moves.{wait-three}
 use Rattle.intervals.specs.Intervals.{Free, Run}
-use Rattle.intervals.specs.Laws.Runs.{run-one, run-join}
-use Rattle.arrivals.specs.Ways.{Move, waits, crosses}
-use Rattle.arrivals.specs.Arrivals.{Arrival, arrival, Arrives, waited, Leads, Leading}
-use Rattle.arrivals.specs.Laws.Trails.{Begins, Trail, way-on}
-use Rattle.arrivals.specs.Laws.Leading.{arrival-path, fig-waited, arrives-came, came-arrives, arrives-three, arrives-free, Covers, leads-covers, covers-trans, covers-antisym, covers-leads, covers-beside, Led, led}
+use Rattle.arrivals.specs.Ways.{Move, waits}
+use Rattle.arrivals.specs.Arrivals.{Arrival, arrival, Arrives, waited}
+use Rattle.arrivals.specs.Laws.Trails.{Trail, way-on}
+use Rattle.arrivals.specs.Laws.Leading.{arrival-path, fig-waited, arrives-came, came-arrives, arrives-three}
 
 -- an arrival, one step on
 pub arrives-on : (s : Sheet) (u v t : ℕ) (h c : Cost) → Arrives s (arrival u t h) → Move s u v t c → Free s v (suc t) → suc t ≤ steps s → Arrives s (arrival v (suc t) (add h c))
@@ -88,170 +81,3 @@ arrives-until s t e a h k r =
     let q : n + e .step ≡ t = omega arith in
     subst (λ (x : ℕ). Arrives s (arrival (e .place) x (waited s (e .place) n (e .cost)))) q
     (arrives-wait s (e .place) (e .step) n (e .cost) a (λ i x y. r i x (omega arith)) (omega arith))
-
--- A candidate for (t + 1, v, g): a leading arrival e of u, kept waiting until t, then a corridor from u to v
-pub record Candidate (s : Sheet) (v t : ℕ) (g : Cost) : Type 0 where
-  pub from : Arrival
-  pub move : Cost
-  pub leads : Leading s from
-  pub soon : from .step ≤ t
-  pub run : Run s (from .place) (from .step) t
-  pub cross : Crossing s (from .place) v t move
-  pub free : Free s v (suc t)
-  pub sum : g ≡ add (waited s (from .place) (t - from .step) (from .cost)) move
-
-pub candidate-arrives : (s : Sheet) (v t : ℕ) (g : Cost) → suc t ≤ steps s → Candidate s v t g → Arrives s (arrival v (suc t) g)
-candidate-arrives s v t g l k =
-    let e = k .from in
-    let w = waited s (e .place) (t - e .step) (e .cost) in
-    subst (λ (x : Cost). Arrives s (arrival v (suc t) x)) (sym (k .sum))
-    (arrives-on s (e .place) v t w (k .move) (arrives-until s t e (k .leads .arrives) (k .soon) (omega arith) (k .run)) (crosses (k .cross)) (k .free) l)
-
-pub leading-candidate : (s : Sheet) (v t : ℕ) (g : Cost) → Leading s (arrival v (suc t) g) → Candidate s v t g
-leading-candidate s v t g o = go (arrives-back s v t g (o .arrives))
-  where
-    a : Arrival
-    a = arrival v (suc t) g
-
-    in-time : suc t ≤ steps s
-    in-time = o .arrives .in-time
-
-    go : Back s v t g → Candidate s v t g
-    go b = by (b .moves)
-      where
-        u : ℕ
-        u = b .place
-
-        -- after a wait, the arrival before it leads
-        stay : u ≡ v → b .move ≡ waitOf s u → Covers s (arrival u t (b .cost)) a
-        stay p q =
-            let z : suc t - t ≡ 1 = omega arith in
-            let w : b .move ≡ waitOf s v = q ∙ ap (waitOf s) p in
-            record {
-              same-place = p;
-              run = run-join s v t t (suc t) (run-one s v t (subst (λ (x : ℕ). Free s x t) p (arrives-free s (arrival u t (b .cost)) (b .there)))) run-two;
-              no-later = omega arith;
-              no-dearer = rw z (record { every = λ i. omega (arith, fig-waited s v 1 (b .cost) i, fig-add (b .cost) (b .move) i, ap (λ (x : Cost). fig x i) (b .sum), ap (λ (x : Cost). fig x i) w) });
-            }
-          where
-            run-two : Run s v t (suc t)
-            run-two i x y = at (eqb i t) refl
-              where
-                at : (c : Bool) → eqb i t ≡ c → Free s v i
-                at true e = rw (eqb-true i t e) (subst (λ (x : ℕ). Free s x t) p (arrives-free s (arrival u t (b .cost)) (b .there)))
-                at false e = let n : i ≢ t = eqb-false i t e in let k : i ≡ suc t = omega arith in rw k (b .free)
-
-        by : Move s u v t (b .move) → Candidate s v t g
-        by (waits p q) =
-            absurd (o .unled (arrival u t (b .cost)) (b .there)
-            (covers-leads s (arrival u t (b .cost)) a in-time (λ e. (let q : t ≡ suc t = ap (λ (x : Arrival). x .step) e in omega arith)) (stay p q)))
-        by (crosses c) = cand (led s (arrival u t (b .cost)) (b .there))
-          where
-            cand : Led s (arrival u t (b .cost)) → Candidate s v t g
-            cand e =
-                let k = e .covers in
-                let x = e .by in
-                let r : Run s (x .place) (x .step) t = subst (λ (y : ℕ). Run s y (x .step) t) (sym (k .same-place)) (k .run) in
-                let cr : Crossing s (x .place) v t (b .move) = subst (λ (y : ℕ). Crossing s y v t (b .move)) (sym (k .same-place)) c in
-                let w = waited s (x .place) (t - x .step) (x .cost) in
-                let ar : Arrives s (arrival v (suc t) (add w (b .move))) =
-                arrives-on s (x .place) v t w (b .move) (arrives-until s t x (e .is .arrives) (k .no-later) (omega (arith, in-time)) r) (crosses cr) (b .free) in-time in
-                record {
-                  from = x;
-                  move = b .move;
-                  leads = e .is;
-                  soon = k .no-later;
-                  run = r;
-                  cross = cr;
-                  free = b .free;
-                  sum = sure (add w (b .move)) ar (below x k) (same? (add w (b .move)) g);
-                }
-              where
-                below : (x : Arrival) → Covers s x (arrival u t (b .cost)) → AtMost (add (waited s (x .place) (t - x .step) (x .cost)) (b .move)) g
-                below x k = record {
-                  every = λ i.
-                      omega (
-                        arith,
-                        fig-add (waited s (x .place) (t - x .step) (x .cost)) (b .move) i,
-                        fig-add (b .cost) (b .move) i,
-                        ap (λ (y : Cost). fig y i) (b .sum),
-                        subst (λ (y : ℕ). fig (waited s y (t - x .step) (x .cost)) i ≤ fig (b .cost) i) (sym (k .same-place)) (k .no-dearer .every i),
-                      );
-                }
-
-                sure : (h : Cost) → Arrives s (arrival v (suc t) h) → AtMost h g → Dec (h ≡ g) → g ≡ h
-                sure h ar l (yes p) = sym p
-                sure h ar l (no n) =
-                    absurd (o .unled (arrival v (suc t) h) ar (covers-leads s (arrival v (suc t) h) a in-time (λ p. n (ap (λ (x : Arrival). x .cost) p)) (covers-beside s v (suc t) h g (b .free) l)))
-
--- The leading arrivals at step t + 1 are the candidates that no leading arrival of an earlier step leads and
--- below which there is no other candidate.
-pub record Stands (s : Sheet) (v t : ℕ) (g : Cost) : Type 0 where
-  pub candidate : Candidate s v t g
-  pub unled-before : (e : Arrival) → Leading s e → e .step ≤ t → Leads s e (arrival v (suc t) g) → ⊥
-  pub unled-beside : (h : Cost) → Candidate s v t h → AtMost h g → h ≡ g
-
-pub leading-stands : (s : Sheet) (v t : ℕ) (g : Cost) → Leading s (arrival v (suc t) g) → Stands s v t g
-leading-stands s v t g o =
-    record {
-      candidate = leading-candidate s v t g o;
-      unled-before = λ e l h d. o .unled e (l .arrives) d;
-      unled-beside = λ h c l. beside h c l (same? h g);
-    }
-  where
-    beside : (h : Cost) → Candidate s v t h → AtMost h g → Dec (h ≡ g) → h ≡ g
-    beside h c l (yes e) = e
-    beside h c l (no n) =
-        let l′ : suc t ≤ steps s = o .arrives .in-time in
-        absurd (o .unled (arrival v (suc t) h) (candidate-arrives s v t h l′ c)
-        (covers-leads s (arrival v (suc t) h) (arrival v (suc t) g) l′ (λ p. n (ap (λ (x : Arrival). x .cost) p)) (covers-beside s v (suc t) h g (c .free) l)))
-
-pub stands-leading : (s : Sheet) (v t : ℕ) (g : Cost) → suc t ≤ steps s → Stands s v t g → Leading s (arrival v (suc t) g)
-stands-leading s v t g l k = record { arrives = there; unled = none }
-  where
-    a : Arrival
-    a = arrival v (suc t) g
-
-    there : Arrives s a
-    there = candidate-arrives s v t g l (k .candidate)
-
-    none : (b : Arrival) → Arrives s b → Leads s b a → ⊥
-    none b j d = go (led s b j)
-      where
-        go : Led s b → ⊥
-        go x = pick (leb (e .step) t) refl
-          where
-            e : Arrival
-            e = x .by
-
-            cov : Covers s e a
-            cov = covers-trans s e b a (x .covers) (leads-covers s b a d)
-
-            differ : e ≢ a
-            differ p = d .differ (covers-antisym s b a (arrives-three s b j) (arrives-three s a there) (leads-covers s b a d) (subst (λ (y : Arrival). Covers s y b) p (x .covers)))
-
-            pick : (c : Bool) → leb (e .step) t ≡ c → ⊥
-            pick true q = k .unled-before e (x .is) (leb-true (e .step) t q) (covers-leads s e a l differ cov)
-            pick false q =
-                let m : e .step ≡ suc t = omega (arith, cov .no-later, leb-false (e .step) t q) in
-                let f : e ≡ arrival v (suc t) (e .cost) = arrival-path e (arrival v (suc t) (e .cost)) (cov .same-place) m refl in
-                let n : AtMost (e .cost) g = record { every = λ i. omega (arith, cov .no-dearer .every i, fig-waited s v (suc t - e .step) (e .cost) i) } in
-                let h : e .cost ≡ g = k .unled-beside (e .cost) (leading-candidate s v t (e .cost) (subst (Leading s) f (x .is))) n in
-                differ (arrival-path e a (cov .same-place) m h)
-
--- at step 0: the start alone, if it is unoccupied
-pub leading-start : (s : Sheet) (v : ℕ) (g : Cost) → Leading s (arrival v 0 g) ↔ Begins s v g
-leading-start s v g = (λ o. begins v g (o .arrives), λ h. record { arrives = came-arrives s v 0 g (omega arith) (record { before = []; trail = h; steps = refl }); unled = none h })
-  where
-    begins : (v : ℕ) (g : Cost) → Arrives s (arrival v 0 g) → Begins s v g
-    begins v g a = let k = arrives-came s (arrival v 0 g) a in go (k .before) (k .trail) (k .steps)
-      where
-        go : (p : List ℕ) → Trail s (v ∷ p) g → length p ≡ 0 → Begins s v g
-        go [] w e = w
-        go (u ∷ p) w e = absurd (omega arith)
-
-    none : Begins s v g → (b : Arrival) → Arrives s b → Leads s b (arrival v 0 g) → ⊥
-    none h b j d =
-        let z : b .step ≡ 0 = omega (arith, d .no-later) in
-        let k = begins (b .place) (b .cost) (subst (Arrives s) (arrival-path b (arrival (b .place) 0 (b .cost)) refl z refl) j) in
-        d .differ (arrival-path b (arrival v 0 g) (d .same-place) z (k .nothing ∙ sym (h .nothing)))

@@ -1,79 +1,28 @@
--- `costs::corridor_cost` meets its contract. The loop's invariant: the first i figures of r are the numbers of line k from 2 on.
--- The measure is what is left of the three figures.
+-- `costs::corridor_cost` meets its contract: the three numbers from 2 on of line k.
 -- Assumes nothing.
-use mathlib.Core.Path.{_≡_, refl, sym, _∙_, ap}
-use Prim.Native.Nat.{_+_, _*_, _-_, _≤_}
+use mathlib.Core.Path.{_∙_}
 use native.Mathlib.Omega.{arith}
 use borrow.Author.Needs.{needs}
-use Rattle.sheet.specs.Lists.{number}
+use Rattle.costs.specs.Costs.{figures}
 use Rattle.costs.specs.Moves.{costOf}
-use Rattle.costs.specs.Laws.Figures.{Stored, stored-none, stored-more, stored-all, stored-as, is-from}
-use Rattle.costs.specs.Laws.Rows.{row, row-number}
+use Rattle.costs.specs.Laws.Rows.{from-row}
 use Rattle.costs.proofs.corridor_cost.Statement.{statement}
 use Rattle.costs.proofs.corridor_cost.Tie as tie
 
-abbrev Inv-loop : tie.InvT-loop
-Inv-loop corridors k r₀ i₀ r i = (i ≤ 3) × Stored 3 (λ j. number corridors (k * 5 + 2 + j)) i r
+mul-cost-from : tie.Need-mul-cost-from
+mul-cost-from c = search needs
 
-abbrev μ-loop : tie.MeasureT-loop
-μ-loop corridors k r₀ i₀ r i = 3 - i
+add-cost-from : tie.Need-add-cost-from
+add-cost-from c = search needs
 
-loop-holds : tie.Need-loop-holds Inv-loop μ-loop
-loop-holds c = (search needs, stored-none 3 _ _ refl)
+cost-from-requires : tie.Need-cost-from-requires
+cost-from-requires c κs = omega arith
 
-mul-r : tie.Need-mul-r Inv-loop μ-loop
-mul-r c = search needs
-
-add-r : tie.Need-add-r Inv-loop μ-loop
-add-r c = search needs
-
-add-r-2 : tie.Need-add-r-2 Inv-loop μ-loop
-add-r-2 c = search needs
-
-mul-r-2 : tie.Need-mul-r-2 Inv-loop μ-loop
-mul-r-2 c = search needs
-
-shared-slice-read-r : tie.Need-shared-slice-read-r Inv-loop μ-loop
-shared-slice-read-r c = search needs
-
-mul-r-3 : tie.Need-mul-r-3 Inv-loop μ-loop
-mul-r-3 c = search needs
-
-array-write-r : tie.Need-array-write-r Inv-loop μ-loop
-array-write-r c = search needs
-
-add-i : tie.Need-add-i Inv-loop μ-loop
-add-i c = search needs
-
-loop-less : tie.Need-loop-less Inv-loop μ-loop
-loop-less c = search needs
-
-loop-again : tie.Need-loop-again Inv-loop μ-loop
-loop-again c = (search needs, stored-more 3 _ (c .before .before .loop .i) (c .before .before .loop .r) (search needs) (c .before .before .loop .inv .1))
-
-returns : tie.Need-returns Inv-loop μ-loop
+returns : tie.Need-returns
 unfolding costOf
 returns c =
-    let l = c .before .before .args .corridors .now in
-    let k = c .before .before .args .k in
-    is-from 3 2 (c .before .loop .r) (row 5 l k)
-    (stored-as 3 _ _ _ (λ j b. (let e : k * 5 + 2 + j ≡ k * 5 + (2 + j) = omega arith in ap (number l) e ∙ sym (row-number 5 l k (2 + j) (omega arith)))) (stored-all 3 _ (c .before .loop .i) _ (omega arith) (c .before .loop .inv .1)))
+    let a = c .before .before .args in
+    c .cost-from .ensures ∙ from-row 5 (a .corridors .now) (a .k) figures 2 (omega arith)
 
 pub corridor-cost-spec : {M : Type 1} → statement M
-corridor-cost-spec =
-    tie.close
-    (tie.spec
-    Inv-loop
-    μ-loop
-    loop-holds
-    mul-r
-    add-r
-    add-r-2
-    mul-r-2
-    shared-slice-read-r
-    mul-r-3
-    array-write-r
-    add-i
-    loop-less
-    loop-again
-    returns)
+corridor-cost-spec = tie.close (tie.spec mul-cost-from add-cost-from cost-from-requires returns)

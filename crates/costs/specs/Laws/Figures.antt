@@ -3,7 +3,7 @@ use mathlib.Core.Path.{_≡_, refl, sym, _∙_, ap, subst}
 use mathlib.Core.Logic.{_⊎_, inl, inr}
 use mathlib.Core.Bool.{Bool, true, false, not, _&&_, true≢false}
 use mathlib.Core.List.{List, [], _∷_}
-use Prim.Native.Nat.{ℕ, zero, suc, _+_, _*_, _≤_, _<_}
+use Prim.Native.Nat.{ℕ, zero, suc, _+_, _*_, _-_, _≤_, _<_}
 use native.Mathlib.Omega.{arith}
 use native.Mathlib.Nat.{mul-le-mul-left}
 use lib.Dec.{ltb, leb, eqb}
@@ -12,7 +12,8 @@ use lib.Seq.{ext-getD, getD-set-same, getD-set-other}
 use borrow.Author.Tests.{ltb-true, ltb-false, leb-true, leb-false, eqb-true, eqb-false, le-leb, eq-eqb, not-true}
 use Rattle.sheet.specs.Lists.{number, numbersFrom, Lex, lexb}
 use Rattle.sheet.specs.Laws.Order.{and-true, true-and, decided, Lex-irrefl, Lex-trans, lexb-true, lexb-false}
-use Rattle.costs.specs.Costs.{Cost, figures, fig, zeroCost, add, times, Within, AtMost, Dominates}
+use Rattle.costs.specs.Costs.{Cost, figures, fig, zeroCost, add, times, AtMost, Dominates}
+use Rattle.costs.specs.Priced.{Within}
 use Rattle.costs.specs.Computed.{atMostb, dominatesb, sameb}
 
 pub fig-add : (a b : Cost) (i : ℕ) → fig (add a b) i ≡ fig a i + fig b i
@@ -195,12 +196,6 @@ within-add m n a b p q = record { every = λ i. omega (arith, fig-add a b i, p .
 pub within-times : (n m : ℕ) (a : Cost) → Within m a → Within (n * m) (times n a)
 within-times n m a h = record { every = λ i. omega (arith, fig-times n a i, mul-le-mul-left n (h .every i)) }
 
-pub within-zero : (m : ℕ) → Within m zeroCost
-within-zero m = record { every = λ i. omega (arith, fig-zero i) }
-
-pub within-at-most : (m : ℕ) (a b : Cost) → AtMost a b → Within m b → Within m a
-within-at-most m a b p h = record { every = λ i. omega (arith, p .every i, h .every i) }
-
 -- the ascending order of costs, beside the order figure by figure
 pub Lex-asym : (a b : List ℕ) → Lex a b → Lex b a → ⊥
 Lex-asym a b p q = Lex-irrefl a (Lex-trans a b a p q)
@@ -267,26 +262,23 @@ stored-more n f i r l h = record { sized = length-set r i (f i) ∙ h .sized; so
 pub stored-all : (n : ℕ) (f : ℕ → ℕ) (i : ℕ) (r : List ℕ) → n ≤ i → Stored n f i r → Stored n f n r
 stored-all n f i r l h = record { sized = h .sized; so-far = λ k b. h .so-far k (omega arith) }
 
-pub stored-as : (n : ℕ) (f g : ℕ → ℕ) (r : List ℕ) → ((k : ℕ) → k < n → f k ≡ g k) → Stored n f n r → Stored n g n r
-stored-as n f g r e h = record { sized = h .sized; so-far = λ k b. h .so-far k b ∙ e k b }
-
 pub is-add : (n : ℕ) (r a b : Cost) → length a ≡ n → length b ≡ n → Stored n (λ k. fig a k + fig b k) n r → r ≡ add a b
 is-add n r a b p q h = ext-getD 0 r (add a b) (h .sized ∙ sym (length-add a b n p q)) (λ k l. h .so-far k (omega (arith, h .sized)) ∙ sym (fig-add a b k))
 
 pub is-times : (n m : ℕ) (r a : Cost) → length a ≡ n → Stored n (λ k. m * fig a k) n r → r ≡ times m a
 is-times n m r a p h = ext-getD 0 r (times m a) (h .sized ∙ sym (length-times m a ∙ p)) (λ k l. h .so-far k (omega (arith, h .sized)) ∙ sym (fig-times m a k))
 
-pub is-from : (n i : ℕ) (r l : List ℕ) → Stored n (λ k. number l (i + k)) n r → r ≡ numbersFrom n i l
-is-from n i r l h = ext-getD 0 r (numbersFrom n i l) (h .sized ∙ sym (length-from n i)) (λ k q. h .so-far k (omega (arith, h .sized)) ∙ sym (fig-from n i k (omega (arith, h .sized))))
-  where
-    length-from : (n i : ℕ) → length (numbersFrom n i l) ≡ n
-    length-from zero i = refl
-    length-from (suc n) i = ap suc (length-from n (suc i))
+pub from-length : (n i : ℕ) (l : List ℕ) → length (numbersFrom n i l) ≡ n
+from-length zero i l = refl
+from-length (suc n) i l = ap suc (from-length n (suc i) l)
 
-    fig-from : (n i k : ℕ) → k < n → fig (numbersFrom n i l) k ≡ number l (i + k)
-    fig-from zero i k q = absurd (omega arith)
-    fig-from (suc n) i zero q = let e : i + 0 ≡ i = omega arith in rw e
-    fig-from (suc n) i (suc k) q = let e : i + suc k ≡ suc i + k = omega arith in rw e (fig-from n (suc i) k (omega arith))
+pub from-at : (n i : ℕ) (l : List ℕ) (k : ℕ) → k < n → number (numbersFrom n i l) k ≡ number l (i + k)
+from-at zero i l k h = absurd (omega arith)
+from-at (suc n) i l zero h = ap (number l) (omega arith)
+from-at (suc n) i l (suc k) h = from-at n (suc i) l k (omega arith) ∙ ap (number l) (omega arith)
+
+pub is-from : (n i : ℕ) (r l : List ℕ) → Stored n (λ k. number l (i + k)) n r → r ≡ numbersFrom n i l
+is-from n i r l h = ext-getD 0 r (numbersFrom n i l) (h .sized ∙ sym (from-length n i l)) (λ k q. h .so-far k (omega (arith, h .sized)) ∙ sym (from-at n i l k (omega (arith, h .sized))))
 
 -- and a loop that compares, that each figure is at most b's, or that all are the same up to one
 pub is-at-most : (n : ℕ) (a b : Cost) → length a ≡ n → ((k : ℕ) → k < n → fig a k ≤ fig b k) → AtMost a b
@@ -298,6 +290,10 @@ is-at-most n a b p h = record { every = λ i. go i (ltb i n) refl }
 
 pub is-same : (n : ℕ) (a b : Cost) → length a ≡ n → length b ≡ n → ((k : ℕ) → k < n → fig a k ≡ fig b k) → a ≡ b
 is-same n a b p q h = ext-getD 0 a b (p ∙ sym q) (λ k l. h k (omega arith))
+
+pub is-less : (n : ℕ) (r h c : Cost) → length h ≡ n → length c ≡ n → AtMost c h → Stored n (λ k. fig h k - fig c k) n r → (length r ≡ n) × (add r c ≡ h)
+is-less n r h c p q l x =
+    (x .sized, is-same n (add r c) h (length-add r c n (x .sized) q) p (λ k b. omega (arith, fig-add r c k, x .so-far k b, l .every k)))
 
 pub is-Lex : (a b : Cost) (i : ℕ) → i < length a → i < length b → ((k : ℕ) → k < i → fig a k ≡ fig b k) → fig a i < fig b i → Lex a b
 is-Lex [] b i p q h l = absurd (omega arith)

@@ -10,7 +10,15 @@ use Rattle.sheet.specs.Lists.{_∈_, all}
 use Rattle.sheet.specs.Sheet.{Sheet, placeOf, first, last}
 use Rattle.sheet.specs.Laws.Order.{and-true, true-and}
 use Rattle.sheet.specs.Laws.Members.{all-true}
-use Rattle.intervals.specs.Intervals.{Occupied, occupiesb, freeb, Free}
+use Rattle.intervals.specs.Intervals.{occupiesb, freeb, Free}
+
+-- an O line of the sheet occupies place v at step t
+pub record Occupied (s : Sheet) (v t : ℕ) : Type 0 where
+  pub line : List ℕ
+  pub listed : line ∈ s .occupancies
+  pub there : placeOf line ≡ v
+  pub begun : first line ≤ t
+  pub lasts : t ≤ last line
 
 -- the line o occupies place v at step t
 pub record Occupies (v t : ℕ) (o : List ℕ) : Type 0 where

@@ -1,24 +1,21 @@
 -- Safe intervals as runs of free steps. Two steps are in one safe interval exactly when the place is free at every step between them;
 -- each free step within the horizon lies in one safe interval, whose ends `firstOf` and `lastOf` compute; `intervalsOf` lists exactly
--- the safe intervals of a place, and `sinceAt` gives the first step of the one that holds a step. `sinceOf` is at most the step exactly where the
--- place is free, one and the same over a run, and at most a step exactly where the run reaches back to it.
-use mathlib.Core.Path.{_≡_, refl, sym, _∙_, ap, subst}
+-- the safe intervals of a place. `sinceOf` is at most the step exactly where the place is free, one and the same over a run, and at most a step exactly
+-- where the run reaches back to it.
+use mathlib.Core.Path.{_≡_, refl, sym, _∙_, subst}
 use mathlib.Core.Logic.{_↔_, _⊎_, inl, inr, _≢_}
-use mathlib.Core.Bool.{Bool, true, false, _&&_, true≢false}
+use mathlib.Core.Bool.{Bool, true, false, true≢false}
 use mathlib.Core.List.{[], _∷_, _++_, map}
-use mathlib.Core.Option.{some, none}
 use Prim.Native.Nat.{ℕ, zero, suc, _+_, _-_, _≤_, _<_}
 use native.Mathlib.Omega.{arith}
 use lib.Dec.{eqb, leb}
-use borrow.Author.Tests.{eqb-true, eq-eqb, eqb-false, leb-true, leb-false, le-leb}
+use borrow.Author.Tests.{eqb-true, eq-eqb, eqb-false, leb-true, leb-false}
 use Rattle.sheet.specs.Lists.{_∈_, pick, filter}
 use Rattle.sheet.specs.Sheet.{Sheet, steps}
 use Rattle.sheet.specs.Laws.Order.{and-true, true-and}
 use Rattle.sheet.specs.Laws.Members.{mem-left, mem-right, mem-append, filter-mem, mem-filter, map-mem, mem-map}
-use Rattle.sheet.specs.declared.Place.{Place}
-use Rattle.sheet.specs.declared.Step.{Step}
 use Rattle.intervals.specs.Intervals.{freeb, Free, Run, Interval, Together}
-use Rattle.intervals.specs.Computed.{runb, firstOf, lastOf, Span, beginsb, stepsTo, intervalsOf, sinceOf, sinceAt}
+use Rattle.intervals.specs.Computed.{runb, firstOf, lastOf, Span, beginsb, stepsTo, intervalsOf, sinceOf}
 
 pub run-one : (s : Sheet) (v t : ℕ) → Free s v t → Run s v t t
 run-one s v t f i p q = let e : i ≡ t = omega arith in rw e f
@@ -229,33 +226,6 @@ are-intervals s v x i =
     span-path : (x y : Span) → x .first-step ≡ y .first-step → x .last-step ≡ y .last-step → x ≡ y
     span-path x y p q = λ i. record { first-step = p i; last-step = q i }
 
--- a is the first step of the safe interval of v that holds t
-pub record Since (s : Sheet) (v t a : ℕ) : Type 0 where
-  pub end : ℕ
-  pub interval : Interval s v a end
-  pub from : a ≤ t
-  pub until : t ≤ end
-
-pub since-is : (s : Sheet) (v : Place) (t : Step) (a : ℕ) → sinceAt s v t ≡ some a → Since s (v .0) (t .0) a
-unfolding sinceAt
-since-is s v t a e = go (leb (t .0) (steps s)) refl (freeb s (v .0) (t .0)) refl e
-  where
-    go : (x : Bool) → leb (t .0) (steps s) ≡ x → (y : Bool) → freeb s (v .0) (t .0) ≡ y → pick (x && y) (some (firstOf s (v .0) (t .0))) none ≡ some a → Since s (v .0) (t .0) a
-    go true p true q e =
-        let r : firstOf s (v .0) (t .0) ≡ a = cc in
-        subst (Since s (v .0) (t .0)) r
-        (record { end = lastOf s (v .0) (t .0) (steps s - t .0); interval = interval-at s (v .0) (t .0) (leb-true _ _ p) q; from = first-step s (v .0) (t .0) q .soon; until = last-step s (v .0) (t .0) (steps s - t .0) q .late })
-    go true p false q e = let z : _≡_ {A = ℕ} 0 1 = cc in absurd (omega arith)
-    go false p y q e = let z : _≡_ {A = ℕ} 0 1 = cc in absurd (omega arith)
-
-pub is-since : (s : Sheet) (v : Place) (t : Step) (a : ℕ) → Since s (v .0) (t .0) a → sinceAt s v t ≡ some a
-unfolding sinceAt
-is-since s v t a h =
-    let f : Free s (v .0) (t .0) = h .interval .free (t .0) (h .from) (h .until) in
-    let l : t .0 ≤ steps s = omega (arith, h .interval .within, h .until) in
-    let e = interval-once s (v .0) (firstOf s (v .0) (t .0)) (lastOf s (v .0) (t .0) (steps s - t .0)) a (h .end) (t .0) (interval-at s (v .0) (t .0) l f) (h .interval) (first-step s (v .0) (t .0) f .soon) (last-step s (v .0) (t .0) (steps s - t .0) f .late) (h .from) (h .until) in
-    rw (le-leb (t .0) (steps s) l, f) (ap some (e .0))
-
 -- no run that ends at t begins before the first step
 pub first-least : (s : Sheet) (v a t : ℕ) → a ≤ t → Run s v a t → firstOf s v t ≤ a
 first-least s v a t h r = go (leb (firstOf s v t) a) refl
@@ -292,13 +262,6 @@ since-occupied s v t f = rw f
 pub free-since : (s : Sheet) (v t : ℕ) → Free s v t → sinceOf s v t ≤ t
 free-since s v t f = omega (arith, since-first s v t f, first-step s v t f .soon)
 
-pub since-most : (s : Sheet) (v t : ℕ) → t ≤ 255 → sinceOf s v t ≤ 256
-since-most s v t h = go (freeb s v t) refl
-  where
-    go : (b : Bool) → freeb s v t ≡ b → sinceOf s v t ≤ 256
-    go true f = omega (arith, free-since s v t f)
-    go false f = omega (arith, since-occupied s v t f)
-
 pub since-free : (s : Sheet) (v t : ℕ) → t ≤ 255 → sinceOf s v t ≤ t ↔ Free s v t
 since-free s v t h = (λ l. go l (freeb s v t) refl, free-since s v t)
   where
@@ -317,24 +280,3 @@ since-run s v a t h k = (λ l. back l (since-free s v t h .0 (omega arith)), λ 
 pub since-same : (s : Sheet) (v a t : ℕ) → a ≤ t → Run s v a t → sinceOf s v a ≡ sinceOf s v t
 since-same s v a t h r =
     since-first s v a (r a (omega arith) h) ∙ first-same s v a t h r ∙ sym (since-first s v t (r t h (omega arith)))
-
-pub since-next : (s : Sheet) (v t : ℕ) → Free s v t → Free s v (t + 1) → sinceOf s v (t + 1) ≡ sinceOf s v t
-since-next s v t f g = sym (since-same s v t (t + 1) (omega arith) step)
-  where
-    step : Run s v t (t + 1)
-    step i m n = go (eqb i t) refl
-      where
-        go : (b : Bool) → eqb i t ≡ b → Free s v i
-        go true e = rw (eqb-true i t e) f
-        go false e =
-            let d : i ≢ t = eqb-false i t e in
-            let q : i ≡ t + 1 = omega arith in
-            rw q g
-
--- and it is the first step of the safe interval, where there is one
-pub since-interval : (s : Sheet) (v a b t : ℕ) → Interval s v a b → a ≤ t → t ≤ b → sinceOf s v t ≡ a
-since-interval s v a b t i h k =
-    let f : Free s v t = i .free t h k in
-    let w : t ≤ steps s = omega (arith, i .within) in
-    since-first s v t f
-    ∙ interval-once s v (firstOf s v t) (lastOf s v t (steps s - t)) a b t (interval-at s v t w f) i (first-step s v t f .soon) (last-step s v t (steps s - t) f .late) h k .0

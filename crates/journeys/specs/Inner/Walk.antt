@@ -13,7 +13,7 @@ use Rattle.sheet.specs.Calls.{groupRows}
 use Rattle.costs.specs.Costs.{Cost, add, times}
 use Rattle.arrivals.specs.Ways.{Move}
 use Rattle.arrivals.specs.Arrivals.{arrival, Arrives}
-use Rattle.arrivals.specs.Inner.Rows.{costAt}
+use Rattle.arrivals.specs.Rows.{costAt}
 use Rattle.journeys.specs.Inner.{Walks}
 use Rattle.journeys.specs.Laws.Exact.{Towards}
 use Rattle.journeys.specs.Laws.Tie.{Chain}

@@ -3,46 +3,55 @@
 -- and the computed journey of it, which is the one that the tie rule selects (Laws.Journeys); and sheets are read and written back by the laws of
 -- the calls (sheet's Laws.RoundTrip). Bytes that read as a sheet read as one sheet, so all calls on them speak of it.
 use mathlib.Core.Path.{_≡_, refl, sym, _∙_, ap, subst}
-use mathlib.Core.Logic.{inl, inr}
-use mathlib.Core.Bool.{Bool, true, false, not, _||_}
-use mathlib.Core.List.{List, [], _∷_}
-use Prim.Native.Nat.{ℕ, zero, suc, _*_, _-_, _<_}
+use mathlib.Core.Logic.{inl, inr, ⊎-elim}
+use mathlib.Core.Bool.{Bool, true, false}
+use mathlib.Core.List.{List, [], _∷_, reverse}
+use Prim.Native.Nat.{ℕ, zero, suc, _*_, _-_, _≤_, _<_}
 use native.Mathlib.Omega.{arith}
-use lib.Dec.{eqb, leb}
+use lib.Dec.{leb}
 use lib.ListN.{length, getD, take, drop, replicate, length-append}
 use lib.Seq.{take-at, take-append-seam, getD-at}
-use Rattle.sheet.specs.Lists.{_∈_, pick, Lex, Ascending}
-use Rattle.sheet.specs.Kinds.{kindC, kindO}
-use Rattle.sheet.specs.Sheet.{Sheet, Outcome, loaded, readOf}
-use Rattle.sheet.specs.Calls.{leftOver, WriteEnd, writeRefused, writeJudged, writeCall}
+use borrow.Author.Tests.{le-ltb}
+use Rattle.sheet.specs.Lists.{_∈_, pick, bind, Lex}
+use Rattle.sheet.specs.Sorting.{Ascending}
+use Rattle.sheet.specs.Sheet.{Sheet, loaded, told, readOf}
+use Rattle.sheet.specs.Calls.{WriteEnd}
 use Rattle.sheet.specs.declared.SheetRead.{SheetRead}
+use Rattle.sheet.specs.Laws.Members.{mem-at}
 use Rattle.sheet.specs.Laws.Ascending.{before-all}
+use Rattle.sheet.specs.Laws.Stores.{filled-past}
 use Rattle.sheet.specs.Laws.Judge.{loaded-inj}
-use Rattle.sheet.specs.Laws.Rows.{filled-full}
-use Rattle.sheet.specs.Laws.RoundTrip.{groupsJudged, whole-of, write-read-calls, read-write-calls}
+use Rattle.sheet.specs.Laws.RoundTrip.{write-read-calls, write-read-groups, read-write-calls}
 use Rattle.costs.specs.Costs.{Cost, figures}
 use Rattle.costs.specs.Laws.Figures.{is-from}
-use Rattle.journeys.specs.Journeys.{HasCost, Selected}
+use Rattle.arrivals.specs.Arrivals.{Arrival, arrival, keyOf, Leading}
+use Rattle.arrivals.specs.Computed.{leading}
+use Rattle.arrivals.specs.Table.{arrivalRow, crowded, arrivalTable}
+use Rattle.arrivals.specs.Search.{arrivalRoom}
+use Rattle.journeys.specs.Journeys.{Journey, HasCost, Selected}
 use Rattle.journeys.specs.Front.{OnFront}
 use Rattle.journeys.specs.Computed.{self, journeyOf, arrivalOf, front}
-use Rattle.journeys.specs.Calls.{noRoom, cleared, FrontEnd, frontServed, frontCall, JourneyEnd, journeyRefused, tooShort, journeyServed, journeyOn, journeyRead, journeyCall}
-use Rattle.journeys.specs.Demand2.{costAt, stepAt, Listed, ListsFront, GivesJourney, Demand2}
+use Rattle.journeys.specs.Calls.{cleared, FrontEnd, frontServed, frontCall, JourneyEnd, journeyRefused, tooShort, journeyServed, journeyOn, journeyCall}
+use Rattle.journeys.specs.Demand2.{costAt, stepAt, Listed, Earliest, ListsFront, arrivalAt, ListsLeading, GivesJourney, Demand2}
 use Rattle.journeys.specs.Laws.Journeys.{has-three, journeyOf-selected, journey-length}
 use Rattle.journeys.specs.Laws.Front.{front-on, on-front, front-ascending, front-empty}
+use Rattle.arrivals.specs.Laws.Leading.{leading-is, is-leading, leading-ascending}
+use Rattle.journeys.specs.Laws.Searched.{Ready, ready-is, rows-length}
+use Rattle.journeys.specs.Laws.Rows.{table-row}
 use Rattle.journeys.specs.Laws.Served.{served, member, row-listed, listed}
 
--- a member of a list of costs has a number in it
-position : (g : Cost) (l : List Cost) → g ∈ l → (i : ℕ) × (i < length l) × (getD l i [] ≡ g)
-position g [] m = absurd m
-position g (x ∷ l) (inl e) = (0, omega arith, sym e)
-position g (x ∷ l) (inr m) = let r = position g l m in (suc (r .0), omega (arith, r .1), r .2)
+-- a member of a list has a number in it; and of an ascending list, the member with the lower number stands before
+module _ {A : Type 0} (d : A) where
+  position : (g : A) (l : List A) → g ∈ l → (i : ℕ) × (i < length l) × (getD l i d ≡ g)
+  position g [] m = absurd m
+  position g (x ∷ l) (inl e) = (0, omega arith, sym e)
+  position g (x ∷ l) (inr m) = let r = position g l m in (suc (r .0), omega (arith, r .1), r .2)
 
--- of an ascending list, the member with the lower number stands before
-ascending-at : (l : List Cost) → Ascending self l → (i j : ℕ) → i < j → j < length l → Lex (getD l i []) (getD l j [])
-ascending-at [] a i j h k = absurd (omega arith)
-ascending-at (x ∷ l) a i zero h k = absurd (omega arith)
-ascending-at (x ∷ l) a zero (suc j) h k = before-all self x l (a .0) (a .1) (getD l j []) (member l j (omega arith))
-ascending-at (x ∷ l) a (suc i) (suc j) h k = ascending-at l (a .1) i j (omega arith) (omega arith)
+  keys-ascend : (key : A → List ℕ) (l : List A) → Ascending key l → (i j : ℕ) → i < j → j < length l → Lex (key (getD l i d)) (key (getD l j d))
+  keys-ascend key [] a i j h k = absurd (omega arith)
+  keys-ascend key (x ∷ l) a i zero h k = absurd (omega arith)
+  keys-ascend key (x ∷ l) a zero (suc j) h k = before-all key x l (a .0) (a .1) (getD l j d) (mem-at d l j (omega arith))
+  keys-ascend key (x ∷ l) a (suc i) (suc j) h k = keys-ascend key l (a .1) i j (omega arith) (omega arith)
 
 no-costs : (l : List Cost) → length l ≡ 0 → l ≡ []
 no-costs [] e = refl
@@ -68,16 +77,39 @@ module _ (s : Sheet) (table list : List ℕ) (i : ℕ) (h : i < length (front s)
 lex-as : (a b c d : Cost) → a ≡ c → b ≡ d → Lex c d → Lex a b
 lex-as a b c d p q h = subst (λ (x : Cost). Lex x b) (sym p) (subst (Lex c) (sym q) h)
 
+-- the tie rule selects an earliest journey
+earliest-of : (s : Sheet) (g : Cost) → HasCost s g → Earliest s g (arrivalOf s g)
+earliest-of s g h =
+    let p = journeyOf-selected s g h in
+    record {
+      path = journeyOf s g;
+      journey = p .journey;
+      arrives = journey-length s g h;
+      none-before = λ q j. omega (arith, journey-length s g h, shortest q j);
+    }
+  where
+    first : (a b : ℕ) (k l : List ℕ) → Lex (a ∷ k) (b ∷ l) → a ≤ b
+    first a b k l (inl h) = omega (arith, h)
+    first a b k l (inr h) = omega (arith, h .0)
+
+    shortest : (q : List ℕ) → Journey s q g → length (journeyOf s g) ≤ length q
+    shortest q j =
+        ⊎-elim (λ e. omega (arith, ap (λ (l : List ℕ). length l) e)) (first (length (journeyOf s g)) (length q) (reverse (journeyOf s g)) (reverse q)) (journeyOf-selected s g h .first q j)
+
 -- the served list is the front: its members by their numbers
 lists-front : (s : Sheet) (table list : List ℕ) → ListsFront s (frontServed s table list)
 unfolding frontServed
 lists-front s table list =
     record {
       listed-on = λ i h. subst (OnFront s) (sym (cost-listed s table list i h)) (front-on s (getD (front s) i []) (member (front s) i h));
-      on-listed = λ g o. at g (position g (front s) (on-front s g o));
+      earliest = λ i h.
+          let g = getD (front s) i [] in
+          subst (λ (c : Cost). Earliest s c (stepAt e i)) (sym (cost-listed s table list i h))
+          (subst (Earliest s g) (sym (step-listed s table list i h)) (earliest-of s g (has-at s i h)));
+      on-listed = λ g o. at g (position [] g (front s) (on-front s g o));
       ascending = λ i j h k.
           lex-as (costAt e i) (costAt e j) (getD (front s) i []) (getD (front s) j [])
-          (cost-listed s table list i (omega (arith, h, k))) (cost-listed s table list j k) (ascending-at (front s) (front-ascending s) i j h k);
+          (cost-listed s table list i (omega (arith, h, k))) (cost-listed s table list j k) (keys-ascend [] self (front s) (front-ascending s) i j h k);
       empty = (
         λ z p g j. front-empty s .0 (no-costs (front s) z) g (p, j),
         λ n. ap length (front-empty s .1 (λ g h. n (h .0) g (h .1))),
@@ -90,6 +122,31 @@ lists-front s table list =
     at : (g : Cost) → (i : ℕ) × (i < length (front s)) × (getD (front s) i [] ≡ g) → Listed e g
     at g r = record { at = r .0; inside = r .1; same = cost-listed s table list (r .0) (r .1) ∙ r .2 }
 
+-- the served table holds the leading arrivals, row by row
+module _ (s : Sheet) (table list : List ℕ) (h : length (leading s) ≤ arrivalRoom (length table)) where
+  abbrev e : FrontEnd
+  e = frontServed s table list
+
+  ready : Ready s table (arrivalTable s (length table)) (length (leading s))
+  unfolding crowded
+  ready = ready-is s table (arrivalTable s (length table)) (length (leading s)) (le-ltb (arrivalRoom (length table)) (length (leading s)) h) refl refl
+
+  row-is : (i : ℕ) → i < length (leading s) → arrivalAt e i ≡ getD (leading s) i (arrival 0 0 [])
+  unfolding frontServed
+  row-is i l = sym (table-row (length (leading s)) (arrivalTable s (length table)) i l) ∙ ap (λ (k : List Arrival). getD k i (arrival 0 0 [])) (ready .holds .rows-are)
+
+  lists-leading : ListsLeading s e
+  unfolding frontServed
+  lists-leading =
+      record {
+        rows-lead = λ i l. subst (Leading s) (sym (row-is i l)) (leading-is s (getD (leading s) i (arrival 0 0 [])) (mem-at (arrival 0 0 []) (leading s) i l));
+        leading-rows = λ a m. let r = position (arrival 0 0 []) a (leading s) (is-leading s a m) in (r .0, r .1, row-is (r .0) (r .1) ∙ r .2);
+        ascending = λ i j k l.
+            subst (λ (a : Arrival). Lex (keyOf a) (keyOf (arrivalAt e j))) (sym (row-is i (omega (arith, k, l))))
+            (subst (λ (b : Arrival). Lex (keyOf (getD (leading s) i (arrival 0 0 []))) (keyOf b)) (sym (row-is j l)) (keys-ascend (arrival 0 0 []) keyOf (leading s) (leading-ascending s) i j k l));
+        zeros = λ i l. filled-past (length table) (bind (leading s) arrivalRow) i (omega (arith, l, rows-length s));
+      }
+
 -- bytes read as one sheet, and a call of the front on them that is not refused serves it
 front-served : (b table list : List ℕ) (s : Sheet) → readOf b ≡ loaded s → frontCall b table list .answer .refusal ≡ 0 → frontCall b table list ≡ frontServed s table list
 front-served b table list s r z =
@@ -99,12 +156,12 @@ front-served b table list s r z =
 -- a journey that is not refused is served, by the three tests in turn
 journey-served : (s : Sheet) (i : ℕ) (table path : List ℕ) → journeyOn s i table path .answer .refusal ≡ 0 → journeyOn s i table path ≡ journeyServed s (getD (front s) i []) table path
 unfolding journeyOn
-journey-served s i table path z = go (noRoom s (length table)) (leb (length (front s)) i) (tooShort s (getD (front s) i []) (length path)) z
+journey-served s i table path z = go (crowded s (length table)) (leb (length (front s)) i) (tooShort s (getD (front s) i []) (length path)) z
   where
     end : Bool → Bool → Bool → JourneyEnd
     end t u v =
-        pick t (journeyRefused 8 0 (cleared table) path)
-        (pick u (journeyRefused 10 0 (cleared table) path) (pick v (journeyRefused 11 0 (cleared table) path) (journeyServed s (getD (front s) i []) table path)))
+        pick t (journeyRefused (cleared table) path 8 0)
+        (pick u (journeyRefused (cleared table) path 10 0) (pick v (journeyRefused (cleared table) path 11 0) (journeyServed s (getD (front s) i []) table path)))
 
     go : (t u v : Bool) → end t u v .answer .refusal ≡ 0 → end t u v ≡ journeyServed s (getD (front s) i []) table path
     go true u v z = absurd (omega (arith, z))
@@ -117,7 +174,9 @@ journey-call : (b : List ℕ) (i : ℕ) (table path : List ℕ) (s : Sheet) → 
     → journeyCall b i table path ≡ journeyServed s (getD (front s) i []) table path
 unfolding journeyCall
 journey-call b i table path s r z =
-    let e : journeyRead (readOf b) i table path ≡ journeyOn s i table path = ap (λ (o : Outcome). journeyRead o i table path) r in
+    let e : told (journeyRefused table path) (λ x. journeyOn x i table path) (readOf b) ≡ journeyOn s i table path =
+    ap (told (journeyRefused table path) (λ x. journeyOn x i table path)) r
+    in
     e ∙ journey-served s i table path (subst (λ (x : JourneyEnd). x .answer .refusal ≡ 0) e z)
 
 -- what a served call of a journey gives
@@ -140,16 +199,6 @@ agree s table list table′ path i h =
     let g = getD (front s) i [] in
     (subst (λ (c : Cost). GivesJourney s c (journeyServed s g table′ path)) (sym (cost-listed s table list i h)) (gives s g table′ path (has-at s i h)), sym (step-listed s table list i h))
 
--- a writer that does not refuse took a head of 7 numbers
-seven : (h cs os out : List ℕ) → writeCall h cs os out .answer .refusal ≡ 0 → length h ≡ 7
-unfolding writeCall
-seven h cs os out z = go (not (eqb (length h) 7) || leftOver kindC cs || leftOver kindO os) refl z
-  where
-    go : (t : Bool) → not (eqb (length h) 7) || leftOver kindC cs || leftOver kindO os ≡ t
-        → (pick t (writeRefused 2 0 out) (writeJudged (groupsJudged h cs os) out)) .answer .refusal ≡ 0 → length h ≡ 7
-    go true q z = absurd (omega (arith, z))
-    go false q z = whole-of h cs os q .seven
-
 -- For any bytes and any lent arrays, one buffer that serves several calls in turn among them.
 pub demand-2 : Demand2
 demand-2 =
@@ -159,20 +208,15 @@ demand-2 =
       read-written = λ b out z l.
           let e = read-write-calls b out z l in
           (ap (λ (w : WriteEnd). w .answer .refusal) e, ap (λ (w : WriteEnd). w .answer .bytes) e, ap (λ (w : WriteEnd). take (length b) (w .out)) e ∙ take-append-seam b (drop (length b) out));
-      written-read = λ h cs os out z.
-          let e = write-read-calls h cs os out z in (
-            ap (λ (r : SheetRead). r .refusal) e,
-            ap (λ (r : SheetRead). r .lines) e,
-            ap (λ (r : SheetRead). r .head) e ∙ filled-full 7 h (seven h cs os out z),
-            ap (λ (r : SheetRead). r .corridors) e,
-            ap (λ (r : SheetRead). r .occupancies) e,
-          );
+      written-read = λ g out z. (ap (λ (r : SheetRead). r .refusal) (write-read-calls g out z), write-read-groups g out z);
     }
   where
-    fronts : (b table list : List ℕ) → frontCall b table list .answer .refusal ≡ 0 → (s : Sheet) × (readOf b ≡ loaded s) × ListsFront s (frontCall b table list)
+    fronts : (b table list : List ℕ) → frontCall b table list .answer .refusal ≡ 0
+        → (s : Sheet) × (readOf b ≡ loaded s) × ListsFront s (frontCall b table list) × ListsLeading s (frontCall b table list)
     fronts b table list z =
         let v = served b table list z in
-        (v .fits .sheet, v .fits .reads, subst (ListsFront (v .fits .sheet)) (sym (v .end)) (lists-front (v .fits .sheet) table list))
+        let s = v .fits .sheet in
+        (s, v .fits .reads, subst (ListsFront s) (sym (v .end)) (lists-front s table list), subst (ListsLeading s) (sym (v .end)) (lists-leading s table list (v .fits .arrivals-fit)))
 
     each : (b table list table′ path : List ℕ) (i : ℕ) (s : Sheet) → readOf b ≡ loaded s → frontCall b table list .answer .refusal ≡ 0
         → i < frontCall b table list .answer .costs → journeyCall b i table′ path .answer .refusal ≡ 0 → Agree s i (frontCall b table list) (journeyCall b i table′ path)

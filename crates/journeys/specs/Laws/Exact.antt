@@ -2,7 +2,6 @@
 -- becomes it by waiting. Were the leading arrival lower, the front cost would be dominated. What lies ahead is read forwards from any place and
 -- step, over any relation of steps and any end.
 use mathlib.Core.Path.{_≡_, refl, sym, _∙_, ap, subst}
-use mathlib.Core.Logic.{_↔_}
 use mathlib.Core.List.{List, [], _∷_}
 use Prim.Native.Nat.{ℕ, suc, _+_, _-_, _≤_}
 use native.Mathlib.Omega.{arith}
@@ -59,9 +58,6 @@ pub record Towards (s : Sheet) (f : Cost) (A v t : ℕ) (g : Cost) : Type 0 wher
 pub ahead-counts : (s : Sheet) (v t : ℕ) (p : List ℕ) (g : Cost) → Ahead (Goes s) (Home s) v t p g → Counts s (length p + t)
 ahead-counts s v t [] g a = let e : t ≡ 0 + t = omega arith in subst (Counts s) e (a .ends .counts)
 ahead-counts s v t (x ∷ p) g a = let e : length p + suc t ≡ suc (length p) + t = omega arith in subst (Counts s) e (ahead-counts s x (suc t) p (a .after) (a .rest))
-
-pub towards-in-time : {s : Sheet} {f : Cost} {A v t : ℕ} {g : Cost} → Towards s f A v t g → t ≤ steps s
-towards-in-time {s} {f} {A} {v} {t} {g} k = omega (arith, counts-within s (length (k .places) + t) (ahead-counts s v t (k .places) (k .price) (k .rest)))
 
 pub towards-back : (s : Sheet) (f : Cost) (A u v t : ℕ) (h c : Cost) → Towards s f A v (suc t) (add h c) → Goes s u v t c → Towards s f A u t h
 towards-back s f A u v t h c k m =
@@ -121,9 +117,3 @@ arrives-exact s f A u t h o k a = go (led s (arrival u t h) a)
           run = c .run;
           sum = at-most-antisym w h (arrives-three s (arrival u t w) b ∙ sym (arrives-three s (arrival u t h) a)) (c .no-dearer) (record { every = λ i. omega (arith, fig-add w z i, fig-add h z i, ap (λ (y : Cost). fig y i) (k .sum), ap (λ (y : Cost). fig y i) q) });
         }
-
--- the predecessors of v at step t + 1, exactly: those with a leading arrival from which waiting gives the cost
-pub exact-back : (s : Sheet) (f : Cost) (A u v t : ℕ) (h c : Cost) → OnFront s f → Towards s f A v (suc t) (add h c) → Goes s u v t c → Arrives s (arrival u t h) ↔ Exact s u t h
-exact-back s f A u v t h c o k m =
-    let b = towards-back s f A u v t h c k m in
-    (arrives-exact s f A u t h o b, exact-arrives s u t h (towards-in-time b))

@@ -7,8 +7,8 @@ use mathlib.Core.Bool.{Bool, true, false, not, true≢false}
 use mathlib.Core.List.{List, [], _∷_}
 use lib.ListN.{length}
 use borrow.Author.Tests.{not-true}
-use Rattle.sheet.specs.Lists.{_∈_, Ascending}
-use Rattle.sheet.specs.Sorting.{sortUnique}
+use Rattle.sheet.specs.Lists.{_∈_}
+use Rattle.sheet.specs.Sorting.{Ascending, sortUnique}
 use Rattle.sheet.specs.Sheet.{Sheet}
 use Rattle.sheet.specs.Laws.Members.{filter-mem, mem-filter, all-true, true-all, least-below, Least}
 use Rattle.sheet.specs.Laws.Ascending.{sortUnique-mem, mem-sortUnique, sortUnique-ascending, filter-ascending, ascending-unique}

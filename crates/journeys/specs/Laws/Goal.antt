@@ -2,14 +2,14 @@
 -- one of them, and the front is what none of their costs dominates. An arrival at the goal with a front cost is led by one of the same cost, since a
 -- lower cost would dominate.
 use mathlib.Core.Path.{_≡_, refl, sym, _∙_, ap, subst}
-use mathlib.Core.Logic.{_⊎_, inl, inr, _≢_}
-use mathlib.Core.Bool.{Bool, true, false, _&&_}
+use mathlib.Core.Logic.{_⊎_, inl, inr}
+use mathlib.Core.Bool.{Bool, _&&_}
 use mathlib.Core.List.{List, map}
-use Prim.Native.Nat.{ℕ, _-_, _≤_, _<_}
+use Prim.Native.Nat.{ℕ, _-_, _≤_}
 use native.Mathlib.Omega.{arith}
 use lib.ListN.{length}
 use lib.Dec.{eqb}
-use borrow.Author.Tests.{eqb-true, eq-eqb, eqb-false}
+use borrow.Author.Tests.{eqb-true, eq-eqb}
 use Rattle.sheet.specs.Lists.{_∈_, filter, Lex}
 use Rattle.sheet.specs.Sheet.{Sheet, goal}
 use Rattle.sheet.specs.Laws.Order.{and-true, true-and}
@@ -54,17 +54,6 @@ front-leading s t g o a = go (led s (arrival (goal s) t g) (a .arrives))
         let l : AtMost (e .cost) g = record { every = λ i. omega (arith, x .no-dearer .every i, fig-waited s (goal s) (t - e .step) (e .cost) i) } in
         let q : e .cost ≡ g = undominated-same (e .cost) g (has-three s (e .cost) h ∙ sym (has-three s g (o .has))) l (o .undominated (e .cost) h) in
         (e .step, x .no-later, subst (Leading s) (arrival-path e (arrival (goal s) (e .step) g) (x .same-place) refl q) (k .is), c)
-
--- the earliest arrival with a front cost is a leading one
-pub earliest-leading : (s : Sheet) (t : ℕ) (g : Cost) → OnFront s g → AtGoal s t g → ((t′ : ℕ) → t′ < t → Leading s (arrival (goal s) t′ g) → Counts s t′ → ⊥) → Leading s (arrival (goal s) t g)
-earliest-leading s t g o a n = go (front-leading s t g o a)
-  where
-    go : (t′ : ℕ) × (t′ ≤ t) × Leading s (arrival (goal s) t′ g) × Counts s t′ → Leading s (arrival (goal s) t g)
-    go k = pick (eqb (k .0) t) refl
-      where
-        pick : (b : Bool) → eqb (k .0) t ≡ b → Leading s (arrival (goal s) t g)
-        pick true e = subst (λ (x : ℕ). Leading s (arrival (goal s) x g)) (eqb-true (k .0) t e) (k .2)
-        pick false e = let d : k .0 ≢ t = eqb-false (k .0) t e in absurd (n (k .0) (omega (arith, k .1)) (k .2) (k .3))
 
 abbrev pub standsAtGoal : Sheet → Arrival → Bool
 standsAtGoal s a = let c = countsb s (a .step) in eqb (a .place) (goal s) && c

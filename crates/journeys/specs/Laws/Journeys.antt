@@ -9,8 +9,8 @@ use native.Mathlib.Omega.{arith}
 use lib.ListN.{length}
 use lib.Dec.{eqb, leb}
 use borrow.Author.Tests.{eqb-true, eq-eqb, leb-true, leb-false}
-use Rattle.sheet.specs.Lists.{_∈_, filter, Lex, Ascending}
-use Rattle.sheet.specs.Sorting.{sortUnique}
+use Rattle.sheet.specs.Lists.{_∈_, filter, Lex}
+use Rattle.sheet.specs.Sorting.{Ascending, sortUnique}
 use Rattle.sheet.specs.Sheet.{Sheet, steps, goal}
 use Rattle.sheet.specs.Valid.{Valid}
 use Rattle.sheet.specs.Laws.Order.{and-true, true-and, Lex-irrefl, Lex-trans}

@@ -1,167 +1,177 @@
--- The lines of a front cost: what its row of the front list says, the walk back from its arrival, and the two lines that are written of both.
+-- The lines of a front cost: what its row of the front list says, the path laid from its arrival, and the two lines that are written of both; then the
+-- lines of all rows, one after another.
 use mathlib.Core.Path.{_≡_, refl, sym, _∙_, ap, ap₂, subst}
+use mathlib.Core.Logic.{inl, inr}
 use mathlib.Core.List.{List, [], _∷_}
-use Prim.Native.Nat.{ℕ, suc, _+_, _*_, _-_, _≤_, _<_, _%_}
+use Prim.Native.Nat.{ℕ, zero, suc, _+_, _*_, _-_, _≤_, _<_}
 use native.Mathlib.Omega.{arith}
-use lib.ListN.{length, getD, take, drop, length-append, List·getD-append}
-use lib.Seq.{sets, sets-eq, length-sets, take-at, getD-append-seam}
-use Rattle.sheet.specs.Lists.{number, numbersFrom, bind}
+use native.Mathlib.Nat.{suc-mul}
+use lib.ListN.{length, getD, take, drop, replicate, length-append, List·getD-append}
+use lib.Seq.{take-at, drop-append-add, getD-append-seam, length-take-le}
+use Rattle.sheet.specs.Lists.{_∈_, number, bind, filled}
 use Rattle.sheet.specs.Sheet.{Sheet}
-use Rattle.sheet.specs.Calls.{sheetOfGroups}
-use Rattle.sheet.specs.declared.SheetRead.{SheetRead}
+use Rattle.sheet.specs.Store.{sheetIn}
+use Rattle.sheet.specs.Text.{printed}
+use Rattle.sheet.specs.Laws.Decided.{from-of}
+use Rattle.sheet.specs.Laws.Puts.{Puts, puts-as, puts-append, puts-length, puts-none, puts-more, puts-all, puts-fits}
+use Rattle.sheet.specs.Laws.Stores.{length-filled}
+use Rattle.sheet.specs.Laws.Store.{store-valid}
 use Rattle.costs.specs.Costs.{Cost, figures}
-use Rattle.intervals.specs.Inner.{SinceTable}
-use Rattle.arrivals.specs.Inner.Facts.{from-of}
+use Rattle.journeys.specs.Front.{OnFront}
 use Rattle.journeys.specs.Computed.{journeyOf, arrivalOf, front}
 use Rattle.journeys.specs.Calls.{frontRow}
-use Rattle.journeys.specs.Inner.{Walks, Walkable, WalkIs, Layable}
+use Rattle.journeys.specs.Held.{Layable}
 use Rattle.journeys.specs.Laws.Journeys.{has-three, journey-length, journey-short}
 use Rattle.journeys.specs.Laws.Front.{front-on}
-use Rattle.journeys.specs.Laws.Served.{member}
-use Rattle.journeys.specs.Laws.Ready.{GroupsOf, groups-of, sheetOfRead, groups-sheet}
-use Rattle.journeys.specs.Laws.Laid.{walks-of}
-use Rattle.page.specs.Page.{printed, journeyLines, offerLines}
-use Rattle.page.specs.Inner.{Puts, RowOf, Printable, PrintIs, Offered, Offers, OffersPrinted}
-use Rattle.page.specs.Laws.Puts.{puts-append, puts-length, puts-more, puts-all, puts-fits}
+use Rattle.journeys.specs.Laws.Served.{member, list-length}
+use Rattle.page.specs.Page.{mostPrinted, journeyLines, offerLines}
+use Rattle.page.specs.Inner.{costIn, Printable, Offered}
 
--- the row of a front cost
-module _ (head corridors : List ℕ) (n : ℕ) (table since row : List ℕ) (s : Sheet) (f : Cost) (q : RowOf head corridors n table since row s f) where
+-- the numbers of the row of a front cost
+module _ (s : Sheet) (f : Cost) (o : OnFront s f) where
   three : length f ≡ figures
-  three = has-three s f (q .walks .on-front .has)
+  three = has-three s f (o .has)
 
-  pub row-length : length row ≡ 4
-  row-length = ap length (q .row-is) ∙ length-append f (arrivalOf s f ∷ []) ∙ (let e : length f + 1 ≡ 4 = omega (arith, three) in e)
+  pub row-length : length (frontRow s f) ≡ 4
+  row-length = length-append f (arrivalOf s f ∷ []) ∙ (let e : length f + 1 ≡ 4 = omega (arith, three) in e)
 
-  pub row-arrival : number row 3 ≡ arrivalOf s f
-  row-arrival = ap (λ (l : List ℕ). number l 3) (q .row-is) ∙ subst (λ (k : ℕ). number (frontRow s f) k ≡ arrivalOf s f) three (getD-append-seam f (arrivalOf s f) [] 0)
+  pub row-arrival : number (frontRow s f) 3 ≡ arrivalOf s f
+  row-arrival = subst (λ (k : ℕ). number (frontRow s f) k ≡ arrivalOf s f) three (getD-append-seam f (arrivalOf s f) [] 0)
 
-  pub row-cost : numbersFrom figures 0 row ≡ f
+  pub row-cost : costIn (frontRow s f) ≡ f
   row-cost =
-      from-of figures 0 row f three
+      from-of figures 0 (frontRow s f) f three
       (λ j h.
       let z : 0 + j ≡ j = omega arith in
-      ap₂ (λ (l : List ℕ) (k : ℕ). number l k) (q .row-is) z ∙ List·getD-append f (arrivalOf s f ∷ []) 0 j (omega (arith, h, three)))
+      ap (number (frontRow s f)) z ∙ List·getD-append f (arrivalOf s f ∷ []) 0 j (omega (arith, h, three)))
 
-  pub arrival-short : suc (arrivalOf s f) ≤ 256
-  arrival-short =
-      omega (arith, journey-length s f (q .walks .on-front .has), journey-short s f (q .walks .valid) (q .walks .on-front .has))
+-- the two lines of a row
+module _ {lines all since table : List ℕ} {n : ℕ} {row out : List ℕ} {at : ℕ} (p : Printable lines all since table n row out at) where
+  abbrev sheet : Sheet
+  sheet = sheetIn lines all
 
-  -- the walk back from what the row says, as the code reads it
-  pub row-walks : (A : ℕ) (g : Cost) → A ≡ number row 3 → g ≡ numbersFrom figures 0 row → Walks head corridors n table since A g s
-  row-walks A g a e =
-      subst (λ (k : ℕ). Walks head corridors n table since k g s) (sym (a ∙ row-arrival))
-      (subst (λ (h : Cost). Walks head corridors n table since (arrivalOf s f) h s) (sym (e ∙ row-cost)) (q .walks))
+  abbrev path-of : List ℕ
+  path-of = journeyOf sheet (costIn row)
 
-  module _ (A : ℕ) (g : Cost) (a : A ≡ number row 3) (e : g ≡ numbersFrom figures 0 row) (path path′ : List ℕ) (z : length path ≡ 256)
-      (w : WalkIs head corridors n table since A g path path′) where
-    long : length (journeyOf s f) ≡ A + 1
-    long = omega (arith, journey-length s f (q .walks .on-front .has), a, row-arrival)
-
-    walked : path′ ≡ sets path 0 (journeyOf s f)
-    walked = w .of s (row-walks A g a e) ∙ ap (λ (h : Cost). sets path 0 (journeyOf s h)) (e ∙ row-cost)
-
-    pub path-length : length path′ ≡ 256
-    path-length = ap length walked ∙ length-sets path 0 (journeyOf s f) ∙ z
-
-    pub path-is : take (A + 1) path′ ≡ journeyOf s f
-    path-is =
-        let j = journeyOf s f in
-        let l : 0 + length j ≤ length path = omega (arith, long, a, row-arrival, arrival-short, z) in
-        ap (take (A + 1)) (walked ∙ sets-eq j path 0 l) ∙ take-at j (drop (0 + length j) path) (A + 1) long
-
-    pub row-prints : {out out₁ out₂ : List ℕ} {at m r : ℕ} → Puts (printed 74 row) out at out₁ m → Puts (printed 80 (take (A + 1) path′)) out₁ m out₂ r
-        → Puts (journeyLines s f) out at out₂ r
-    unfolding journeyLines
-    row-prints {out} {out₁} {out₂} {at} {m} {r} h k =
-        puts-append (subst (λ (l : List ℕ). Puts (printed 74 l) out at out₁ m) (q .row-is) h) (subst (λ (l : List ℕ). Puts (printed 80 l) out₁ m out₂ r) path-is k)
-
--- the two lines of a row that can be printed
-module _ {head corridors : List ℕ} {n : ℕ} {table since row out : List ℕ} {at : ℕ} (p : Printable head corridors n table since row out at) where
   pub printable-row : length row ≡ 4
-  printable-row = row-length head corridors n table since row (p .sheet) (p .cost) (p .row-of)
+  printable-row = ap length (p .row-is) ∙ row-length sheet (costIn row) (p .on-front)
+
+  arrives : number row 3 ≡ arrivalOf sheet (costIn row)
+  arrives = ap (λ (l : List ℕ). number l 3) (p .row-is) ∙ row-arrival sheet (costIn row) (p .on-front)
+
+  long : length path-of ≡ number row 3 + 1
+  long = omega (arith, journey-length sheet (costIn row) (p .on-front .has), arrives)
 
   pub printable-short : number row 3 + 1 ≤ 256
-  printable-short =
-      omega (arith, row-arrival head corridors n table since row (p .sheet) (p .cost) (p .row-of), arrival-short head corridors n table since row (p .sheet) (p .cost) (p .row-of))
+  printable-short = omega (arith, long, journey-short sheet (costIn row) (store-valid (p .derived .store)) (p .on-front .has))
 
-  pub printable-walks : (g : Cost) → g ≡ numbersFrom figures 0 row → (path : List ℕ) → length path ≡ 256 → Walkable head corridors n table since (number row 3) g path
-  printable-walks g e path z =
-      record { sheet = p .sheet; walks = row-walks head corridors n table since row (p .sheet) (p .cost) (p .row-of) (number row 3) g refl e; room = omega (arith, printable-short, z) }
+  pub printable-lays : (g : Cost) → g ≡ costIn row → (path : List ℕ) → length path ≡ 256 → Layable lines all since n table (number row 3) g path
+  printable-lays g e path z =
+      subst (λ (h : Cost). Layable lines all since n table (number row 3) h path) (sym e)
+      (record { derived = p .derived; holds = p .holds; on-front = p .on-front; arrives-at = arrives; room = omega (arith, printable-short, z) })
 
-  both : length (journeyLines (p .sheet) (p .cost)) ≡ length (printed 74 row) + length (printed 80 (journeyOf (p .sheet) (p .cost)))
+  both : length (journeyLines sheet (costIn row)) ≡ length (printed mostPrinted 74 row) + length (printed mostPrinted 80 path-of)
   unfolding journeyLines
   both =
-      length-append (printed 74 (frontRow (p .sheet) (p .cost))) (printed 80 (journeyOf (p .sheet) (p .cost)))
-      ∙ ap (λ (l : List ℕ). length (printed 74 l) + length (printed 80 (journeyOf (p .sheet) (p .cost)))) (sym (p .row-of .row-is))
+      length-append (printed mostPrinted 74 (frontRow sheet (costIn row))) (printed mostPrinted 80 path-of)
+      ∙ ap (λ (l : List ℕ). length (printed mostPrinted 74 l) + length (printed mostPrinted 80 path-of)) (sym (p .row-is))
 
-  pub first-fits : at + length (printed 74 row) ≤ length out
-  first-fits = omega (arith, both, p .room)
+  pub first-fits : (length row ≤ 256) × (at + length (printed mostPrinted 74 row) ≤ length out)
+  first-fits = (omega (arith, printable-row), omega (arith, both, p .room))
 
-  module _ (g : Cost) (e : g ≡ numbersFrom figures 0 row) (path path′ : List ℕ) (z : length path ≡ 256) (w : WalkIs head corridors n table since (number row 3) g path path′) where
+  -- with the path laid
+  module _ (g : Cost) (e : g ≡ costIn row) (path′ : List ℕ) (w : path′ ≡ filled 256 (journeyOf sheet g)) where
+    laid : path′ ≡ filled 256 path-of
+    laid = w ∙ ap (λ (h : Cost). filled 256 (journeyOf sheet h)) e
+
     pub printable-path : length path′ ≡ 256
-    printable-path = path-length head corridors n table since row (p .sheet) (p .cost) (p .row-of) (number row 3) g refl e path path′ z w
+    printable-path = ap length laid ∙ length-filled 256 path-of (omega (arith, long, printable-short))
 
-    pub second-fits : {out₁ : List ℕ} {m : ℕ} → Puts (printed 74 row) out at out₁ m → m + length (printed 80 (take (number row 3 + 1) path′)) ≤ length out₁
-    second-fits h =
-        let k = ap (λ (l : List ℕ). length (printed 80 l)) (path-is head corridors n table since row (p .sheet) (p .cost) (p .row-of) (number row 3) g refl e path path′ z w) in
-        omega (arith, both, p .room, h .next-is, puts-length h, k)
+    path-is : take (number row 3 + 1) path′ ≡ path-of
+    path-is = ap (take (number row 3 + 1)) laid ∙ take-at path-of (replicate (256 - length path-of) 0) (number row 3 + 1) long
 
-    pub prints : {out₁ out₂ : List ℕ} {m r : ℕ} → Puts (printed 74 row) out at out₁ m → Puts (printed 80 (take (number row 3 + 1) path′)) out₁ m out₂ r
-        → PrintIs head corridors n table since row out at out₂ r
-    prints h k = record { of = λ s f q. row-prints head corridors n table since row s f q (number row 3) g refl e path path′ z w h k }
+    pub second-fits : {out₁ : List ℕ} {m : ℕ} → Puts (printed mostPrinted 74 row) out at out₁ m
+        → (length (take (number row 3 + 1) path′) ≤ 256) × (m + length (printed mostPrinted 80 (take (number row 3 + 1) path′)) ≤ length out₁)
+    second-fits h = (
+      omega (arith, length-take-le (number row 3 + 1) path′ (omega (arith, printable-short, printable-path)), printable-short),
+      omega (arith, both, p .room, h .next-is, puts-length h, ap (λ (l : List ℕ). length (printed mostPrinted 80 l)) path-is),
+    )
 
--- the rows of the front list of the sheet of three groups
-module _ (head corridors occupancies table : List ℕ) (n : ℕ) (list : List ℕ) (costs : ℕ) (out : List ℕ) (at : ℕ) (whole : length corridors % 5 ≡ 0)
-    (o : Offered (sheetOfGroups head corridors occupancies) table n list costs out at) (since : List ℕ) (t : SinceTable occupancies since) (i : ℕ) (h : i < costs) where
-  abbrev sheet : Sheet
-  sheet = sheetOfGroups head corridors occupancies
+    pub prints : {out₁ out₂ : List ℕ} {m r : ℕ} → Puts (printed mostPrinted 74 row) out at out₁ m → Puts (printed mostPrinted 80 (take (number row 3 + 1) path′)) out₁ m out₂ r
+        → Puts (journeyLines sheet (costIn row)) out at out₂ r
+    unfolding journeyLines
+    prints h k = puts-append (puts-as (ap (printed mostPrinted 74) (p .row-is)) h) (puts-as (ap (printed mostPrinted 80) path-is) k)
 
-  abbrev cost : Cost
-  cost = getD (front sheet) i []
+-- the lines of the rows below position i of the front list are written
+pub record Through (s : Sheet) (i : ℕ) (out : List ℕ) (at : ℕ) (out′ : List ℕ) (next : ℕ) : Type 0 where
+  pub count : ℕ
+  pub at-row : i ≡ count * 4
+  pub few : count ≤ length (front s)
+  pub puts : Puts (bind (take count (front s)) (journeyLines s)) out at out′ next
 
-  lays : Layable sheet n table (arrivalOf sheet cost) cost (journeyOf sheet cost)
-  lays =
-      let f = front-on sheet cost (member (front sheet) i (omega (arith, h, o .counted))) in
-      record { valid = o .valid; holds = o .holds; on-front = f; arrives-at = refl; room = omega (arith, journey-length sheet cost (f .has)) }
+pub through-none : (s : Sheet) (out : List ℕ) (at : ℕ) → Through s 0 out at out at
+through-none s out at = record { count = 0; at-row = omega arith; few = omega arith; puts = puts-none out at }
 
-  pub listed-row : (row : List ℕ) → row ≡ take 4 (drop (i * 4) list) → RowOf head corridors n table since row sheet (getD (front sheet) i [])
-  listed-row row e =
-      record {
-        walks = walks-of head corridors occupancies n table (arrivalOf sheet cost) cost (journeyOf sheet cost) whole lays since t;
-        row-is = e ∙ o .listed i h;
-      }
+-- row i of rows of w numbers that stand one after another
+row-at : (w : ℕ) (row : Cost → List ℕ) (l : List Cost) → ((g : Cost) → g ∈ l → length (row g) ≡ w) → (i : ℕ) → i < length l → take w (drop (i * w) (bind l row)) ≡ row (getD l i [])
+row-at w row [] h i k = absurd (omega arith)
+row-at w row (x ∷ l) h zero k = let z : 0 * w ≡ 0 = omega arith in rw z (take-at (row x) (bind l row) w (h x (inl refl)))
+row-at w row (x ∷ l) h (suc i) k =
+    let z : suc i * w ≡ length (row x) + i * w = omega (arith, suc-mul i w, h x (inl refl)) in
+    rw (z, drop-append-add (row x) (bind l row) (i * w)) (row-at w row l (λ g m. h g (inr m)) i (omega arith))
 
-  -- one row more: it can be printed, and is
-  module _ (row : List ℕ) (e : row ≡ take 4 (drop (i * 4) list)) {out₁ : List ℕ} {m : ℕ} (p : Puts (bind (take i (front sheet)) (journeyLines sheet)) out at out₁ m) where
-    counted : i < length (front sheet)
-    counted = omega (arith, h, o .counted)
+module _ {lines all since table : List ℕ} {n : ℕ} {list out : List ℕ} {at : ℕ} (o : Offered lines all since table n list out at) {out₁ : List ℕ} {i m : ℕ}
+    (t : Through (sheetIn lines all) i out at out₁ m) where
+  abbrev offered : Sheet
+  offered = sheetIn lines all
 
-    pub next-printable : Printable head corridors n table since row out₁ m
-    unfolding offerLines
-    next-printable =
-        record {
-          sheet = sheet;
-          cost = cost;
-          row-of = listed-row row e;
-          room = omega (arith, puts-fits (journeyLines sheet) [] (front sheet) i counted p, puts-length p, o .room);
-        }
+  listed-length : length list ≡ length (front offered) * 4
+  listed-length = ap length (o .listed) ∙ list-length offered
 
-    pub next-printed : {out₂ : List ℕ} {r : ℕ} → PrintIs head corridors n table since row out₁ m out₂ r → Puts (bind (take (i + 1) (front sheet)) (journeyLines sheet)) out at out₂ r
-    next-printed w = puts-more (journeyLines sheet) [] (front sheet) i counted p (w .of sheet cost (listed-row row e))
+  module _ (h : i < length list) where
+    below : t .count < length (front offered)
+    below = omega (arith, h, t .at-row, listed-length)
 
-pub all-printed : {s : Sheet} {table : List ℕ} {n : ℕ} {list : List ℕ} {costs : ℕ} {out : List ℕ} {at : ℕ} (o : Offered s table n list costs out at) (i : ℕ) → costs ≤ i → {out′ : List ℕ} {m : ℕ}
-    → Puts (bind (take i (front s)) (journeyLines s)) out at out′ m → Puts (offerLines s) out at out′ m
-unfolding offerLines
-all-printed {s} o i h p = puts-all (journeyLines s) [] (front s) i (omega (arith, h, o .counted)) p
+    pub row-inside : i + 4 ≤ length list
+    row-inside = omega (arith, below, t .at-row, listed-length)
 
--- the sheet that was read, off its groups
-module _ {r : SheetRead} {table : List ℕ} {n : ℕ} {list : List ℕ} {costs : ℕ} {out : List ℕ} {at : ℕ} (o : Offers r table n list costs out at) where
-  pub offers-groups : GroupsOf (o .sheet) r
-  offers-groups = groups-of (o .sheet) r (o .offered .valid) (o .read-sheet)
+    abbrev cost : Cost
+    cost = getD (front offered) (t .count) []
 
-  pub offers-offered : Offered (sheetOfRead r) table n list costs out at
-  offers-offered = subst (λ (s : Sheet). Offered s table n list costs out at) (sym (groups-sheet (o .sheet) r offers-groups)) (o .offered)
+    on : OnFront offered cost
+    on = front-on offered cost (member (front offered) (t .count) below)
 
-pub offers-printed : (r : SheetRead) {out out′ : List ℕ} {at m : ℕ} → Puts (offerLines (sheetOfRead r)) out at out′ m → OffersPrinted r out at out′ m
-offers-printed r {out} {out′} {at} {m} p =
-    record { of = λ s v e. subst (λ (k : Sheet). Puts (offerLines k) out at out′ m) (groups-sheet s r (groups-of s r v e)) p }
+    module _ (row : List ℕ) (e : row ≡ take 4 (drop i list)) where
+      row-of : row ≡ frontRow offered cost
+      row-of =
+          e
+          ∙ ap₂ (λ (k : ℕ) (l : List ℕ). take 4 (drop k l)) (t .at-row) (o .listed)
+          ∙ row-at 4 (frontRow offered) (front offered) (λ g m. row-length offered g (front-on offered g m)) (t .count) below
+
+      cost-of : costIn row ≡ cost
+      cost-of = ap costIn row-of ∙ row-cost offered cost on
+
+      pub next-printable : Printable lines all since table n row out₁ m
+      unfolding offerLines
+      next-printable =
+          record {
+            derived = o .derived;
+            holds = o .holds;
+            on-front = subst (OnFront offered) (sym cost-of) on;
+            row-is = row-of ∙ ap (frontRow offered) (sym cost-of);
+            room =
+                omega (arith, puts-fits (journeyLines offered) [] (front offered) (t .count) below (t .puts), puts-length (t .puts), o .room, ap (λ (g : Cost). length (journeyLines offered g)) cost-of);
+          }
+
+      pub next-through : {out₂ : List ℕ} {r : ℕ} → Puts (journeyLines offered (costIn row)) out₁ m out₂ r → Through offered (i + 4) out at out₂ r
+      next-through w =
+          record {
+            count = t .count + 1;
+            at-row = omega (arith, t .at-row);
+            few = omega (arith, below);
+            puts = puts-more (journeyLines offered) [] (front offered) (t .count) below (t .puts) (puts-as (ap (journeyLines offered) cost-of) w);
+          }
+
+  pub all-through : length list ≤ i → Puts (offerLines offered) out at out₁ m
+  unfolding offerLines
+  all-through h = puts-all (journeyLines offered) [] (front offered) (t .count) (omega (arith, h, t .at-row, listed-length)) (t .puts)

@@ -10,14 +10,16 @@ use lib.ListN.{length, getD, take, replicate, length-append, length-replicate}
 use lib.Seq.{take-at}
 use borrow.Author.Tests.{ne-eqb, lt-ltb, le-ltb, lt-leb}
 use Rattle.sheet.specs.Lists.{pick, bind}
-use Rattle.sheet.specs.Sheet.{Sheet, Outcome, refused, loaded, mostBytes, readOf}
+use Rattle.sheet.specs.Sheet.{Sheet, Outcome, refused, loaded, told, mostBytes, readOf}
 use Rattle.sheet.specs.Valid.{Valid}
+use Rattle.sheet.specs.Text.{printed}
 use Rattle.sheet.specs.Laws.RoundTrip.{read-refused, read-valid}
 use Rattle.costs.specs.Costs.{Cost}
+use Rattle.arrivals.specs.Table.{crowded}
 use Rattle.journeys.specs.Journeys.{HasCost}
 use Rattle.journeys.specs.Computed.{journeyOf, arrivalOf, front}
-use Rattle.journeys.specs.Calls.{noRoom, cleared, frontRow, overfull, FrontEnd, frontRefused, frontServed, frontOn, frontRead, frontCall, JourneyEnd, tooShort, journeyServed, journeyOn, journeyRead, journeyCall}
-use Rattle.page.specs.Page.{printed, refusalLine, frontLine, journeyLines, offerLines, tableNumbers, listNumbers, pageOn, pageRead, page}
+use Rattle.journeys.specs.Calls.{cleared, frontRow, overfull, FrontEnd, frontRefused, frontServed, frontOn, frontCall, JourneyEnd, journeyRefused, tooShort, journeyServed, journeyOn, journeyCall}
+use Rattle.page.specs.Page.{mostPrinted, refusalLine, frontLine, journeyLines, offerLines, tableNumbers, listNumbers, pageOn, page}
 use Rattle.journeys.specs.Laws.Journeys.{journey-length, journey-short}
 use Rattle.journeys.specs.Laws.Front.{front-on}
 use Rattle.journeys.specs.Laws.Served.{member}
@@ -36,10 +38,10 @@ journeyProgram b i = journeyCall b i (replicate tableNumbers 0) (replicate 256 0
 
 -- what is printed of a call of the front, and of a call of a journey
 abbrev pub frontPrinted : FrontEnd → List ℕ
-frontPrinted e = printed 70 (e .answer .costs ∷ e .answer .arrivals ∷ [])
+frontPrinted e = printed mostPrinted 70 (e .answer .costs ∷ e .answer .arrivals ∷ [])
 
 abbrev pub journeyPrinted : JourneyEnd → List ℕ
-journeyPrinted e = printed 74 (e .answer .cost ++ (e .answer .arrival ∷ [])) ++ printed 80 (take (suc (e .answer .arrival)) (e .path))
+journeyPrinted e = printed mostPrinted 74 (e .answer .cost ++ (e .answer .arrival ∷ [])) ++ printed mostPrinted 80 (take (suc (e .answer .arrival)) (e .path))
 
 abbrev pub pagePrinted : FrontEnd → (ℕ → JourneyEnd) → List ℕ
 pagePrinted e j =
@@ -58,14 +60,14 @@ by-number (x ∷ l) i f g h =
 served-lines : (s : Sheet) (g : Cost) (table path : List ℕ) → HasCost s g → journeyLines s g ≡ journeyPrinted (journeyServed s g table path)
 unfolding journeyLines journeyServed
 served-lines s g table path h =
-    ap (λ (p : List ℕ). printed 74 (frontRow s g) ++ printed 80 p) (sym (take-at (journeyOf s g) (replicate (length path - length (journeyOf s g)) 0) (suc (arrivalOf s g)) (journey-length s g h)))
+    ap (λ (p : List ℕ). printed mostPrinted 74 (frontRow s g) ++ printed mostPrinted 80 p) (sym (take-at (journeyOf s g) (replicate (length path - length (journeyOf s g)) 0) (suc (arrivalOf s g)) (journey-length s g h)))
 
-journey-served : (s : Sheet) (i : ℕ) (table path : List ℕ) → noRoom s (length table) ≡ false → i < length (front s) → length (journeyOf s (getD (front s) i [])) ≤ length path
+journey-served : (s : Sheet) (i : ℕ) (table path : List ℕ) → crowded s (length table) ≡ false → i < length (front s) → length (journeyOf s (getD (front s) i [])) ≤ length path
     → journeyOn s i table path ≡ journeyServed s (getD (front s) i []) table path
 unfolding journeyOn tooShort
 journey-served s i table path c h l = rw (c, lt-leb (length (front s)) i h, le-ltb (length path) (length (journeyOf s (getD (front s) i []))) l)
 
-on-served : (s : Sheet) (table list path : List ℕ) → Valid s → noRoom s (length table) ≡ false → length path ≡ 256
+on-served : (s : Sheet) (table list path : List ℕ) → Valid s → crowded s (length table) ≡ false → length path ≡ 256
     → frontLine s ++ offerLines s
     ≡ frontPrinted (frontServed s table list) ++ bind (numbers 0 (length (front s))) (λ i. journeyPrinted (journeyOn s i table path))
 unfolding frontLine offerLines frontServed
@@ -82,22 +84,22 @@ on-served s table list path v c k = ap (λ (p : List ℕ). frontLine s ++ p) (by
 page-on : (s : Sheet) (table list path : List ℕ) → Valid s → length table ≡ tableNumbers → length list ≡ listNumbers → length path ≡ 256
     → pageOn s ≡ pagePrinted (frontOn s table list) (λ i. journeyOn s i table path)
 unfolding pageOn frontOn
-page-on s table list path v a b k = go (noRoom s (length table)) (overfull s (length list)) refl refl
+page-on s table list path v a b k = go (crowded s (length table)) (overfull s (length list)) refl refl
   where
-    shown : (t u : Bool) → noRoom s (length table) ≡ t
+    shown : (t u : Bool) → crowded s (length table) ≡ t
         → pick t (refusalLine 8 0) (pick u (refusalLine 9 0) (frontLine s ++ offerLines s))
-        ≡ pagePrinted (pick t (frontRefused 8 0 (cleared table) list) (pick u (frontRefused 9 0 (cleared table) list) (frontServed s table list))) (λ i. journeyOn s i table path)
+        ≡ pagePrinted (pick t (frontRefused (cleared table) list 8 0) (pick u (frontRefused (cleared table) list 9 0) (frontServed s table list))) (λ i. journeyOn s i table path)
     shown true u e = refl
     shown false true e = refl
     shown false false e = on-served s table list path v e k
 
-    go : (t u : Bool) → noRoom s (length table) ≡ t → overfull s (length list) ≡ u → pageOn s ≡ pagePrinted (frontOn s table list) (λ i. journeyOn s i table path)
+    go : (t u : Bool) → crowded s (length table) ≡ t → overfull s (length list) ≡ u → pageOn s ≡ pagePrinted (frontOn s table list) (λ i. journeyOn s i table path)
     go t u e f =
-        let e′ : noRoom s tableNumbers ≡ t = ap (noRoom s) (sym a) ∙ e in
+        let e′ : crowded s tableNumbers ≡ t = ap (crowded s) (sym a) ∙ e in
         let f′ : overfull s listNumbers ≡ u = ap (overfull s) (sym b) ∙ f in
         ap₂ (λ (x y : Bool). pick x (refusalLine 8 0) (pick y (refusalLine 9 0) (frontLine s ++ offerLines s))) e′ f′
         ∙ shown t u e
-        ∙ sym (ap₂ (λ (x y : Bool). pagePrinted (pick x (frontRefused 8 0 (cleared table) list) (pick y (frontRefused 9 0 (cleared table) list) (frontServed s table list))) (λ i. journeyOn s i table path)) e f)
+        ∙ sym (ap₂ (λ (x y : Bool). pagePrinted (pick x (frontRefused (cleared table) list 8 0) (pick y (frontRefused (cleared table) list 9 0) (frontServed s table list))) (λ i. journeyOn s i table path)) e f)
 
 -- in any buffers of these lengths
 pub page-by : (b table list path : List ℕ) → length table ≡ tableNumbers → length list ≡ listNumbers → length path ≡ 256
@@ -105,7 +107,8 @@ pub page-by : (b table list path : List ℕ) → length table ≡ tableNumbers �
 unfolding page frontCall journeyCall
 page-by b table list path t l k = go (readOf b) refl
   where
-    go : (o : Outcome) → readOf b ≡ o → pageRead o ≡ pagePrinted (frontRead o table list) (λ i. journeyRead o i table path)
+    go : (o : Outcome) → readOf b ≡ o → told refusalLine pageOn o
+        ≡ pagePrinted (told (frontRefused table list) (λ s. frontOn s table list) o) (λ i. told (journeyRefused table path) (λ s. journeyOn s i table path) o)
     go (refused k n) e = rw (ne-eqb k 0 (λ z. omega (arith, read-refused b k n e)))
     go (loaded s) e = page-on s table list path (read-valid b s e) t l k
 

@@ -1,30 +1,32 @@
 -- How long a page can be: no page is longer than the room that the program has for it. A number takes at most 11 bytes with its comma, a place at
 -- most 3, since no sheet has more than 64 places; so a front cost takes at most 816 bytes, and 200 of them with the first line fit.
-use mathlib.Core.Path.{_≡_, refl, _∙_, ap}
-use mathlib.Core.Logic.{⊎-elim}
+use mathlib.Core.Path.{_≡_, refl}
 use mathlib.Core.Bool.{Bool, true, false}
 use mathlib.Core.List.{List, [], _∷_, _++_}
-use Prim.Native.Nat.{ℕ, zero, suc, _+_, _*_, _-_, _/_, _≤_, _<_}
+use Prim.Native.Nat.{ℕ, zero, suc, _+_, _*_, _≤_, _<_}
 use native.Mathlib.Omega.{arith}
 use native.Mathlib.Nat.{suc-mul}
 use lib.ListN.{length, getD, length-append}
 use borrow.Author.Tests.{ltb-false}
 use Rattle.sheet.specs.Lists.{pick, number, bind}
-use Rattle.sheet.specs.Decimal.{digitsOf}
-use Rattle.sheet.specs.Sheet.{Sheet, Outcome, refused, loaded, readOf, places}
+use Rattle.sheet.specs.Sheet.{Sheet, Outcome, refused, loaded, told, readOf, places}
 use Rattle.sheet.specs.Valid.{Valid}
-use Rattle.sheet.specs.Laws.Decimal.{below-or-not, digits-small, digits-more, digits-at-most}
+use Rattle.sheet.specs.Text.{numberText, printed}
+use Rattle.sheet.specs.Laws.Decimal.{digits-at-most}
 use Rattle.sheet.specs.Laws.RoundTrip.{read-valid}
+use Rattle.sheet.specs.Laws.Puts.{Puts}
+use Rattle.sheet.specs.Laws.Printed.{number-length, printed-length, digits-most}
 use Rattle.costs.specs.Costs.{Cost}
 use Rattle.arrivals.specs.Ways.{Way, Move, waits, crosses}
 use Rattle.arrivals.specs.Computed.{leading}
+use Rattle.arrivals.specs.Table.{crowded}
 use Rattle.journeys.specs.Journeys.{HasCost}
 use Rattle.journeys.specs.Computed.{journeyOf, arrivalOf, front}
-use Rattle.journeys.specs.Calls.{frontRow, overfull, noRoom}
+use Rattle.journeys.specs.Calls.{frontRow, overfull}
 use Rattle.journeys.specs.Laws.Journeys.{has-three, journeyOf-selected, journey-short}
 use Rattle.journeys.specs.Laws.Front.{front-on}
 use Rattle.journeys.specs.Laws.Served.{member}
-use Rattle.page.specs.Page.{numberPrinted, printed, refusalLine, frontLine, journeyLines, offerLines, tableNumbers, listNumbers, pageOn, pageRead, page, pageRoom}
+use Rattle.page.specs.Page.{mostPrinted, refusalLine, frontLine, journeyLines, offerLines, tableNumbers, listNumbers, pageOn, page, pageRoom}
 
 -- each member at most m long, all of them at most so many times m
 bind-long : {A : Type 0} (f : A → List ℕ) (m : ℕ) (d : A) (l : List A) → ((i : ℕ) → i < length l → length (f (getD l i d)) ≤ m) → length (bind l f) ≤ length l * m
@@ -32,30 +34,14 @@ bind-long f m d [] h = omega arith
 bind-long f m d (x ∷ l) h =
     omega (arith, length-append (f x) (bind l f), h 0 (omega arith), bind-long f m d l (λ i k. h (suc i) (omega arith)), suc-mul (length l) m)
 
--- at most as many digits as are asked for
-digits-most : (k n : ℕ) → length (digitsOf k n) ≤ k
-unfolding digitsOf
-digits-most zero n = omega arith
-digits-most (suc k) n =
-    ⊎-elim
-    (λ l. omega (arith, ap length (digits-small k n l)))
-    (λ g. omega (arith, simp length-append at (ap length (digits-more k n g)), digits-most k (n / 10)))
-    (below-or-not n 10)
+number-long : (n : ℕ) → length (numberText mostPrinted n) ≤ 11
+number-long n = omega (arith, number-length mostPrinted n, digits-most mostPrinted n)
 
-number-long : (n : ℕ) → length (numberPrinted n) ≤ 11
-unfolding numberPrinted
-number-long n = omega (arith, digits-most 10 n)
+place-long : (n : ℕ) → n < 64 → length (numberText mostPrinted n) ≤ 3
+place-long n h = omega (arith, number-length mostPrinted n, digits-at-most mostPrinted 1 n (omega arith))
 
-place-long : (n : ℕ) → n < 64 → length (numberPrinted n) ≤ 3
-unfolding numberPrinted
-place-long n h = omega (arith, digits-at-most 10 1 n (omega arith))
-
-pub printed-length : (c : ℕ) (ns : List ℕ) → length (printed c ns) ≡ length (bind ns numberPrinted) + 2
-unfolding printed
-printed-length c ns = ap suc (length-append (bind ns numberPrinted) (10 ∷ [])) ∙ omega arith
-
-printed-long : (c m : ℕ) (ns : List ℕ) → ((i : ℕ) → i < length ns → length (numberPrinted (number ns i)) ≤ m) → length (printed c ns) ≤ length ns * m + 2
-printed-long c m ns h = omega (arith, printed-length c ns, bind-long numberPrinted m 0 ns h)
+printed-long : (c m : ℕ) (ns : List ℕ) → ((i : ℕ) → i < length ns → length (numberText mostPrinted (number ns i)) ≤ m) → length (printed mostPrinted c ns) ≤ length ns * m + 2
+printed-long c m ns h = omega (arith, printed-length mostPrinted c ns, bind-long (numberText mostPrinted) m 0 ns h)
 
 -- a way stands at places of the sheet
 way-place : (s : Sheet) (A : ℕ) (p : List ℕ) (g : Cost) → Valid s → Way s A p g → (t : ℕ) → t ≤ A → number p t < places s
@@ -68,11 +54,11 @@ way-place s A p g v w (suc t) h = go (way-place s A p g v w t (omega arith)) (w 
 
 -- the lines of a front cost
 module _ (s : Sheet) (v : Valid s) (g : Cost) (h : HasCost s g) where
-  cost-long : length (printed 74 (frontRow s g)) ≤ 46
+  cost-long : length (printed mostPrinted 74 (frontRow s g)) ≤ 46
   cost-long =
       omega (arith, printed-long 74 11 (frontRow s g) (λ i k. number-long (number (frontRow s g) i)), length-append g (arrivalOf s g ∷ []), has-three s g h)
 
-  path-long : length (printed 80 (journeyOf s g)) ≤ 770
+  path-long : length (printed mostPrinted 80 (journeyOf s g)) ≤ 770
   path-long =
       let j = journeyOf-selected s g h .journey in
       omega
@@ -80,18 +66,23 @@ module _ (s : Sheet) (v : Valid s) (g : Cost) (h : HasCost s g) where
 
   lines-long : length (journeyLines s g) ≤ 816
   unfolding journeyLines
-  lines-long = omega (arith, length-append (printed 74 (frontRow s g)) (printed 80 (journeyOf s g)), cost-long, path-long)
+  lines-long = omega (arith, length-append (printed mostPrinted 74 (frontRow s g)) (printed mostPrinted 80 (journeyOf s g)), cost-long, path-long)
 
 offers-long : (s : Sheet) → Valid s → length (offerLines s) ≤ length (front s) * 816
 unfolding offerLines
 offers-long s v = bind-long (journeyLines s) 816 [] (front s) (λ i k. lines-long s v (getD (front s) i []) (front-on s (getD (front s) i []) (member (front s) i k) .has))
 
-pub two-long : (c m n : ℕ) → length (printed c (m ∷ n ∷ [])) ≤ 24
+pub two-long : (c m n : ℕ) → length (printed mostPrinted c (m ∷ n ∷ [])) ≤ 24
 two-long c m n = omega (arith, printed-long c 11 (m ∷ n ∷ []) (λ i k. number-long (number (m ∷ n ∷ []) i)))
 
 front-long : (s : Sheet) → length (frontLine s) ≤ 24
 unfolding frontLine
 front-long s = two-long 70 (length (front s)) (length (leading s))
+
+-- the line of a refusal, written
+pub refusal-puts : (k n : ℕ) {out out′ : List ℕ} {r : ℕ} → Puts (printed mostPrinted 82 (k ∷ n ∷ [])) out 0 out′ r → Puts (refusalLine k n) out 0 out′ r
+unfolding refusalLine
+refusal-puts k n p = p
 
 refusal-long : (k n : ℕ) → length (refusalLine k n) ≤ 24
 unfolding refusalLine
@@ -108,7 +99,7 @@ served-fits s v e = omega (arith, front-long s, offers-long s v, few-costs s e)
 -- the page of a sheet, and of any bytes
 on-fits : (s : Sheet) → Valid s → length (pageOn s) ≤ pageRoom
 unfolding pageOn
-on-fits s v = go (noRoom s tableNumbers) (overfull s listNumbers) refl
+on-fits s v = go (crowded s tableNumbers) (overfull s listNumbers) refl
   where
     go : (t u : Bool) → overfull s listNumbers ≡ u → length (pick t (refusalLine 8 0) (pick u (refusalLine 9 0) (frontLine s ++ offerLines s))) ≤ pageRoom
     go true u e = omega (arith, refusal-long 8 0)
@@ -119,6 +110,6 @@ pub page-fits : (b : List ℕ) → length (page b) ≤ pageRoom
 unfolding page
 page-fits b = go (readOf b) refl
   where
-    go : (o : Outcome) → readOf b ≡ o → length (pageRead o) ≤ pageRoom
+    go : (o : Outcome) → readOf b ≡ o → length (told refusalLine pageOn o) ≤ pageRoom
     go (refused k n) e = omega (arith, refusal-long k n)
     go (loaded s) e = on-fits s (read-valid b s e)

@@ -1,146 +1,129 @@
--- The whole page off the call of the front: the refusal alone, or the counts and then the lines of the front costs, which the table and the list that
--- the call left are enough for.
-use mathlib.Core.Path.{_≡_, refl, sym, _∙_, ap, ap₂, subst}
-use mathlib.Core.Logic.{_≢_, inl, inr}
-use mathlib.Core.Bool.{false}
-use mathlib.Core.List.{List, [], _∷_, _++_, append-assoc}
-use Prim.Native.Nat.{ℕ, zero, suc, _+_, _*_, _-_, _≤_, _<_, _/_}
+-- The whole page off the front of the sheet: the refusal alone, or the counts and then the lines of the front costs, which the table and the list that
+-- the front left are enough for.
+use mathlib.Core.Path.{_≡_, refl, sym, _∙_, ap, ap₂}
+use mathlib.Core.Logic.{_≢_}
+use mathlib.Core.Bool.{Bool, true, false}
+use mathlib.Core.List.{List, [], _∷_, _++_}
+use Prim.Native.Nat.{ℕ, _*_, _-_, _≤_}
 use native.Mathlib.Omega.{arith}
-use native.Mathlib.Nat.{suc-mul}
-use lib.ListN.{length, getD, take, drop, replicate, length-append, length-replicate}
-use lib.Seq.{sets, take-at, drop-append-add}
-use borrow.Author.Tests.{ne-eqb, le-ltb}
-use Rattle.sheet.specs.Lists.{_∈_, bind, filled}
-use Rattle.sheet.specs.Sheet.{Sheet, loaded, readOf}
-use Rattle.sheet.specs.Calls.{readAnswer, readCall}
-use Rattle.sheet.specs.declared.SheetRead.{SheetRead}
-use Rattle.sheet.specs.Laws.RoundTrip.{read-valid}
+use lib.ListN.{length, take, replicate}
+use lib.Seq.{sets, take-at}
+use borrow.Author.Tests.{le-ltb}
+use Rattle.sheet.specs.Lists.{bind, filled}
+use Rattle.sheet.specs.Sheet.{Sheet, told, readOf}
+use Rattle.sheet.specs.Store.{sheetIn, VerdictIs}
+use Rattle.sheet.specs.Text.{printed}
+use Rattle.sheet.specs.declared.reader.Verdict.{Verdict}
+use Rattle.sheet.specs.Laws.Store.{store-sheet, store-valid}
 use Rattle.sheet.specs.Laws.Stores.{sets-filled, length-filled}
-use Rattle.costs.specs.Costs.{Cost}
+use Rattle.sheet.specs.Laws.Puts.{Puts, puts-as, puts-length, puts-append}
 use Rattle.arrivals.specs.Computed.{leading}
-use Rattle.arrivals.specs.Table.{arrivalTable, crowded}
-use Rattle.journeys.specs.Computed.{arrivalOf, front}
-use Rattle.journeys.specs.Calls.{noRoom, frontRow, overfull, FrontEnd, frontEnd, frontServed, frontCall, journeyCall}
+use Rattle.arrivals.specs.Table.{crowded, arrivalTable}
+use Rattle.arrivals.specs.Search.{arrivalRoom}
+use Rattle.journeys.specs.Computed.{front}
+use Rattle.journeys.specs.Calls.{frontRow, overfull, FrontEnd, frontEnd, frontServed, frontOn}
+use Rattle.journeys.specs.Held.{frontRoom}
 use Rattle.journeys.specs.declared.FrontAnswer.{FrontAnswer}
-use Rattle.journeys.specs.Inner.{Holds}
-use Rattle.journeys.specs.Laws.Journeys.{has-three}
-use Rattle.journeys.specs.Laws.Front.{front-on}
-use Rattle.journeys.specs.Laws.Served.{Served, served}
-use Rattle.journeys.specs.Laws.Offered.{table-holds}
-use Rattle.journeys.specs.Laws.Ready.{room-fits, usable-most}
-use Rattle.page.specs.Page.{printed, refusalLine, frontLine, offerLines, tableNumbers, listNumbers, pageOn, page, pageRoom, held}
+use Rattle.journeys.specs.Laws.Served.{on-served, list-length}
+use Rattle.journeys.specs.Laws.Searched.{ready-is}
+use Rattle.page.specs.Page.{mostPrinted, refusalLine, frontLine, offerLines, tableNumbers, listNumbers, pageOn, page, pageRoom, held}
 use Rattle.page.specs.declared.PageText.{PageText}
-use Rattle.page.specs.Inner.{Puts, Offers, OffersPrinted}
-use Rattle.page.specs.Laws.Page.{pagePrinted, page-by}
-use Rattle.page.specs.Laws.Puts.{puts-length, puts-append}
-use Rattle.page.specs.Laws.Room.{two-long, few-costs, served-fits, page-fits}
+use Rattle.page.specs.Inner.{Lent, Servable, Offered}
+use Rattle.page.specs.Laws.Room.{few-costs, served-fits, page-fits}
 
--- row i of rows of w numbers that stand one after another
-row-at : (w : ℕ) (row : Cost → List ℕ) (l : List Cost) → ((g : Cost) → g ∈ l → length (row g) ≡ w) → (rest : List ℕ) (i : ℕ) → i < length l
-    → take w (drop (i * w) (bind l row ++ rest)) ≡ row (getD l i [])
-row-at w row [] h rest i k = absurd (omega arith)
-row-at w row (x ∷ l) h rest zero k =
-    let z : 0 * w ≡ 0 = omega arith in
-    rw (z, append-assoc (row x) (bind l row) rest) (take-at (row x) (bind l row ++ rest) w (h x (inl refl)))
-row-at w row (x ∷ l) h rest (suc i) k =
-    let z : suc i * w ≡ length (row x) + i * w = omega (arith, suc-mul i w, h x (inl refl)) in
-    rw (z, append-assoc (row x) (bind l row) rest, drop-append-add (row x) (bind l row ++ rest) (i * w)) (row-at w row l (λ g m. h g (inr m)) rest i (omega arith))
+-- the page of a sheet off the two tests, as the front makes them in buffers of the lengths that the program lends
+module _ (s : Sheet) (table list out : List ℕ) (l : Lent table list out) where
+  refused-by : (t u : Bool) → crowded s tableNumbers ≡ t → overfull s listNumbers ≡ u → frontOn s table list .answer .refusal ≢ 0
+      → pageOn s ≡ refusalLine (frontOn s table list .answer .refusal) (frontOn s table list .answer .line)
+  unfolding pageOn frontOn frontServed
+  refused-by true u e f z = rw (l .table-room, e) refl
+  refused-by false true e f z = rw (l .table-room, l .list-room, e, f) refl
+  refused-by false false e f z = absurd (z (rw (l .table-room, l .list-room, e, f) refl))
 
-fitting-page : (b : List ℕ) (s : Sheet) → readOf b ≡ loaded s → noRoom s tableNumbers ≡ false → overfull s listNumbers ≡ false → page b ≡ frontLine s ++ offerLines s
-unfolding page pageOn
-fitting-page b s q t l = rw (q, t, l)
+  -- the front was refused
+  pub refused-on : (r : FrontAnswer) (table′ list′ : List ℕ) → frontEnd r table′ list′ ≡ frontOn s table list → r .refusal ≢ 0 → pageOn s ≡ refusalLine (r .refusal) (r .line)
+  refused-on r table′ list′ e z =
+      let k : r .refusal ≡ frontOn s table list .answer .refusal = ap (λ (x : FrontEnd). x .answer .refusal) e in
+      let n : r .line ≡ frontOn s table list .answer .line = ap (λ (x : FrontEnd). x .answer .line) e in
+      refused-by (crowded s tableNumbers) (overfull s listNumbers) refl refl (λ q. z (k ∙ q)) ∙ sym (ap₂ refusalLine k n)
 
--- a call of the front, in buffers of the lengths that the program lends
-module _ (b table list : List ℕ) (r : FrontAnswer) (table′ list′ : List ℕ) (t : length table ≡ tableNumbers) (l : length list ≡ listNumbers)
-    (e : frontEnd r table′ list′ ≡ frontCall b table list) where
-  pub refused-page : r .refusal ≢ 0 → page b ≡ printed 82 (r .refusal ∷ r .line ∷ [])
-  unfolding refusalLine
-  refused-page z =
-      page-by b table list (replicate 256 0) t l (length-replicate {A = ℕ} 256 0)
-      ∙ ap (λ (x : FrontEnd). pagePrinted x (λ i. journeyCall b i table (replicate 256 0))) (sym e)
-      ∙ rw (ne-eqb (r .refusal) 0 z)
+-- the front was served
+module _ {lines all since table list out : List ℕ} (d : Servable lines all since table list out) (r : FrontAnswer) (table′ list′ : List ℕ)
+    (e : frontEnd r table′ list′ ≡ frontOn (sheetIn lines all) table list) (z : r .refusal ≡ 0) where
+  abbrev sheet : Sheet
+  sheet = sheetIn lines all
 
-  module _ (z : r .refusal ≡ 0) where
-    pub serves : Served b table list (frontCall b table list)
-    serves = served b table list (ap (λ (x : FrontEnd). x .answer .refusal) (sym e) ∙ z)
+  serves : (length (leading sheet) ≤ arrivalRoom (length table)) × (length (front sheet) ≤ frontRoom (length list)) × (frontOn sheet table list ≡ frontServed sheet table list)
+  serves = on-served sheet table list (ap (λ (x : FrontEnd). x .answer .refusal) (sym e) ∙ z)
 
-    abbrev pub sheet : Sheet
-    sheet = serves .fits .sheet
+  ends : frontEnd r table′ list′ ≡ frontServed sheet table list
+  ends = e ∙ serves .2
 
-    ends : frontEnd r table′ list′ ≡ frontServed sheet table list
-    ends = e ∙ serves .end
+  costs-are : r .costs ≡ length (front sheet)
+  unfolding frontServed
+  costs-are = ap (λ (x : FrontEnd). x .answer .costs) ends
 
-    costs-are : r .costs ≡ length (front sheet)
-    unfolding frontServed
-    costs-are = ap (λ (x : FrontEnd). x .answer .costs) ends
+  arrivals-are : r .arrivals ≡ length (leading sheet)
+  unfolding frontServed
+  arrivals-are = ap (λ (x : FrontEnd). x .answer .arrivals) ends
 
-    arrivals-are : r .arrivals ≡ length (leading sheet)
-    unfolding frontServed
-    arrivals-are = ap (λ (x : FrontEnd). x .answer .arrivals) ends
+  table-is : table′ ≡ arrivalTable sheet (length table)
+  unfolding frontServed
+  table-is = ap (λ (x : FrontEnd). x .table) ends
 
-    table-is : table′ ≡ arrivalTable sheet (length table)
-    unfolding frontServed
-    table-is = ap (λ (x : FrontEnd). x .table) ends
+  list-is : list′ ≡ filled (length list) (bind (front sheet) (frontRow sheet))
+  unfolding frontServed
+  list-is = ap (λ (x : FrontEnd). x .list) ends
 
-    list-is : list′ ≡ filled (length list) (bind (front sheet) (frontRow sheet))
-    unfolding frontServed
-    list-is = ap (λ (x : FrontEnd). x .list) ends
+  in-table : crowded sheet (length table) ≡ false
+  unfolding crowded
+  in-table = le-ltb _ (length (leading sheet)) (serves .0)
 
-    in-table : noRoom sheet tableNumbers ≡ false
-    unfolding noRoom crowded
-    in-table = ap (noRoom sheet) (sym t) ∙ le-ltb _ (length (leading sheet)) (serves .fits .arrivals-fit)
+  in-list : overfull sheet listNumbers ≡ false
+  unfolding overfull
+  in-list = ap (overfull sheet) (sym (d .lent .list-room)) ∙ le-ltb _ (length (front sheet)) (serves .1)
 
-    in-list : overfull sheet listNumbers ≡ false
-    unfolding overfull
-    in-list = ap (overfull sheet) (sym l) ∙ le-ltb _ (length (front sheet)) (serves .fits .costs-fit)
+  first-line : printed mostPrinted 70 (r .costs ∷ r .arrivals ∷ []) ≡ frontLine sheet
+  unfolding frontLine
+  first-line = ap₂ (λ (m n : ℕ). printed mostPrinted 70 (m ∷ n ∷ [])) costs-are arrivals-are
 
-    first-line : printed 70 (r .costs ∷ r .arrivals ∷ []) ≡ frontLine sheet
-    unfolding frontLine
-    first-line = ap₂ (λ (m n : ℕ). printed 70 (m ∷ n ∷ [])) costs-are arrivals-are
+  whole : pageOn sheet ≡ frontLine sheet ++ offerLines sheet
+  unfolding pageOn
+  whole = let c : crowded sheet tableNumbers ≡ false = ap (crowded sheet) (sym (d .lent .table-room)) ∙ in-table in rw (c, in-list)
 
-    pub served-page : page b ≡ printed 70 (r .costs ∷ r .arrivals ∷ []) ++ offerLines sheet
-    served-page = fitting-page b sheet (serves .fits .reads) in-table in-list ∙ ap (λ (k : List ℕ). k ++ offerLines sheet) (sym first-line)
+  pub few : r .costs ≤ 200
+  few = omega (arith, costs-are, few-costs sheet in-list)
 
-    row-wide : (g : Cost) → g ∈ front sheet → length (frontRow sheet g) ≡ 4
-    row-wide g m = length-append g (arrivalOf sheet g ∷ []) ∙ (let k : length g + 1 ≡ 4 = omega (arith, has-three sheet g (front-on sheet g m .has)) in k)
+  listed : take (r .costs * 4) list′ ≡ bind (front sheet) (frontRow sheet)
+  listed =
+      let b = bind (front sheet) (frontRow sheet) in
+      ap (take (r .costs * 4)) list-is ∙ take-at b (replicate (length list - length b) 0) (r .costs * 4) (omega (arith, list-length sheet, costs-are))
 
-    few : length (front sheet) ≤ 200
-    few = few-costs sheet in-list
+  -- what the lines of the front costs need
+  pub served-offers : {out₁ : List ℕ} {m : ℕ} → Puts (printed mostPrinted 70 (r .costs ∷ r .arrivals ∷ [])) out 0 out₁ m
+      → Offered lines all since table′ (r .arrivals) (take (r .costs * 4) list′) out₁ m
+  served-offers p =
+      let f : length (printed mostPrinted 70 (r .costs ∷ r .arrivals ∷ [])) ≡ length (frontLine sheet) = ap length first-line in
+      record {
+        derived = d .derived;
+        holds = ready-is sheet table table′ (r .arrivals) in-table arrivals-are table-is .holds;
+        listed = listed;
+        room = omega (arith, p .next-is, puts-length p, d .lent .out-room, f, served-fits sheet (store-valid (d .derived .store)) in-list);
+      }
 
-    -- what the lines of the front costs need
-    pub served-offers : {out out₁ : List ℕ} {m : ℕ} (q : SheetRead) → q ≡ readCall b → length table′ ≡ length table → length list′ ≡ length list → length out ≡ pageRoom
-        → Puts (printed 70 (r .costs ∷ r .arrivals ∷ [])) out 0 out₁ m → Offers q table′ (r .arrivals) list′ (r .costs) out₁ m
-    unfolding readCall
-    served-offers {out} {out₁} {m} q k tz lz oz p =
-        let v = read-valid b sheet (serves .fits .reads) in
-        let n : length (leading sheet) ≤ length table′ / 5 = omega (arith, room-fits sheet tableNumbers in-table, usable-most 5 tableNumbers, tz, t) in
-        let f : length (printed 70 (r .costs ∷ r .arrivals ∷ [])) ≡ length (frontLine sheet) = ap length first-line in
-        record {
-          sheet = sheet;
-          read-sheet = k ∙ ap readAnswer (serves .fits .reads);
-          offered =
-              record {
-                valid = v;
-                holds = subst (λ (i : ℕ). Holds sheet i table′) (sym arrivals-are) (table-holds sheet table′ n (table-is ∙ ap (arrivalTable sheet) (sym tz)));
-                counted = costs-are;
-                list-room = omega (arith, costs-are, few, lz, l);
-                listed =
-                    λ i h.
-                    ap (λ (x : List ℕ). take 4 (drop (i * 4) x)) list-is
-                    ∙ row-at 4 (frontRow sheet) (front sheet) row-wide (replicate (length list - length (bind (front sheet) (frontRow sheet))) 0) i (omega (arith, h, costs-are));
-                room = omega (arith, p .next-is, puts-length p, oz, f, served-fits sheet v in-list);
-              };
-        }
+  pub served-whole : {out₁ out₂ : List ℕ} {m k : ℕ} → Puts (printed mostPrinted 70 (r .costs ∷ r .arrivals ∷ [])) out 0 out₁ m → Puts (offerLines sheet) out₁ m out₂ k
+      → Puts (pageOn sheet) out 0 out₂ k
+  served-whole p o = puts-as (sym whole) (puts-append (puts-as first-line p) o)
 
-    pub served-whole : {out out₁ out₂ : List ℕ} {m k : ℕ} (q : SheetRead) → q ≡ readCall b → Puts (printed 70 (r .costs ∷ r .arrivals ∷ [])) out 0 out₁ m
-        → OffersPrinted q out₁ m out₂ k → Puts (page b) out 0 out₂ k
-    unfolding readCall
-    served-whole {out} {out₁} {out₂} {m} {k} q e p o =
-        subst (λ (x : List ℕ). Puts x out 0 out₂ k) (sym served-page)
-        (puts-append p (o .of sheet (read-valid b sheet (serves .fits .reads)) (e ∙ ap readAnswer (serves .fits .reads))))
+-- the page off what was read
+module _ (b : List ℕ) (lines all : List ℕ) (r : Verdict) (v : VerdictIs (readOf b) lines all r) where
+  pub unread : r .refusal ≢ 0 → refusalLine (r .refusal) (r .line) ≡ page b
+  unfolding page
+  unread z = ap (told refusalLine pageOn) (sym (v .refuses z))
 
-    pub served-first : (out : List ℕ) → length out ≡ pageRoom → 0 + length (printed 70 (r .costs ∷ r .arrivals ∷ [])) ≤ length out
-    served-first out h = omega (arith, h, two-long 70 (r .costs) (r .arrivals))
+  pub was-read : r .refusal ≡ 0 → pageOn (sheetIn lines all) ≡ page b
+  unfolding page
+  was-read z = let h = v .holds z in ap pageOn (store-sheet (h .2)) ∙ ap (told refusalLine pageOn) (sym (h .1))
 
 -- a page in a buffer of zeros is the page as the program holds it
 pub page-held : (b out : List ℕ) (n : ℕ) → Puts (page b) (replicate pageRoom 0) 0 out n → record { bytes = out; count = n } ≡ held b

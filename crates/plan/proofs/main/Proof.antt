@@ -1,23 +1,48 @@
 -- `plan::main` meets its contract: what is read and what is written lies within the buffers.
 -- Assumes nothing.
-use mathlib.Core.Path.{sym}
+use Prim.Native.Nat.{ℕ, _≤_}
+use mathlib.Core.Path.{_≡_, sym, subst}
+use mathlib.Core.List.{List}
+use lib.ListN.{length}
 use lib.Seq.{length-take-le}
 use borrow.Author.Needs.{needs}
 use Rattle.page.specs.Laws.Whole.{held-within}
+use Rattle.plan.specs.declared.Input.{Input}
+use Rattle.plan.specs.declared.Input.the-variants.{Bytes}
+use Rattle.plan.specs.Inner.{Within}
 use Rattle.plan.proofs.main.Statement.{statement}
 use Rattle.plan.proofs.main.Tie as tie
 
-slice-aggregate-read-full : tie.Need-slice-aggregate-read-full
-slice-aggregate-read-full c = search needs
+-- what reading promises, of the bytes that it gave
+within-read : {r : Input} {n : ℕ} (buffer : List ℕ) → r ≡ Bytes n → Within r buffer → n ≤ length buffer
+within-read buffer e h = subst (λ (r : Input). Within r buffer) e h
 
-read-full-requires : tie.Need-read-full-requires
-read-full-requires c κs = search needs
+slice-aggregate-read-sheet : tie.Need-slice-aggregate-read-sheet
+slice-aggregate-read-sheet c = search needs
+
+read-sheet-requires : tie.Need-read-sheet-requires
+read-sheet-requires c κs = search needs
+
+enum-known-input : tie.Need-enum-known-input
+enum-known-input c = search needs
+
+enum-told : tie.Need-enum-told
+enum-told c = search needs
+
+slice-aggregate-write-all : tie.Need-slice-aggregate-write-all
+slice-aggregate-write-all c = search needs
+
+write-all-requires : tie.Need-write-all-requires
+write-all-requires c κs = search needs
+
+returns : tie.Need-returns
+returns c = search needs
 
 array-share-prefix-sheet : tie.Need-array-share-prefix-sheet
-array-share-prefix-sheet c = search needs
+array-share-prefix-sheet c = within-read _ (c .before .input .given .1) (c .before .before .before .before .read-sheet .ensures)
 
 slice-aggregate-page-of : tie.Need-slice-aggregate-page-of
-slice-aggregate-page-of c = search needs
+slice-aggregate-page-of c = sym (length-take-le _ _ (array-share-prefix-sheet (c .before)))
 
 page-of-requires : tie.Need-page-of-requires
 page-of-requires c κs = search needs
@@ -25,37 +50,42 @@ page-of-requires c κs = search needs
 array-share-prefix-bytes : tie.Need-array-share-prefix-bytes
 array-share-prefix-bytes c = held-within _ _ (c .before .page-of .ensures)
 
-slice-aggregate-write-all : tie.Need-slice-aggregate-write-all
-slice-aggregate-write-all c = sym (length-take-le _ _ (held-within _ _ (c .before .before .page-of .ensures)))
-
-write-all-requires : tie.Need-write-all-requires
-write-all-requires c κs = search needs
-
 slice-aggregate-write-all-2 : tie.Need-slice-aggregate-write-all-2
-slice-aggregate-write-all-2 c = search needs
+slice-aggregate-write-all-2 c = sym (length-take-le _ _ (held-within _ _ (c .before .before .page-of .ensures)))
 
 write-all-requires-2 : tie.Need-write-all-requires-2
 write-all-requires-2 c κs = search needs
 
-returns : tie.Need-returns
-returns c = search needs
+slice-aggregate-write-all-3 : tie.Need-slice-aggregate-write-all-3
+slice-aggregate-write-all-3 c = search needs
+
+write-all-requires-3 : tie.Need-write-all-requires-3
+write-all-requires-3 c κs = search needs
 
 returns-2 : tie.Need-returns-2
 returns-2 c = search needs
+
+returns-3 : tie.Need-returns-3
+returns-3 c = search needs
 
 pub main-spec : {M : Type 1} → statement M
 main-spec =
     tie.close
     (tie.spec
-    slice-aggregate-read-full
-    read-full-requires
+    slice-aggregate-read-sheet
+    read-sheet-requires
+    enum-known-input
+    enum-told
+    slice-aggregate-write-all
+    write-all-requires
+    returns
     array-share-prefix-sheet
     slice-aggregate-page-of
     page-of-requires
     array-share-prefix-bytes
-    slice-aggregate-write-all
-    write-all-requires
     slice-aggregate-write-all-2
     write-all-requires-2
-    returns
-    returns-2)
+    slice-aggregate-write-all-3
+    write-all-requires-3
+    returns-2
+    returns-3)

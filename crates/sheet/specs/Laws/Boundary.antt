@@ -6,7 +6,7 @@ use Prim.Native.String.{String}
 use lib.ListN.{replicate}
 use Rattle.sheet.specs.Decimal.{digitsOf}
 use Rattle.sheet.specs.Sheet.{Outcome, refused, loaded, readOf}
-use Rattle.sheet.specs.Calls.{WriteEnd, writeCall}
+use Rattle.sheet.specs.Calls.{WriteEnd, writeGroups, writeCall}
 use Rattle.sheet.specs.Laws.Ascii.{bytes}
 
 -- the refusal's number and line, zeros for a sheet
@@ -112,5 +112,5 @@ pub write-rooms : (writes (4 ∷ 6 ∷ 0 ∷ 3 ∷ 1 ∷ 0 ∷ 0 ∷ []) [] [] 1
     ∷ ((4 ∷ 2 ∷ 0 ∷ []) ∷ replicate 17 7 ∷ [])
     ∷ ((5 ∷ 3 ∷ 0 ∷ []) ∷ replicate 17 7 ∷ [])
     ∷ []
-unfolding writeCall
+unfolding writeGroups
 write-rooms = refl

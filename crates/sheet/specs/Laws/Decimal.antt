@@ -2,7 +2,7 @@
 -- than its size asks for. Both trips go digit by digit from the front: a digit at the end multiplies what is read by ten.
 use mathlib.Core.Path.{_≡_, refl, _∙_, ap, ap₂}
 use mathlib.Core.Logic.{_⊎_, inl, inr, ⊎-elim}
-use mathlib.Core.Bool.{Bool, true, false, _&&_}
+use mathlib.Core.Bool.{Bool, true, false, _&&_, true≢false}
 use mathlib.Core.List.{List, [], _∷_, _++_, append-assoc, append-nil}
 use mathlib.Core.Option.{Option, some, none}
 use Prim.Native.Nat.{ℕ, zero, suc, _+_, _*_, _-_, _/_, _%_, _≤_, _<_, _^_}
@@ -10,7 +10,7 @@ use native.Mathlib.Omega.{arith}
 use native.Mathlib.Nat.{pow-zero, pow-suc, pow-le-pow-right, mul-le-mul-right, mul-assoc, mul-comm, zero-add}
 use lib.Dec.{ltb, leb, eqb}
 use lib.ListN.{length, length-append, List·getD-append}
-use borrow.Author.Tests.{lt-ltb, le-ltb, le-leb, ne-eqb, ltb-true, ltb-false, leb-true, eqb-true, eqb-false}
+use borrow.Author.Tests.{lt-ltb, le-ltb, le-leb, eq-eqb, ne-eqb, ltb-true, ltb-false, leb-true, eqb-true, eqb-false}
 use Rattle.sheet.specs.Lists.{pick, number}
 use Rattle.sheet.specs.Bytes.{kindOf, digit, comma, lineFeed, letter, other}
 use Rattle.sheet.specs.Decimal.{digitsFrom, numberOf, digitsOf}
@@ -141,23 +141,50 @@ first-digit (suc k) n p h =
     (λ g. first-more (suc k) n g (digits-some k (n / 10) .0) (first-digit k (n / 10) (omega arith) (omega (arith, pow-suc 10 (suc k)))))
     (below-or-not n 10)
 
-and-false : (x : Bool) → x && false ≡ false
-and-false true = refl
-and-false false = refl
+-- a field that stands for the number n
+pub record NumberIs (most n : ℕ) (f : List ℕ) : Type 0 where
+  pub some-digit : 1 ≤ length f
+  pub few : length f ≤ most
+  pub no-zero : 1 < length f → number f 0 ≡ 48 → ⊥
+  pub value : digitsFrom 0 f ≡ some n
+
+pub number-is : (most n : ℕ) (f : List ℕ) → numberOf most f ≡ some n → NumberIs most n f
+unfolding numberOf
+number-is most n f e =
+    let d = digitsFrom 0 f in
+    let t = ltb 1 (length f) && eqb (number f 0) 48 in
+    let p = some-past (eqb (length f) 0) (pick (ltb most (length f)) none (pick t none d)) n e in
+    let q = some-past (ltb most (length f)) (pick t none d) n (p .1) in
+    let r = some-past t d n (q .1) in
+    let z = eqb-false (length f) 0 (p .0) in
+    record {
+      some-digit = omega (arith, z);
+      few = ltb-false most (length f) (q .0);
+      no-zero = λ h i. true≢false (simp (lt-ltb 1 (length f) h, eq-eqb (number f 0) 48 i) at (r .0));
+      value = r .1;
+    }
+
+not-both : (a b : Bool) → (a ≡ true → b ≡ true → ⊥) → a && b ≡ false
+not-both true true h = absurd (h refl refl)
+not-both true false h = refl
+not-both false b h = refl
+
+pub is-number : (most n : ℕ) (f : List ℕ) → NumberIs most n f → numberOf most f ≡ some n
+unfolding numberOf
+is-number most n f r =
+    let z = not-both (ltb 1 (length f)) (eqb (number f 0) 48) (λ p q. r .no-zero (ltb-true 1 (length f) p) (eqb-true (number f 0) 48 q)) in
+    simp (ne-eqb (length f) 0 (omega (arith, r .some-digit)), le-ltb most (length f) (r .few), z) (r .value)
 
 -- what is written reads as itself
-pub write-read : (k n : ℕ) → n < 10 ^ suc k → numberOf (suc k) (digitsOf (suc k) n) ≡ some n
-unfolding numberOf
-write-read k n h =
-    simp
-    (ne-eqb (length (digitsOf (suc k) n)) 0 (omega (arith, digits-some k n)), le-ltb (suc k) (length (digitsOf (suc k) n)) (digits-some k n .1), no-zero (below-or-not n 10))
-    (digits-read k n h)
+pub write-read : (most n : ℕ) → 1 ≤ most → n < 10 ^ most → numberOf most (digitsOf most n) ≡ some n
+write-read zero n p h = absurd (omega arith)
+write-read (suc k) n p h =
+    is-number (suc k) n (digitsOf (suc k) n)
+    (record { some-digit = digits-some k n .0; few = digits-some k n .1; no-zero = no-zero (below-or-not n 10); value = digits-read k n h })
   where
-    no-zero : (n < 10) ⊎ (10 ≤ n) → ltb 1 (length (digitsOf (suc k) n)) && eqb (number (digitsOf (suc k) n) 0) 48 ≡ false
-    no-zero (inl l) = rw (digits-small k n l)
-    no-zero (inr g) =
-        rw (ne-eqb (number (digitsOf (suc k) n) 0) 48 (omega (arith, first-digit k n (omega arith) h)))
-        (and-false (ltb 1 (length (digitsOf (suc k) n))))
+    no-zero : (n < 10) ⊎ (10 ≤ n) → 1 < length (digitsOf (suc k) n) → number (digitsOf (suc k) n) 0 ≡ 48 → ⊥
+    no-zero (inl l) i z = omega (arith, i, ap length (digits-small k n l))
+    no-zero (inr g) i z = omega (arith, z, first-digit k n (omega arith) h)
 
 -- a digit more behind a number that is not 0
 digit-behind : (j v b : ℕ) → 1 ≤ v → 48 ≤ b → b ≤ 57 → digitsOf (suc j) (v * 10 + (b - 48)) ≡ digitsOf j v ++ (b ∷ [])
@@ -197,19 +224,14 @@ many-back k b n bs l z e =
     ∙ ap (λ (l : List ℕ). l ++ bs) (digits-small (k - length bs) (0 * 10 + (b - 48)) (omega arith) ∙ ap (λ (d : ℕ). d ∷ []) (omega arith))
 
 -- what was read is written as it stood
-pub read-write : (k n : ℕ) (f : List ℕ) → numberOf (suc k) f ≡ some n → digitsOf (suc k) n ≡ f
-unfolding numberOf
-read-write k n [] e = let z : _≡_ {A = ℕ} 0 1 = cc in absurd (omega arith)
-read-write k n (b ∷ []) e = one-back k b n (some-past (ltb (suc k) 1) (digitsFrom 0 (b ∷ [])) n e .1)
-read-write k n (b ∷ c ∷ cs) e =
-    let m = suc (suc (length cs)) in
-    let d = digitsFrom 0 (b ∷ c ∷ cs) in
-    let t = ltb 1 m && eqb b 48 in
-    let p = some-past (eqb m 0) (pick (ltb (suc k) m) none (pick t none d)) n e in
-    let q = some-past (ltb (suc k) m) (pick t none d) n (p .1) in
-    let r = some-past t d n (q .1) in
-    let u : eqb b 48 ≡ false = simp (lt-ltb 1 m (omega arith)) at (r .0) in
-    many-back k b n (c ∷ cs) (omega (arith, ltb-false (suc k) m (q .0))) (eqb-false b 48 u) (r .1)
+pub read-write : (most n : ℕ) (f : List ℕ) → numberOf most f ≡ some n → digitsOf most n ≡ f
+read-write most n f e = go most f (number-is most n f e)
+  where
+    go : (m : ℕ) (g : List ℕ) → NumberIs m n g → digitsOf m n ≡ g
+    go m [] r = absurd (omega (arith, r .some-digit))
+    go zero (b ∷ bs) r = absurd (omega (arith, r .few))
+    go (suc k) (b ∷ []) r = one-back k b n (r .value)
+    go (suc k) (b ∷ c ∷ cs) r = many-back k b n (c ∷ cs) (omega (arith, r .few)) (r .no-zero (omega arith)) (r .value)
 
 -- what is read on from v is below v + 1, shifted by the digits read
 digits-below : (bs : List ℕ) (v n : ℕ) → digitsFrom v bs ≡ some n → n < suc v * 10 ^ length bs
@@ -225,14 +247,8 @@ digits-below (b ∷ bs) v n e =
     omega (arith, digits-below bs (v * 10 + (b - 48)) n (q .1))
 
 -- what was read has at most so many digits
-pub read-below : (k n : ℕ) (f : List ℕ) → numberOf (suc k) f ≡ some n → n < 10 ^ suc k
-unfolding numberOf
-read-below k n f e =
-    let d = digitsFrom 0 f in
-    let t = ltb 1 (length f) && eqb (number f 0) 48 in
-    let p = some-past (eqb (length f) 0) (pick (ltb (suc k) (length f)) none (pick t none d)) n e in
-    let q = some-past (ltb (suc k) (length f)) (pick t none d) n (p .1) in
-    let r = some-past t d n (q .1) in
-    let l : length f ≤ suc k = ltb-false (suc k) (length f) (q .0) in
-    let s : 10 ^ length f ≤ 10 ^ suc k = pow-le-pow-right (omega arith) l in
-    omega (arith, digits-below f 0 n (r .1))
+pub read-below : (most n : ℕ) (f : List ℕ) → numberOf most f ≡ some n → n < 10 ^ most
+read-below most n f e =
+    let r = number-is most n f e in
+    let s : 10 ^ length f ≤ 10 ^ most = pow-le-pow-right (omega arith) (r .few) in
+    omega (arith, digits-below f 0 n (r .value))

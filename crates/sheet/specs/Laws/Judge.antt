@@ -63,10 +63,8 @@ judge-passes (m ∷ before) [] s e =
       some-line = omega arith;
       sheet = loaded-inj s (sheetOf ((m ∷ before) ++ [])) (sym e ∙ ap (λ (l : List Line). loaded (sheetOf l)) (sym (append-nil (m ∷ before))));
     }
-judge-passes [] (none ∷ ls) s e = absurd (not-loaded 2 1 s e)
-judge-passes (m ∷ before) (none ∷ ls) s e = absurd (not-loaded 2 (suc (length (m ∷ before))) s e)
-judge-passes [] (some l ∷ ls) s e = judge-step [] l ls s (judge-passes (l ∷ []) ls s) e
-judge-passes (m ∷ before) (some l ∷ ls) s e = judge-step (m ∷ before) l ls s (judge-passes ((m ∷ before) ++ (l ∷ [])) ls s) e
+judge-passes before (none ∷ ls) s e = absurd (not-loaded 2 (suc (length before)) s e)
+judge-passes before (some l ∷ ls) s e = judge-step before l ls s (judge-passes (before ++ (l ∷ [])) ls s) e
 
 passes-step : (before : List Line) (l : Line) (o : Outcome) → fault before l ≡ 0 → pick (eqb (fault before l) 0) o (refused (fault before l) (suc (length before))) ≡ o
 passes-step before l o e = rw (eq-eqb (fault before l) 0 e)
@@ -75,8 +73,7 @@ pub passes-judge : (before ls : List Line) → Passes before ls → 1 ≤ length
 unfolding judge
 passes-judge [] [] p h = absurd (omega arith)
 passes-judge (m ∷ before) [] p h = ap (λ (l : List Line). loaded (sheetOf l)) (sym (append-nil (m ∷ before)))
-passes-judge [] (l ∷ ls) p h = passes-step [] l (judge (l ∷ []) (map some ls)) (p .0) ∙ passes-judge (l ∷ []) ls (p .1) (omega arith)
-passes-judge (m ∷ before) (l ∷ ls) p h =
-    passes-step (m ∷ before) l (judge ((m ∷ before) ++ (l ∷ [])) (map some ls)) (p .0)
-    ∙ passes-judge ((m ∷ before) ++ (l ∷ [])) ls (p .1) (omega arith)
-    ∙ ap (λ (k : List Line). loaded (sheetOf k)) (append-snoc (m ∷ before) l ls)
+passes-judge before (l ∷ ls) p h =
+    passes-step before l (judge (before ++ (l ∷ [])) (map some ls)) (p .0)
+    ∙ passes-judge (before ++ (l ∷ [])) ls (p .1) (subst (λ (k : List Line). 1 ≤ length k) (sym (append-snoc before l ls)) h)
+    ∙ ap (λ (k : List Line). loaded (sheetOf k)) (append-snoc before l ls)

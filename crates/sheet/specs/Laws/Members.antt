@@ -3,6 +3,9 @@ use mathlib.Core.Path.{_≡_, refl, sym, _∙_, ap, subst}
 use mathlib.Core.Logic.{_⊎_, inl, inr}
 use mathlib.Core.Bool.{Bool, true, false, true≢false}
 use mathlib.Core.List.{List, [], _∷_, _++_, map}
+use Prim.Native.Nat.{ℕ, zero, suc, _<_}
+use native.Mathlib.Omega.{arith}
+use lib.ListN.{length, getD}
 use Rattle.sheet.specs.Lists.{_∈_, keep, filter, all, bind}
 use Rattle.sheet.specs.Laws.Order.{and-true, true-and}
 
@@ -118,3 +121,14 @@ module _ {A : Type 0} (R : A → A → Type 0) (dec : (a b : A) → Dec (R a b))
 
       go : Least l x → Least (a ∷ l) x
       go r = pick r (dec a (r .least))
+
+-- the member at a position, of a list and of its images
+pub mem-at : {A : Type 0} (d : A) (l : List A) (i : ℕ) → i < length l → getD l i d ∈ l
+mem-at d [] i h = absurd (omega arith)
+mem-at d (x ∷ l) zero h = inl refl
+mem-at d (x ∷ l) (suc i) h = inr (mem-at d l i (omega arith))
+
+pub getD-map : {A B : Type 0} (f : A → B) (l : List A) (i : ℕ) (a : A) (b : B) → i < length l → getD (map f l) i b ≡ f (getD l i a)
+getD-map f [] i a b h = absurd (omega arith)
+getD-map f (x ∷ l) zero a b h = refl
+getD-map f (x ∷ l) (suc i) a b h = getD-map f l i a b (omega arith)

@@ -10,7 +10,7 @@ use native.Mathlib.Omega.{arith}
 use lib.Seq.{append-snoc}
 use Rattle.sheet.specs.Lists.{pick, _∈_, any}
 use Rattle.sheet.specs.Lines.{Line}
-use Rattle.sheet.specs.Sheet.{misplaced, tooMany, outside, placesIn, unpaired, latest, notAbove, Test, tests, firstFailed, fault}
+use Rattle.sheet.specs.Sheet.{group, misplaced, tooMany, outside, placesIn, unpaired, latest, notAbove, Test, tests, firstFailed, fault}
 use Rattle.sheet.specs.Laws.Judge.{Passes}
 
 -- tests that do not fail
@@ -58,7 +58,7 @@ pub record Passed (before : List Line) (l : Line) : Type 0 where
   pub few : tooMany before l ≡ false
   pub inside : outside (placesIn (before ++ (l ∷ []))) (l .kind .limits) (l .numbers) ≡ false
   pub paired : unpaired (l .kind .pair) (l .numbers) ≡ false
-  pub above : notAbove (latest before) l ≡ false
+  pub above : notAbove (l .kind .key) (latest (group (l .kind) before)) (l .numbers) ≡ false
 
 pub fault-passed : (before : List Line) (l : Line) → fault before l ≡ 0 → Passed before l
 unfolding fault tests
@@ -102,8 +102,8 @@ passes-paired before [] p l m = absurd m
 passes-paired before (x ∷ ls) p l (inl e) = rw e (fault-passed before x (p .0) .paired)
 passes-paired before (x ∷ ls) p l (inr m) = passes-paired (before ++ (x ∷ [])) ls (p .1) l m
 
--- the line before a line put last
-pub latest-last : (before : List Line) (l : Line) → latest (before ++ (l ∷ [])) ≡ some l
-latest-last [] l = refl
-latest-last (m ∷ []) l = refl
-latest-last (m ∷ k ∷ before) l = latest-last (k ∷ before) l
+-- the last of a list with one more at its end
+pub latest-last : (before : List (List ℕ)) (n : List ℕ) → latest (before ++ (n ∷ [])) ≡ some n
+latest-last [] n = refl
+latest-last (m ∷ []) n = refl
+latest-last (m ∷ k ∷ before) n = latest-last (k ∷ before) n

@@ -7,22 +7,24 @@ use mathlib.Core.List.{List, [], _∷_, _++_, map}
 use mathlib.Core.Option.{Option, some, none}
 use Prim.Native.Nat.{ℕ, suc, _*_, _/_, _%_, _≤_}
 use native.Mathlib.Omega.{arith}
+use native.Mathlib.Nat.{div-add-mod'}
 use lib.Dec.{ltb, eqb}
 use lib.ListN.{length, take, drop}
-use lib.Seq.{take-append-seam}
+use lib.Seq.{take-append-seam, take-at}
 use borrow.Author.Tests.{le-ltb, eq-eqb, eqb-true, eqb-false, not-false}
-use Rattle.sheet.specs.Lists.{pick, number, _∈_, bind, filled, flat}
-use Rattle.sheet.specs.Kinds.{kindS, kindC, kindO}
+use Rattle.sheet.specs.Lists.{pick, _∈_, bind, filled, flat}
+use Rattle.sheet.specs.Decimal.{mostDigits}
+use Rattle.sheet.specs.Kinds.{Kind, width, room, kindS, kindC, kindO, kinds}
 use Rattle.sheet.specs.Lines.{Line, line, textLines}
-use Rattle.sheet.specs.Sheet.{Sheet, sheetOf, sheetLines, fault, Outcome, refused, loaded, judge, mostBytes, readOf}
+use Rattle.sheet.specs.Sheet.{Sheet, sheetOf, groupsOf, linesFrom, sheetLines, fault, Outcome, refused, loaded, told, judge, mostBytes, readOf}
 use Rattle.sheet.specs.Text.{lineText, sheetText}
 use Rattle.sheet.specs.Valid.{Valid}
-use Rattle.sheet.specs.Calls.{readAnswer, readCall, leftOver, sheetOfGroups, WriteEnd, writeRefused, written, writeJudged, writeCall}
+use Rattle.sheet.specs.Calls.{readAnswer, readCall, Groups, groups, groupsRead, uneven, leftOver, sheetOfGroups, judgedGroups, WriteEnd, writeEnd, writeRefused, written, writeGroups}
 use Rattle.sheet.specs.Laws.Members.{mem-left, mem-right, mem-append, mem-map, map-mem}
 use Rattle.sheet.specs.Laws.Passed.{or-false}
 use Rattle.sheet.specs.Laws.Judge.{Passes, not-loaded, judge-passes, passes-judge}
 use Rattle.sheet.specs.Laws.Shape.{Shaped, AllShaped}
-use Rattle.sheet.specs.Laws.LineText.{lines-back, lines-unread}
+use Rattle.sheet.specs.Laws.LineText.{sheet-letters, lines-back, lines-unread}
 use Rattle.sheet.specs.Laws.Groups.{sheet-lines, lines-sheet}
 use Rattle.sheet.specs.Laws.Valid.{numbers-below, passes-valid, valid-shaped, valid-passes}
 use Rattle.sheet.specs.Laws.TextBound.{text-bound}
@@ -44,22 +46,22 @@ judge-refused : (before : List Line) (ls : List (Option Line)) (k n : ℕ) → j
 unfolding judge
 judge-refused [] [] k n e = let z : k ≡ 3 = cc in omega arith
 judge-refused (m ∷ before) [] k n e = absurd (not-loaded k n (sheetOf (m ∷ before)) (sym e))
-judge-refused [] (none ∷ ls) k n e = let z : k ≡ 2 = cc in omega arith
-judge-refused (m ∷ before) (none ∷ ls) k n e = let z : k ≡ 2 = cc in omega arith
-judge-refused [] (some l ∷ ls) k n e = refused-step [] l k n (judge (l ∷ []) ls) (judge-refused (l ∷ []) ls k n) e
-judge-refused (m ∷ before) (some l ∷ ls) k n e =
-    refused-step (m ∷ before) l k n (judge ((m ∷ before) ++ (l ∷ [])) ls) (judge-refused ((m ∷ before) ++ (l ∷ [])) ls k n) e
+judge-refused before (none ∷ ls) k n e = let z : k ≡ 2 = cc in omega arith
+judge-refused before (some l ∷ ls) k n e = refused-step before l k n (judge (before ++ (l ∷ [])) ls) (judge-refused (before ++ (l ∷ [])) ls k n) e
 
 -- reading is judging the lines, where the bytes are not too many
-read-judge : (b : List ℕ) → length b ≤ mostBytes → readOf b ≡ judge [] (textLines b)
+abbrev linesIn : List ℕ → List (Option Line)
+linesIn b = textLines mostDigits kinds b
+
+pub read-judge : (b : List ℕ) → length b ≤ mostBytes → readOf b ≡ judge [] (textLines mostDigits kinds b)
 unfolding readOf
 read-judge b h = rw (le-ltb mostBytes (length b) h)
 
-judge-read : (b : List ℕ) (s : Sheet) → readOf b ≡ loaded s → judge [] (textLines b) ≡ loaded s
+judge-read : (b : List ℕ) (s : Sheet) → readOf b ≡ loaded s → judge [] (linesIn b) ≡ loaded s
 unfolding readOf
 judge-read b s e = go (ltb mostBytes (length b)) e
   where
-    go : (t : Bool) → pick t (refused 1 0) (judge [] (textLines b)) ≡ loaded s → judge [] (textLines b) ≡ loaded s
+    go : (t : Bool) → pick t (refused 1 0) (judge [] (linesIn b)) ≡ loaded s → judge [] (linesIn b) ≡ loaded s
     go true e = absurd (not-loaded 1 0 s e)
     go false e = e
 
@@ -67,9 +69,9 @@ pub read-refused : (b : List ℕ) (k n : ℕ) → readOf b ≡ refused k n → 1
 unfolding readOf
 read-refused b k n e = go (ltb mostBytes (length b)) e
   where
-    go : (t : Bool) → pick t (refused 1 0) (judge [] (textLines b)) ≡ refused k n → 1 ≤ k
+    go : (t : Bool) → pick t (refused 1 0) (judge [] (linesIn b)) ≡ refused k n → 1 ≤ k
     go true e = let z : k ≡ 1 = cc in omega arith
-    go false e = judge-refused [] (textLines b) k n e
+    go false e = judge-refused [] (linesIn b) k n e
 
 -- the reader's answer 0 is a sheet
 pub read-loaded : (b : List ℕ) → readCall b .refusal ≡ 0 → (s : Sheet) × (readOf b ≡ loaded s)
@@ -90,108 +92,133 @@ some-lines (l ∷ a) (m ∷ b) e =
     ap₂ (λ (j : Line) (ls : List Line). j ∷ ls) x (some-lines a b y)
 
 -- lines that are loaded all pass
-pub judged-lines : (ls : List Line) (s : Sheet) → judge [] (map some ls) ≡ loaded s → Passes [] ls × (s ≡ sheetOf ls)
+judged-lines : (ls : List Line) (s : Sheet) → judge [] (map some ls) ≡ loaded s → Passes [] ls × (s ≡ sheetOf ls)
 judged-lines ls s e =
     let j = judge-passes [] (map some ls) s e in
     let z : j .lines ≡ ls = some-lines (j .lines) ls (sym (j .all-lines)) in
     (subst (λ (k : List Line). Passes [] k) z (j .passes), j .sheet ∙ ap sheetOf z)
 
--- the groups of a sheet hold as many numbers a line as their kinds have
-pub record Widths (s : Sheet) : Type 0 where
-  pub seven : length (s .head) ≡ 7
-  pub five : Wide 5 (s .corridors)
-  pub three : Wide 3 (s .occupancies)
+-- the groups hold as many numbers a line as their kinds have
+abbrev AllWide : List Kind → List (List (List ℕ)) → Type 0
+AllWide [] gs = Unit {0}
+AllWide (k ∷ ks) [] = Unit {0}
+AllWide (k ∷ ks) (g ∷ gs) = Wide (width k) g × AllWide ks gs
 
-pub widths-shaped : (s : Sheet) → Widths s → AllShaped (sheetLines s)
-widths-shaped s w l (inl e) = rw e (record { known = inl refl; count = w .seven })
-widths-shaped s w l (inr m) = ⊎-elim of-c of-o (mem-append l (map (line kindC) (s .corridors)) (map (line kindO) (s .occupancies)) m)
+wide-shaped : (ks : List Kind) (gs : List (List (List ℕ))) → ((k : Kind) → k ∈ ks → k ∈ kinds) → AllWide ks gs → AllShaped (linesFrom ks gs)
+wide-shaped [] gs f w l m = absurd m
+wide-shaped (k ∷ ks) [] f w l m = absurd m
+wide-shaped (k ∷ ks) (g ∷ gs) f w l m =
+    ⊎-elim own (wide-shaped ks gs (λ j i. f j (inr i)) (w .1) l) (mem-append l (map (line k) g) (linesFrom ks gs) m)
   where
-    of-c : l ∈ map (line kindC) (s .corridors) → Shaped l
-    of-c m = let r = map-mem (line kindC) l (s .corridors) m in rw (r .2) (record { known = inr (inl refl); count = w .five (r .0) (r .1) })
+    own : l ∈ map (line k) g → Shaped l
+    own m = let r = map-mem (line k) l g m in subst Shaped (sym (r .2)) (record { known = f k (inl refl); count = w .0 (r .0) (r .1) })
 
-    of-o : l ∈ map (line kindO) (s .occupancies) → Shaped l
-    of-o m = let r = map-mem (line kindO) l (s .occupancies) m in rw (r .2) (record { known = inr (inr (inl refl)); count = w .three (r .0) (r .1) })
+shaped-wide : (ks : List Kind) (gs : List (List (List ℕ))) → AllShaped (linesFrom ks gs) → AllWide ks gs
+shaped-wide [] gs s = tt
+shaped-wide (k ∷ ks) [] s = tt
+shaped-wide (k ∷ ks) (g ∷ gs) s = (
+  λ n m. s (line k n) (mem-left (line k n) (map (line k) g) (linesFrom ks gs) (mem-map (line k) n g m)) .count,
+  shaped-wide ks gs (λ l m. s l (mem-right l (map (line k) g) (linesFrom ks gs) m)),
+)
 
-shaped-widths : (s : Sheet) → AllShaped (sheetLines s) → Widths s
-shaped-widths s h =
-    let cs = map (line kindC) (s .corridors) in
-    let os = map (line kindO) (s .occupancies) in
+-- the numbers of a sheet's groups, and back
+abbrev pub numbersOfSheet : Sheet → Groups
+numbersOfSheet s = groups (s .head) (flat (s .corridors)) (flat (s .occupancies))
+
+-- the groups make whole lines
+pub record Whole (g : Groups) : Type 0 where
+  pub head-whole : length (g .head) ≡ width kindS
+  pub corridors-whole : length (g .corridors) % width kindC ≡ 0
+  pub occupancies-whole : length (g .occupancies) % width kindO ≡ 0
+
+pub whole-of : (g : Groups) → uneven g ≡ false → Whole g
+whole-of g q =
+    let a = or-false (not (eqb (length (g .head)) (width kindS)) || leftOver kindC (g .corridors)) (leftOver kindO (g .occupancies)) q in
+    let b = or-false (not (eqb (length (g .head)) (width kindS))) (leftOver kindC (g .corridors)) (a .0) in
     record {
-      seven = h (line kindS (s .head)) (inl refl) .count;
-      five = λ k m. h (line kindC k) (inr (mem-left (line kindC k) cs os (mem-map (line kindC) k (s .corridors) m))) .count;
-      three = λ k m. h (line kindO k) (inr (mem-right (line kindO k) cs os (mem-map (line kindO) k (s .occupancies) m))) .count;
+      head-whole = eqb-true (length (g .head)) (width kindS) (not-false (eqb (length (g .head)) (width kindS)) (b .0));
+      corridors-whole = eqb-true (length (g .corridors) % width kindC) 0 (not-false (eqb (length (g .corridors) % width kindC) 0) (b .1));
+      occupancies-whole = eqb-true (length (g .occupancies) % width kindO) 0 (not-false (eqb (length (g .occupancies) % width kindO) 0) (a .1));
     }
+
+of-whole : (g : Groups) → Whole g → uneven g ≡ false
+of-whole g w =
+    rw (
+      eq-eqb (length (g .head)) (width kindS) (w .head-whole),
+      eq-eqb (length (g .corridors) % width kindC) 0 (w .corridors-whole),
+      eq-eqb (length (g .occupancies) % width kindO) 0 (w .occupancies-whole),
+    )
+
+whole-wide : (g : Groups) → Whole g → AllWide kinds (groupsOf (sheetOfGroups g))
+whole-wide g w = (head, (rows-wide (width kindC) (g .corridors), (rows-wide (width kindO) (g .occupancies), tt)))
+  where
+    head : Wide (width kindS) (g .head ∷ [])
+    head n (inl e) = ap length e ∙ w .head-whole
+
+wide-whole : (s : Sheet) → AllWide kinds (groupsOf s) → Whole (numbersOfSheet s)
+wide-whole s (h, (c, (o, u))) =
+    record { head-whole = h (s .head) (inl refl); corridors-whole = flat-whole (width kindC) (s .corridors) c; occupancies-whole = flat-whole (width kindO) (s .occupancies) o }
+
+flat-sheet : (s : Sheet) → AllWide kinds (groupsOf s) → sheetOfGroups (numbersOfSheet s) ≡ s
+flat-sheet s (h, (c, (o, u))) =
+    ap₂ (λ (c o : List (List ℕ)). record { head = s .head; corridors = c; occupancies = o }) (rows-flat (width kindC) (s .corridors) (omega arith) c) (rows-flat (width kindO) (s .occupancies) (omega arith) o)
 
 -- the text t in the buffer
 abbrev pub writtenAll : List ℕ → List ℕ → WriteEnd
-writtenAll t out = record { answer = record { refusal = 0; line = 0; bytes = length t }; out = t ++ drop (length t) out }
-
--- the groups make whole lines
-pub record Whole (h cs os : List ℕ) : Type 0 where
-  pub seven : length h ≡ 7
-  pub five : length cs % 5 ≡ 0
-  pub three : length os % 3 ≡ 0
-
-abbrev pub groupsJudged : List ℕ → List ℕ → List ℕ → Outcome
-groupsJudged h cs os = judge [] (map some (sheetLines (sheetOfGroups h cs os)))
-
-pub whole-of : (h cs os : List ℕ) → not (eqb (length h) 7) || leftOver kindC cs || leftOver kindO os ≡ false → Whole h cs os
-whole-of h cs os q =
-    let a = or-false (not (eqb (length h) 7) || leftOver kindC cs) (leftOver kindO os) q in
-    let b = or-false (not (eqb (length h) 7)) (leftOver kindC cs) (a .0) in
-    record {
-      seven = eqb-true (length h) 7 (not-false (eqb (length h) 7) (b .0));
-      five = eqb-true (length cs % 5) 0 (not-false (eqb (length cs % 5) 0) (b .1));
-      three = eqb-true (length os % 3) 0 (not-false (eqb (length os % 3) 0) (a .1));
-    }
+writtenAll t out = writeEnd (record { refusal = 0; line = 0; bytes = length t }) (t ++ drop (length t) out)
 
 -- what a writer's answer 0 comes from
-record Accepted (h cs os out : List ℕ) : Type 0 where
-  whole : Whole h cs os
-  sheet : Sheet
-  judged : groupsJudged h cs os ≡ loaded sheet
-  end : writeCall h cs os out ≡ writtenAll (sheetText sheet) out
+record Accepted (g : Groups) (out : List ℕ) : Type 0 where
+  whole : Whole g
+  judged : judgedGroups g ≡ loaded (sheetOfGroups g)
+  passes : Passes [] (sheetLines (sheetOfGroups g))
+  end : writeGroups g out ≡ writtenAll (sheetText (sheetOfGroups g)) out
 
-pub whole-judged : (h cs os out : List ℕ) → Whole h cs os → writeCall h cs os out ≡ writeJudged (groupsJudged h cs os) out
-unfolding writeCall
-whole-judged h cs os out w = rw (eq-eqb (length h) 7 (w .seven), eq-eqb (length cs % 5) 0 (w .five), eq-eqb (length os % 3) 0 (w .three))
+pub whole-judged : (g : Groups) (out : List ℕ) → uneven g ≡ false → writeGroups g out ≡ told (writeRefused out) (written out) (judgedGroups g)
+unfolding writeGroups
+whole-judged g out e = rw e
 
-text-fits : (t out : List ℕ) → written t out .answer .refusal ≡ 0 → written t out ≡ writtenAll t out
-text-fits t out e = go (ltb (length out) (length t)) e
+pub write-uneven : (g : Groups) (out : List ℕ) → uneven g ≡ true → writeGroups g out ≡ writeRefused out 2 0
+unfolding writeGroups
+write-uneven g out e = rw e
+
+text-fits : (s : Sheet) (out : List ℕ) → written out s .answer .refusal ≡ 0 → written out s ≡ writtenAll (sheetText s) out
+unfolding written
+text-fits s out e = go (ltb (length out) (length (sheetText s))) e
   where
-    go : (b : Bool) → (pick b (writeRefused 12 0 out) (writtenAll t out)) .answer .refusal ≡ 0 → pick b (writeRefused 12 0 out) (writtenAll t out) ≡ writtenAll t out
+    go : (b : Bool) → (pick b (writeRefused out 12 0) (writtenAll (sheetText s) out)) .answer .refusal ≡ 0
+        → pick b (writeRefused out 12 0) (writtenAll (sheetText s) out) ≡ writtenAll (sheetText s) out
     go true e = absurd (omega arith)
     go false e = refl
 
-outcome-loaded : (h cs os out : List ℕ) (o : Outcome) → groupsJudged h cs os ≡ o → writeJudged o out .answer .refusal ≡ 0
-    → (s : Sheet) × (o ≡ loaded s) × (writeJudged o out ≡ writtenAll (sheetText s) out)
-outcome-loaded h cs os out (refused k n) q e =
-    absurd (omega (arith, e, judge-refused [] (map some (sheetLines (sheetOfGroups h cs os))) k n q))
-outcome-loaded h cs os out (loaded s) q e =
-    (s, refl, text-fits (sheetText s) out e)
+-- a judgement of groups is that of their sheet
+judged-sheet : (g : Groups) (s : Sheet) → judgedGroups g ≡ loaded s → Passes [] (sheetLines (sheetOfGroups g)) × (s ≡ sheetOfGroups g)
+unfolding judgedGroups
+judged-sheet g s e =
+    let j = judged-lines (sheetLines (sheetOfGroups g)) s e in
+    (j .0, j .1 ∙ sheet-lines (sheetOfGroups g))
 
-write-accepted : (h cs os out : List ℕ) → writeCall h cs os out .answer .refusal ≡ 0 → Accepted h cs os out
-unfolding writeCall
-write-accepted h cs os out e = go (not (eqb (length h) 7) || leftOver kindC cs || leftOver kindO os) refl e
+judged-refused : (g : Groups) (k n : ℕ) → judgedGroups g ≡ refused k n → 1 ≤ k
+unfolding judgedGroups
+judged-refused g k n e = judge-refused [] (map some (sheetLines (sheetOfGroups g))) k n e
+
+write-accepted : (g : Groups) (out : List ℕ) → writeGroups g out .answer .refusal ≡ 0 → Accepted g out
+write-accepted g out e = uneven-or (uneven g) refl
   where
-    go : (t : Bool) → not (eqb (length h) 7) || leftOver kindC cs || leftOver kindO os ≡ t
-        → (pick t (writeRefused 2 0 out) (writeJudged (groupsJudged h cs os) out)) .answer .refusal ≡ 0 → Accepted h cs os out
-    go true q e = absurd (omega arith)
-    go false q e =
-        let w = whole-of h cs os q in
-        let r = outcome-loaded h cs os out (groupsJudged h cs os) refl e in
-        record { whole = w; sheet = r .0; judged = r .1; end = whole-judged h cs os out w ∙ r .2 }
+    judged : (o : Outcome) → judgedGroups g ≡ o → uneven g ≡ false → told (writeRefused out) (written out) o .answer .refusal ≡ 0 → Accepted g out
+    judged (refused k n) q u h = absurd (omega (arith, h, judged-refused g k n q))
+    judged (loaded s) q u h =
+        let j = judged-sheet g s q in
+        record {
+          whole = whole-of g u;
+          judged = q ∙ ap loaded (j .1);
+          passes = j .0;
+          end = whole-judged g out u ∙ ap (told (writeRefused out) (written out)) q ∙ text-fits s out h ∙ ap (λ (k : Sheet). writtenAll (sheetText k) out) (j .1);
+        }
 
--- the groups of numbers and the sheet of them
-pub groups-widths : (h cs os : List ℕ) → Whole h cs os → Widths (sheetOfGroups h cs os)
-groups-widths h cs os w = record { seven = w .seven; five = rows-wide 5 cs; three = rows-wide 3 os }
-
-flat-sheet : (s : Sheet) → Widths s → sheetOfGroups (s .head) (flat (s .corridors)) (flat (s .occupancies)) ≡ s
-flat-sheet s w =
-    ap₂ (λ (c o : List (List ℕ)). record { head = s .head; corridors = c; occupancies = o }) (rows-flat 5 (s .corridors) (omega arith) (w .five)) (rows-flat 3 (s .occupancies) (omega arith) (w .three))
-
-widths-whole : (s : Sheet) → Widths s → Whole (s .head) (flat (s .corridors)) (flat (s .occupancies))
-widths-whole s w = record { seven = w .seven; five = flat-whole 5 (s .corridors) (w .five); three = flat-whole 3 (s .occupancies) (w .three) }
+    uneven-or : (b : Bool) → uneven g ≡ b → Accepted g out
+    uneven-or true q = absurd (omega (arith, e, ap (λ (w : WriteEnd). w .answer .refusal) (write-uneven g out q)))
+    uneven-or false q = judged (judgedGroups g) refl q (sym (ap (λ (w : WriteEnd). w .answer .refusal) (whole-judged g out q)) ∙ e)
 
 -- what bytes read as a sheet stand for
 pub record SheetOf (b : List ℕ) (s : Sheet) : Type 0 where
@@ -202,99 +229,109 @@ pub record SheetOf (b : List ℕ) (s : Sheet) : Type 0 where
 pub read-sheet : (b : List ℕ) (s : Sheet) → readOf b ≡ loaded s → SheetOf b s
 unfolding sheetText
 read-sheet b s e =
-    let j = judge-passes [] (textLines b) s (judge-read b s e) in
-    let u = lines-unread b (j .lines) (j .all-lines) in
+    let j = judge-passes [] (linesIn b) s (judge-read b s e) in
+    let u = lines-unread mostDigits kinds b (j .lines) (j .all-lines) in
     let z : sheetLines s ≡ j .lines = ap sheetLines (j .sheet) ∙ lines-sheet (j .lines) (u .0) (j .passes) (j .some-line) in
     record {
       shaped = subst (λ (ls : List Line). AllShaped ls) (sym z) (u .0);
       judged = ap (λ (ls : List Line). judge [] (map some ls)) z ∙ passes-judge [] (j .lines) (j .passes) (j .some-line) ∙ ap loaded (sym (j .sheet));
-      text = ap (λ (ls : List Line). bind ls lineText) z ∙ u .1;
+      text = ap (λ (ls : List Line). bind ls (lineText mostDigits)) z ∙ u .1;
     }
 
--- what was read is written as it stood
-pub read-write-sheet : (b : List ℕ) (s : Sheet) → readOf b ≡ loaded s → sheetText s ≡ b
-read-write-sheet b s e = read-sheet b s e .text
-
 -- what is written reads as itself
-pub write-read-sheet : (s : Sheet) → AllShaped (sheetLines s) → judge [] (map some (sheetLines s)) ≡ loaded s → readOf (sheetText s) ≡ loaded s
+pub write-read-sheet : (s : Sheet) → AllShaped (sheetLines s) → Passes [] (sheetLines s) → readOf (sheetText s) ≡ loaded s
 unfolding sheetText
-write-read-sheet s h e =
-    let p = judged-lines (sheetLines s) s e .0 in
+write-read-sheet s h p =
     read-judge (sheetText s) (text-bound (sheetLines s) h p (omega arith))
-    ∙ ap (judge []) (lines-back (sheetLines s) h (numbers-below (sheetLines s) h p))
-    ∙ e
+    ∙ ap (judge []) (lines-back mostDigits kinds (omega arith) sheet-letters (sheetLines s) h (numbers-below (sheetLines s) h p))
+    ∙ passes-judge [] (sheetLines s) p (omega arith)
+    ∙ ap loaded (sheet-lines s)
 
 -- the groups that the writer took are read again
-pub write-read-calls : (h cs os out : List ℕ) → writeCall h cs os out .answer .refusal ≡ 0
-    → readCall (take (writeCall h cs os out .answer .bytes) (writeCall h cs os out .out))
+pub write-read-calls : (g : Groups) (out : List ℕ) → writeGroups g out .answer .refusal ≡ 0
+    → readCall (take (writeGroups g out .answer .bytes) (writeGroups g out .out))
     ≡ record {
       refusal = 0;
       line = 0;
-      lines = 1 ∷ length cs / 5 ∷ length os / 3 ∷ [];
-      head = filled 7 h;
-      corridors = filled 1280 cs;
-      occupancies = filled 768 os;
+      lines = 1 ∷ length (g .corridors) / width kindC ∷ length (g .occupancies) / width kindO ∷ [];
+      head = filled (room kindS) (g .head);
+      corridors = filled (room kindC) (g .corridors);
+      occupancies = filled (room kindO) (g .occupancies);
     }
 unfolding readCall readAnswer
-write-read-calls h cs os out e =
-    let a = write-accepted h cs os out e in
-    let s = sheetOfGroups h cs os in
-    let z : a .sheet ≡ s = judged-lines (sheetLines s) (a .sheet) (a .judged) .1 ∙ sheet-lines s in
-    let r : readOf (sheetText s) ≡ loaded s = write-read-sheet s (widths-shaped s (groups-widths h cs os (a .whole))) (a .judged ∙ ap loaded z) in
+write-read-calls g out e =
+    let a = write-accepted g out e in
+    let s = sheetOfGroups g in
     ap (λ (w : WriteEnd). readCall (take (w .answer .bytes) (w .out))) (a .end)
-    ∙ ap readCall (take-append-seam (sheetText (a .sheet)) (drop (length (sheetText (a .sheet))) out))
-    ∙ ap (λ (k : Sheet). readCall (sheetText k)) z
-    ∙ ap readAnswer r
-    ∙ rw (rows-count 5 (length cs / 5) cs, rows-count 3 (length os / 3) os, flat-rows 5 cs (a .whole .five), flat-rows 3 os (a .whole .three))
+    ∙ ap readCall (take-append-seam (sheetText s) (drop (length (sheetText s)) out))
+    ∙ ap readAnswer (write-read-sheet s (wide-shaped kinds (groupsOf s) (λ k m. m) (whole-wide g (a .whole))) (a .passes))
+    ∙ rw (
+      rows-count (width kindC) (length (g .corridors) / width kindC) (g .corridors),
+      rows-count (width kindO) (length (g .occupancies) / width kindO) (g .occupancies),
+      flat-rows (width kindC) (g .corridors) (a .whole .corridors-whole),
+      flat-rows (width kindO) (g .occupancies) (a .whole .occupancies-whole),
+    )
+
+answer-groups : (s : Sheet) → AllWide kinds (groupsOf s) → groupsRead (readAnswer (loaded s)) ≡ numbersOfSheet s
+unfolding readAnswer
+answer-groups s (h, (c, (o, u))) =
+    rw (
+      filled-full (room kindS) (s .head) (h (s .head) (inl refl)),
+      take-filled (width kindC) (room kindC) (s .corridors) c,
+      take-filled (width kindO) (room kindO) (s .occupancies) o,
+    )
+
+-- and they are the groups that the writer took
+pub write-read-groups : (g : Groups) (out : List ℕ) → writeGroups g out .answer .refusal ≡ 0 → groupsRead (readCall (take (writeGroups g out .answer .bytes) (writeGroups g out .out))) ≡ g
+write-read-groups g out e =
+    let w = write-accepted g out e .whole in
+    let c : length (g .corridors) ≡ length (g .corridors) / width kindC * width kindC = omega (arith, w .corridors-whole, div-add-mod' (length (g .corridors)) (width kindC)) in
+    let o : length (g .occupancies) ≡ length (g .occupancies) / width kindO * width kindO = omega (arith, w .occupancies-whole, div-add-mod' (length (g .occupancies)) (width kindO)) in
+    ap groupsRead (write-read-calls g out e)
+    ∙ rw (
+      filled-full (room kindS) (g .head) (w .head-whole),
+      take-at (g .corridors) _ (length (g .corridors) / width kindC * width kindC) c,
+      take-at (g .occupancies) _ (length (g .occupancies) / width kindO * width kindO) o,
+    )
 
 -- the groups that the reader handed back are written as they stood
-pub read-write-calls : (b out : List ℕ) → readCall b .refusal ≡ 0 → length b ≤ length out
-    → writeCall
-    (readCall b .head)
-    (take (5 * number (readCall b .lines) 1) (readCall b .corridors))
-    (take (3 * number (readCall b .lines) 2) (readCall b .occupancies))
-    out
-    ≡ writtenAll b out
-unfolding readCall readAnswer
+pub read-write-calls : (b out : List ℕ) → readCall b .refusal ≡ 0 → length b ≤ length out → writeGroups (groupsRead (readCall b)) out ≡ writtenAll b out
+unfolding readCall judgedGroups written
 read-write-calls b out h l =
     let r = read-loaded b h in
     let s = r .0 in
     let a = read-sheet b s (r .1) in
-    let w = shaped-widths s (a .shaped) in
-    ap
-    (λ (o : Outcome). writeCall (readAnswer o .head) (take (5 * number (readAnswer o .lines) 1) (readAnswer o .corridors)) (take (3 * number (readAnswer o .lines) 2) (readAnswer o .occupancies)) out)
-    (r .1)
-    ∙ (rw (filled-full 7 (s .head) (w .seven), take-filled 5 1280 (s .corridors) (w .five), take-filled 3 768 (s .occupancies) (w .three)))
-    ∙ whole-judged (s .head) (flat (s .corridors)) (flat (s .occupancies)) out (widths-whole s w)
-    ∙ ap (λ (k : Sheet). writeJudged (judge [] (map some (sheetLines k))) out) (flat-sheet s w)
-    ∙ ap (λ (o : Outcome). writeJudged o out) (a .judged)
-    ∙ ap (λ (t : List ℕ). written t out) (a .text)
+    let w = shaped-wide kinds (groupsOf s) (a .shaped) in
+    ap (λ (o : Outcome). writeGroups (groupsRead (readAnswer o)) out) (r .1)
+    ∙ ap (λ (g : Groups). writeGroups g out) (answer-groups s w)
+    ∙ whole-judged (numbersOfSheet s) out (of-whole (numbersOfSheet s) (wide-whole s w))
+    ∙ ap (λ (k : Sheet). told (writeRefused out) (written out) (judge [] (map some (sheetLines k)))) (flat-sheet s w)
+    ∙ ap (told (writeRefused out) (written out)) (a .judged)
+    ∙ ap (λ (t : List ℕ). pick (ltb (length out) (length t)) (writeRefused out 12 0) (writtenAll t out)) (a .text)
     ∙ rw (le-ltb (length out) (length b) l)
 
 -- a sheet that was read is valid, and every valid sheet is read back from its text
 pub read-valid : (b : List ℕ) (s : Sheet) → readOf b ≡ loaded s → Valid s
 read-valid b s e =
-    let j = judge-passes [] (textLines b) s (judge-read b s e) in
-    let u = lines-unread b (j .lines) (j .all-lines) in
+    let j = judge-passes [] (linesIn b) s (judge-read b s e) in
+    let u = lines-unread mostDigits kinds b (j .lines) (j .all-lines) in
     subst Valid (sym (j .sheet)) (passes-valid (j .lines) (u .0) (j .passes) (j .some-line))
 
-pub valid-judged : (s : Sheet) → Valid s → judge [] (map some (sheetLines s)) ≡ loaded s
-valid-judged s v = passes-judge [] (sheetLines s) (valid-passes s v) (omega arith) ∙ ap loaded (sheet-lines s)
-
 pub valid-read : (s : Sheet) → Valid s → readOf (sheetText s) ≡ loaded s
-valid-read s v = write-read-sheet s (valid-shaped s v) (valid-judged s v)
+valid-read s v = write-read-sheet s (valid-shaped s v) (valid-passes s v)
 
 pub valid-text : (s : Sheet) → Valid s → length (sheetText s) ≤ mostBytes
 unfolding sheetText
 valid-text s v = text-bound (sheetLines s) (valid-shaped s v) (valid-passes s v) (omega arith)
 
 -- what the writer wrote is the text of a valid sheet, so it is at most 10,240 bytes
-pub write-bounded : (h cs os out : List ℕ) → writeCall h cs os out .answer .refusal ≡ 0 → writeCall h cs os out .answer .bytes ≤ mostBytes
+pub write-bounded : (g : Groups) (out : List ℕ) → writeGroups g out .answer .refusal ≡ 0 → writeGroups g out .answer .bytes ≤ mostBytes
 unfolding sheetText
-write-bounded h cs os out e =
-    let a = write-accepted h cs os out e in
-    let s = sheetOfGroups h cs os in
-    let j = judged-lines (sheetLines s) (a .sheet) (a .judged) in
-    let z : a .sheet ≡ s = j .1 ∙ sheet-lines s in
-    let l = text-bound (sheetLines s) (widths-shaped s (groups-widths h cs os (a .whole))) (j .0) (omega arith) in
-    omega (arith, ap (λ (w : WriteEnd). w .answer .bytes) (a .end), ap (λ (k : Sheet). length (bind (sheetLines k) lineText)) z, l)
+write-bounded g out e =
+    let a = write-accepted g out e in
+    let s = sheetOfGroups g in
+    omega (
+      arith,
+      ap (λ (w : WriteEnd). w .answer .bytes) (a .end),
+      text-bound (sheetLines s) (wide-shaped kinds (groupsOf s) (λ k m. m) (whole-wide g (a .whole))) (a .passes) (omega arith),
+    )

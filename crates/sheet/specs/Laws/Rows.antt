@@ -4,9 +4,9 @@ use mathlib.Core.Logic.{inl, inr}
 use mathlib.Core.List.{List, [], _∷_, _++_, map, append-nil}
 use Prim.Native.Nat.{ℕ, zero, suc, _+_, _*_, _-_, _/_, _%_, _≤_, _<_}
 use native.Mathlib.Omega.{arith}
-use native.Mathlib.Nat.{suc-mul, zero-mul, mul-comm, add-comm, div-add-mod', div-eq-of-eq-mul-left, mul-mod-left}
+use native.Mathlib.Nat.{suc-mul, zero-mul, add-comm, div-add-mod', div-eq-of-eq-mul-left, mul-mod-left}
 use lib.ListN.{length, getD, take, drop, length-append, length-drop, List·getD-append}
-use lib.Seq.{getD-append-add, take-all, take-at, drop-at, take-add, length-take-le}
+use lib.Seq.{getD-append-add, take-all, take-at, drop-at, take-add, drop-drop, length-take-le}
 use Rattle.sheet.specs.Lists.{_∈_, number, rows, bind, flat, filled}
 
 -- every row is of the width w
@@ -25,8 +25,16 @@ flat-length w (k ∷ l) h =
     ∙ add-comm w (length l * w)
     ∙ sym (suc-mul (length l) w)
 
+-- row i
+pub rows-at : (w n : ℕ) (l : List ℕ) (i : ℕ) → i < n → getD (rows w n l) i [] ≡ take w (drop (i * w) l)
+rows-at w zero l i h = absurd (omega arith)
+rows-at w (suc n) l zero h = rw zero-mul
+rows-at w (suc n) l (suc i) h =
+    let e : w + i * w ≡ suc i * w = omega (arith, suc-mul i w) in
+    rows-at w n (drop w l) i (omega arith) ∙ ap (take w) (drop-drop (i * w) w l ∙ ap (λ (m : ℕ). drop m l) e)
+
 -- the rows of the numbers are the rows
-rows-of-flat : (w : ℕ) (l : List (List ℕ)) → Wide w l → rows w (length l) (flat l) ≡ l
+pub rows-of-flat : (w : ℕ) (l : List (List ℕ)) → Wide w l → rows w (length l) (flat l) ≡ l
 rows-of-flat w [] h = refl
 rows-of-flat w (k ∷ l) h = rw (take-at k (flat l) w (h k (inl refl)), drop-at k (flat l) w (h k (inl refl)), rows-of-flat w l (λ j m. h j (inr m)))
 
@@ -37,7 +45,7 @@ pub flat-whole : (w : ℕ) (l : List (List ℕ)) → Wide w l → length (flat l
 flat-whole w l h = rw (flat-length w l h) (mul-mod-left (length l) w)
 
 -- the numbers of the rows are the numbers that make whole rows
-flat-of-rows : (w n : ℕ) (l : List ℕ) → flat (rows w n l) ≡ take (n * w) l
+pub flat-of-rows : (w n : ℕ) (l : List ℕ) → flat (rows w n l) ≡ take (n * w) l
 flat-of-rows w zero l = rw zero-mul
 flat-of-rows w (suc n) l =
     ap (λ (k : List ℕ). take w l ++ k) (flat-of-rows w n (drop w l))
@@ -48,7 +56,7 @@ pub flat-rows : (w : ℕ) (l : List ℕ) → length l % w ≡ 0 → flat (rows w
 flat-rows w l h = flat-of-rows w (length l / w) l ∙ take-all (length l / w * w) l (omega (arith, div-add-mod' (length l) w))
 
 -- whole rows are wide
-rows-wide-of : (w n : ℕ) (l : List ℕ) → n * w ≤ length l → Wide w (rows w n l)
+pub rows-wide-of : (w n : ℕ) (l : List ℕ) → n * w ≤ length l → Wide w (rows w n l)
 rows-wide-of w zero l h k m = absurd m
 rows-wide-of w (suc n) l h k (inl e) = let b : w ≤ length l = omega (arith, suc-mul n w) in ap length e ∙ length-take-le w l b
 rows-wide-of w (suc n) l h k (inr m) = rows-wide-of w n (drop w l) (omega (arith, suc-mul n w, length-drop w l)) k m
@@ -57,8 +65,8 @@ pub rows-wide : (w : ℕ) (l : List ℕ) → Wide w (rows w (length l / w) l)
 rows-wide w l = rows-wide-of w (length l / w) l (omega (arith, div-add-mod' (length l) w))
 
 -- the numbers of the rows, in front of zeros
-pub take-filled : (w n : ℕ) (l : List (List ℕ)) → Wide w l → take (w * length l) (filled n (flat l)) ≡ flat l
-take-filled w n l h = take-at (flat l) _ (w * length l) (flat-length w l h ∙ mul-comm (length l) w)
+pub take-filled : (w n : ℕ) (l : List (List ℕ)) → Wide w l → take (length l * w) (filled n (flat l)) ≡ flat l
+take-filled w n l h = take-at (flat l) _ (length l * w) (flat-length w l h)
 
 pub filled-full : (n : ℕ) (l : List ℕ) → length l ≡ n → filled n l ≡ l
 filled-full n l h =

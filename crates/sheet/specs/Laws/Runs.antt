@@ -1,26 +1,28 @@
 -- Lines of one kind in a row, for any kind, after lines of other kinds. If they are in shape and pass, they are a run: each has its count of
 -- numbers, within their limits and paired, there are not too many of them, and they ascend strictly by the key, since test 5 compares with the
--- line directly before, which is of the same kind. And a run is in shape and passes, where the kinds before are earlier ones.
-use mathlib.Core.Path.{_≡_, refl, sym, _∙_, ap, subst}
-use mathlib.Core.Logic.{_⊎_, inl, inr, _≢_}
-use mathlib.Core.Bool.{false, not}
-use mathlib.Core.List.{List, [], _∷_, _++_, map}
+-- line of its kind before it. And a run is in shape and passes, where the kinds before are earlier ones.
+use mathlib.Core.Path.{_≡_, refl, sym, _∙_, ap, ap₂, subst}
+use mathlib.Core.Logic.{_⊎_, inl, inr, ⊎-elim, _≢_}
+use mathlib.Core.Bool.{false}
+use mathlib.Core.List.{List, [], _∷_, _++_, map, append-assoc}
 use mathlib.Core.Option.{some}
 use Prim.Native.Nat.{ℕ, _+_, _≤_, _<_}
 use native.Mathlib.Omega.{arith}
 use lib.Dec.{ltb, eqb}
-use lib.ListN.{length, take, length-append, length-map}
-use borrow.Author.Tests.{leb-false, lt-leb, le-ltb, eq-eqb, ne-eqb, not-false}
-use Rattle.sheet.specs.Lists.{number, _∈_, filter, any, lexb, Before, Ascending}
+use lib.ListN.{length, take, length-append}
+use borrow.Author.Tests.{leb-false, lt-leb, le-ltb, ne-eqb, not-false}
+use Rattle.sheet.specs.Lists.{number, _∈_, any, lexb}
+use Rattle.sheet.specs.Sorting.{Before, Ascending}
 use Rattle.sheet.specs.Kinds.{Kind, kinds}
 use Rattle.sheet.specs.Lines.{Line, line}
-use Rattle.sheet.specs.Sheet.{isKind, group, placesIn, unpaired, latest, notAbove}
+use Rattle.sheet.specs.Sheet.{group, linesFrom, placesIn, unpaired, latest, notAbove}
 use Rattle.sheet.specs.Laws.Order.{lexb-true, Lex-lexb}
-use Rattle.sheet.specs.Laws.Members.{mem-append, mem-map, map-mem}
+use Rattle.sheet.specs.Laws.Members.{mem-left, mem-right, mem-append, mem-map, map-mem}
+use Rattle.sheet.specs.Laws.Kinds.{orderKey}
 use Rattle.sheet.specs.Laws.Judge.{Passes}
 use Rattle.sheet.specs.Laws.Shape.{Shaped, AllShaped}
-use Rattle.sheet.specs.Laws.Passed.{false-or, false-any, Passed, fault-passed, passed-fault, passes-inside, passes-paired, latest-last}
-use Rattle.sheet.specs.Laws.Groups.{group-append, group-own, group-none}
+use Rattle.sheet.specs.Laws.Passed.{false-or, false-any, Passed, fault-passed, passed-fault, passes-append, append-passes, passes-inside, passes-paired, latest-last}
+use Rattle.sheet.specs.Laws.Groups.{group-append, group-own, group-none, of-kind, group-other, later-kinds}
 use Rattle.sheet.specs.Laws.Limits.{Within, inside-within, within-inside}
 
 -- the numbers of the lines of kind k, on a sheet of p places
@@ -30,10 +32,6 @@ pub record Run (p : ℕ) (k : Kind) (ns : List (List ℕ)) : Type 0 where
   pub paired : (n : List ℕ) → n ∈ ns → unpaired (k .pair) n ≡ false
   pub few : length ns ≤ k .most
   pub ascend : Ascending (take (k .key)) ns
-
--- how many lines of the kind there are
-count-group : (k : Kind) (ls : List Line) → length (filter (isKind k) ls) ≡ length (group k ls)
-count-group k ls = sym (length-map (filter (isKind k) ls) (λ l. l .numbers))
 
 one-more : (k : Kind) (before : List Line) (n : List ℕ) → length (group k (before ++ (line k n ∷ []))) ≡ length (group k before) + 1
 one-more k before n =
@@ -45,34 +43,37 @@ few-lines : (before : List Line) (k : Kind) (ns : List (List ℕ)) → Passes be
 few-lines before k [] p h = omega arith
 few-lines before k (n ∷ ns) p h =
     let e = one-more k before n in
-    let f = leb-false (k .most) (length (filter (isKind k) before)) (fault-passed before (line k n) (p .0) .few) in
-    let g = count-group k before in
+    let f = leb-false (k .most) (length (group k before)) (fault-passed before (line k n) (p .0) .few) in
     let r = few-lines (before ++ (line k n ∷ [])) k ns (p .1) (omega arith) in
     omega arith
 
--- a line of the same kind directly before
-above-same : (k : Kind) (m n : List ℕ) → notAbove (some (line k m)) (line k n) ≡ not (lexb (take (k .key) m) (take (k .key) n))
-above-same k m n = rw (eq-eqb (k .order) (k .order) refl)
+-- the last line of the kind, where one more of it was put last
+latest-group : (before : List Line) (k : Kind) (n : List ℕ) → latest (group k (before ++ (line k n ∷ []))) ≡ some n
+latest-group before k n = rw (group-append k before (line k n ∷ []), group-own k (n ∷ [])) (latest-last (group k before) n)
 
 lines-ascend : (before : List Line) (k : Kind) (ns : List (List ℕ)) → Passes before (map (line k) ns) → Ascending (take (k .key)) ns
 lines-ascend before k [] p = tt
 lines-ascend before k (n ∷ []) p = (tt, tt)
 lines-ascend before k (m ∷ n ∷ ns) p =
-    let a : notAbove (latest (before ++ (line k m ∷ []))) (line k n) ≡ false = fault-passed (before ++ (line k m ∷ [])) (line k n) (p .1 .0) .above in
-    let b : notAbove (some (line k m)) (line k n) ≡ false = rw (latest-last before (line k m)) at a in (
-      lexb-true (take (k .key) m) (take (k .key) n) (not-false (lexb (take (k .key) m) (take (k .key) n)) (sym (above-same k m n) ∙ b)),
+    let a : notAbove (k .key) (latest (group k (before ++ (line k m ∷ [])))) n ≡ false = fault-passed (before ++ (line k m ∷ [])) (line k n) (p .1 .0) .above in
+    let b : notAbove (k .key) (some m) n ≡ false = rw (latest-group before k m) at a in (
+      lexb-true (take (k .key) m) (take (k .key) n) (not-false (lexb (take (k .key) m) (take (k .key) n)) b),
       lines-ascend (before ++ (line k m ∷ [])) k (n ∷ ns) (p .1),
     )
 
-pub passes-run : (before : List Line) (k : Kind) (ns : List (List ℕ)) → group k before ≡ [] → AllShaped (map (line k) ns) → Passes before (map (line k) ns)
-    → Run (placesIn (before ++ map (line k) ns)) k ns
-passes-run before k ns e s p =
+-- the lines of one kind, ahead of other lines
+pub passes-run : (before : List Line) (k : Kind) (ns : List (List ℕ)) (rest : List Line) → group k before ≡ [] → AllShaped (map (line k) ns)
+    → Passes before (map (line k) ns ++ rest) → Run (placesIn (before ++ (map (line k) ns ++ rest))) k ns
+passes-run before k ns rest e s q =
+    let own = passes-append before (map (line k) ns) rest q .0 in
+    let all = map (line k) ns ++ rest in
+    let there : (n : List ℕ) → n ∈ ns → line k n ∈ all = λ n m. mem-left (line k n) (map (line k) ns) rest (mem-map (line k) n ns m) in
     record {
       count = λ n m. s (line k n) (mem-map (line k) n ns m) .count;
-      within = λ n m. inside-within (placesIn (before ++ map (line k) ns)) (k .limits) n (passes-inside before (map (line k) ns) p (line k n) (mem-map (line k) n ns m));
-      paired = λ n m. passes-paired before (map (line k) ns) p (line k n) (mem-map (line k) n ns m);
-      few = let z = ap length e in let r = few-lines before k ns p (omega arith) in omega arith;
-      ascend = lines-ascend before k ns p;
+      within = λ n m. inside-within (placesIn (before ++ all)) (k .limits) n (passes-inside before all q (line k n) (there n m));
+      paired = λ n m. passes-paired before all q (line k n) (there n m);
+      few = let z = ap length e in let r = few-lines before k ns own (omega arith) in omega arith;
+      ascend = lines-ascend before k ns own;
     }
 
 -- the lines of a run are in shape, if the kind is one of the sheet's
@@ -95,7 +96,7 @@ run-tail p k n ns r =
 -- the first line of the run is above the line before, if that is of the same kind
 abbrev Starts : List Line → Kind → List (List ℕ) → Type 0
 Starts before k [] = Unit {0}
-Starts before k (n ∷ ns) = notAbove (latest before) (line k n) ≡ false
+Starts before k (n ∷ ns) = notAbove (k .key) (latest (group k before)) n ≡ false
 
 -- what the lines before leave to a run of kind k
 record Ready (before : List Line) (k : Kind) (ns : List (List ℕ)) : Type 0 where
@@ -116,7 +117,7 @@ ready-next before k n ns r a = record { orders = λ m i. order m (mem-append m b
 
     begins : (ns : List (List ℕ)) → Before (take (k .key)) n ns → Starts (before ++ (line k n ∷ [])) k ns
     begins [] h = tt
-    begins (m ∷ ns) h = rw (latest-last before (line k n), above-same k n m, Lex-lexb (take (k .key) n) (take (k .key) m) h)
+    begins (m ∷ ns) h = rw (latest-group before k n, Lex-lexb (take (k .key) n) (take (k .key) m) h)
 
 run-passes-after : (b : Line) (before : List Line) (k : Kind) (ns : List (List ℕ)) → 1 ≤ k .order → Ready (b ∷ before) k ns → Run (number (b .numbers) 0) k ns
     → Passes (b ∷ before) (map (line k) ns)
@@ -132,17 +133,11 @@ run-passes-after b before k (n ∷ ns) o a r = (
           placed =
               false-or (eqb (k .order) 0) (any (λ m. ltb (k .order) (m .kind .order)) (b ∷ before)) (ne-eqb (k .order) 0 (λ e. omega arith))
               (false-any (λ m. ltb (k .order) (m .kind .order)) (b ∷ before) (λ m i. le-ltb (k .order) (m .kind .order) (a .orders m i)));
-          few = lt-leb (k .most) (length (filter (isKind k) (b ∷ before))) (omega (arith, count-group k (b ∷ before), a .room));
+          few = lt-leb (k .most) (length (group k (b ∷ before))) (omega (arith, a .room));
           inside = within-inside (number (b .numbers) 0) (k .limits) n (r .within n (inl refl));
           paired = r .paired n (inl refl);
           above = a .begins;
         }
-
--- no line before is of the kind
-above-other : (before : List Line) (k : Kind) (n : List ℕ) → ((m : Line) → m ∈ before → m .kind .order ≢ k .order) → notAbove (latest before) (line k n) ≡ false
-above-other [] k n f = refl
-above-other (l ∷ []) k n f = rw (ne-eqb (l .kind .order) (k .order) (f l (inl refl)))
-above-other (l ∷ m ∷ ls) k n f = above-other (m ∷ ls) k n (λ j i. f j (inr i))
 
 -- after lines of earlier kinds, at least one, every run passes
 pub run-passes : (b : Line) (before : List Line) (k : Kind) (ns : List (List ℕ)) → ((m : Line) → m ∈ (b ∷ before) → m .kind .order < k .order)
@@ -161,4 +156,50 @@ run-passes b before k ns f r =
 
     begins : (ns : List (List ℕ)) → Starts (b ∷ before) k ns
     begins [] = tt
-    begins (n ∷ ns) = above-other (b ∷ before) k n other
+    begins (n ∷ ns) = rw (group-none k (b ∷ before) other)
+
+-- runs of one kind each, in the order of kinds
+abbrev pub AllRuns : ℕ → List Kind → List (List (List ℕ)) → Type 0
+AllRuns p [] gs = Unit {0}
+AllRuns p (k ∷ ks) [] = Unit {0}
+AllRuns p (k ∷ ks) (g ∷ gs) = Run p k g × AllRuns p ks gs
+
+-- lines that pass are such runs
+passes-runs-after : (p : ℕ) (before : List Line) (ks : List Kind) (gs : List (List (List ℕ))) → Ascending orderKey ks → ((k : Kind) → k ∈ ks → group k before ≡ [])
+    → AllShaped (linesFrom ks gs) → Passes before (linesFrom ks gs) → placesIn (before ++ linesFrom ks gs) ≡ p → AllRuns p ks gs
+passes-runs-after p before [] gs a f s q e = tt
+passes-runs-after p before (k ∷ ks) [] a f s q e = tt
+passes-runs-after p before (k ∷ ks) (g ∷ gs) a f s q e = (
+  subst (λ (n : ℕ). Run n k g) e (passes-run before k g (linesFrom ks gs) (f k (inl refl)) (λ l i. s l (mem-left l (map (line k) g) (linesFrom ks gs) i)) q),
+  passes-runs-after p (before ++ map (line k) g) ks gs (a .1) none-yet (λ l i. s l (mem-right l (map (line k) g) (linesFrom ks gs) i))
+      (passes-append before (map (line k) g) (linesFrom ks gs) q .1)
+      (ap placesIn (append-assoc before (map (line k) g) (linesFrom ks gs)) ∙ e),
+)
+  where
+    none-yet : (j : Kind) → j ∈ ks → group j (before ++ map (line k) g) ≡ []
+    none-yet j m =
+        group-append j before (map (line k) g)
+        ∙ ap₂ (λ (x y : List (List ℕ)). x ++ y) (f j (inr m)) (group-other j k g (λ d. omega (arith, later-kinds k ks a j m)))
+
+pub passes-runs : (ks : List Kind) (gs : List (List (List ℕ))) → Ascending orderKey ks → AllShaped (linesFrom ks gs) → Passes [] (linesFrom ks gs)
+    → AllRuns (placesIn (linesFrom ks gs)) ks gs
+passes-runs ks gs a s q = passes-runs-after (placesIn (linesFrom ks gs)) [] ks gs a (λ k m. refl) s q refl
+
+-- the lines of such runs are in shape, and pass after lines of earlier kinds
+pub runs-shaped : (p : ℕ) (ks : List Kind) (gs : List (List (List ℕ))) → ((k : Kind) → k ∈ ks → k ∈ kinds) → AllRuns p ks gs → AllShaped (linesFrom ks gs)
+runs-shaped p [] gs f r l m = absurd m
+runs-shaped p (k ∷ ks) [] f r l m = absurd m
+runs-shaped p (k ∷ ks) (g ∷ gs) f r l m =
+    ⊎-elim (run-shaped p k g (f k (inl refl)) (r .0) l) (runs-shaped p ks gs (λ j i. f j (inr i)) (r .1) l) (mem-append l (map (line k) g) (linesFrom ks gs) m)
+
+pub runs-pass : (b : Line) (before : List Line) (ks : List Kind) (gs : List (List (List ℕ))) → Ascending orderKey ks
+    → ((m : Line) → m ∈ (b ∷ before) → (k : Kind) → k ∈ ks → m .kind .order < k .order) → AllRuns (number (b .numbers) 0) ks gs → Passes (b ∷ before) (linesFrom ks gs)
+runs-pass b before [] gs a f r = tt
+runs-pass b before (k ∷ ks) [] a f r = tt
+runs-pass b before (k ∷ ks) (g ∷ gs) a f r =
+    append-passes (b ∷ before) (map (line k) g) (linesFrom ks gs) (run-passes b before k g (λ m i. f m i k (inl refl)) (r .0))
+    (runs-pass b (before ++ map (line k) g) ks gs (a .1) after (r .1))
+  where
+    after : (m : Line) → m ∈ (b ∷ (before ++ map (line k) g)) → (j : Kind) → j ∈ ks → m .kind .order < j .order
+    after m i j n =
+        ⊎-elim (λ h. f m h j (inr n)) (λ h. subst (λ (x : Kind). x .order < j .order) (sym (of-kind k g m h)) (later-kinds k ks a j n)) (mem-append m (b ∷ before) (map (line k) g) i)

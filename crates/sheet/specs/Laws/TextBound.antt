@@ -6,24 +6,27 @@ use mathlib.Core.Bool.{Bool, true, false}
 use mathlib.Core.List.{List, [], _∷_, _++_, map}
 use Prim.Native.Nat.{ℕ, zero, suc, _+_, _*_, _/_, _%_, _≤_}
 use native.Mathlib.Omega.{arith}
+use native.Mathlib.Nat.{mul-le-mul-right}
 use lib.Dec.{ltb}
 use lib.ListN.{length, length-append}
 use borrow.Author.Tests.{ltb-true, ltb-false}
 use Rattle.sheet.specs.Lists.{pick, bind}
-use Rattle.sheet.specs.Decimal.{digitsOf, most}
-use Rattle.sheet.specs.Kinds.{Limit, Kind, kindS, kindC, kindO}
+use Rattle.sheet.specs.Decimal.{digitsOf, mostDigits}
+use Rattle.sheet.specs.Kinds.{Limit, Kind, kinds}
 use Rattle.sheet.specs.Lines.{Line, line}
-use Rattle.sheet.specs.Sheet.{Sheet, places, sheetOf, sheetLines}
+use Rattle.sheet.specs.Sheet.{places, sheetOf, groupsOf, linesFrom, mostBytes}
 use Rattle.sheet.specs.Text.{numberText, lineText}
 use Rattle.sheet.specs.Laws.Judge.{Passes}
 use Rattle.sheet.specs.Laws.Shape.{AllShaped}
+use Rattle.sheet.specs.Laws.Printed.{number-length, printed-length}
 use Rattle.sheet.specs.Laws.Limits.{Within, highest, at-most-highest}
 use Rattle.sheet.specs.Laws.Groups.{lines-sheet}
-use Rattle.sheet.specs.Laws.Runs.{Run, run-tail}
-use Rattle.sheet.specs.Laws.Valid.{Runs, runs-valid, lines-runs}
+use Rattle.sheet.specs.Laws.Binds.{bind-append}
+use Rattle.sheet.specs.Laws.Runs.{Run, run-tail, AllRuns}
+use Rattle.sheet.specs.Laws.Valid.{runs-valid, lines-runs}
 
 -- a larger number has no fewer digits
-pub digits-grow : (k m n : ℕ) → m ≤ n → length (digitsOf k m) ≤ length (digitsOf k n)
+digits-grow : (k m n : ℕ) → m ≤ n → length (digitsOf k m) ≤ length (digitsOf k n)
 unfolding digitsOf
 digits-grow zero m n h = omega arith
 digits-grow (suc k) m n h = go (ltb m 10) (ltb n 10) refl refl (digits-grow k (m / 10) (n / 10) tenths)
@@ -45,60 +48,58 @@ digits-grow (suc k) m n h = go (ltb m 10) (ltb n 10) refl refl (digits-grow k (m
 unfoldable numbersRoom : List Limit → ℕ
 unfolding digitsOf
 numbersRoom [] = 0
-numbersRoom (x ∷ xs) = suc (length (digitsOf most (highest x))) + numbersRoom xs
+numbersRoom (x ∷ xs) = suc (length (digitsOf mostDigits (highest x))) + numbersRoom xs
 
 unfoldable lineRoom : Kind → ℕ
 unfolding numbersRoom
 lineRoom k = 2 + numbersRoom (k .limits)
 
-numbers-text : (p : ℕ) → p ≤ 64 → (xs : List Limit) (ns : List ℕ) → length ns ≡ length xs → Within p xs ns → length (bind ns numberText) ≤ numbersRoom xs
-unfolding numbersRoom numberText
+numbers-text : (p : ℕ) → p ≤ 64 → (xs : List Limit) (ns : List ℕ) → length ns ≡ length xs → Within p xs ns → length (bind ns (numberText mostDigits)) ≤ numbersRoom xs
+unfolding numbersRoom
 numbers-text p h xs [] e w = omega arith
 numbers-text p h [] (n ∷ ns) e w = absurd (omega arith)
 numbers-text p h (x ∷ xs) (n ∷ ns) e w =
-    let a = length-append (numberText n) (bind ns numberText) in
-    let b = digits-grow most n (highest x) (at-most-highest p h x n (w .0)) in
+    let a = length-append (numberText mostDigits n) (bind ns (numberText mostDigits)) in
+    let b = digits-grow mostDigits n (highest x) (at-most-highest p h x n (w .0)) in
     let c = numbers-text p h xs ns (omega arith) (w .1) in
-    omega arith
+    omega (arith, number-length mostDigits n)
 
 line-text : (p : ℕ) → p ≤ 64 → (l : Line) → length (l .numbers) ≡ length (l .kind .limits) → Within p (l .kind .limits) (l .numbers)
-    → length (lineText l) ≤ lineRoom (l .kind)
+    → length (lineText mostDigits l) ≤ lineRoom (l .kind)
 unfolding lineRoom lineText
-line-text p h l e w =
-    let a = length-append (bind (l .numbers) numberText) (10 ∷ []) in
-    let b = numbers-text p h (l .kind .limits) (l .numbers) e w in
-    omega arith
+line-text p h l e w = omega (arith, printed-length mostDigits (l .kind .letter) (l .numbers), numbers-text p h (l .kind .limits) (l .numbers) e w)
 
--- the text of lines one after another
-texts-append : (ls ms : List Line) → length (bind (ls ++ ms) lineText) ≡ length (bind ls lineText) + length (bind ms lineText)
-texts-append [] ms = omega arith
-texts-append (l ∷ ls) ms =
-    let a = length-append (lineText l) (bind (ls ++ ms) lineText) in
-    let b = length-append (lineText l) (bind ls lineText) in
-    let c = texts-append ls ms in
-    omega arith
-
-run-text : (p : ℕ) → p ≤ 64 → (k : Kind) (ns : List (List ℕ)) → Run p k ns → length (bind (map (line k) ns) lineText) ≤ length ns * lineRoom k
+run-text : (p : ℕ) → p ≤ 64 → (k : Kind) (ns : List (List ℕ)) → Run p k ns → length (bind (map (line k) ns) (lineText mostDigits)) ≤ length ns * lineRoom k
 run-text p h k [] r = omega arith
 run-text p h k (n ∷ ns) r =
-    let a = length-append (lineText (line k n)) (bind (map (line k) ns) lineText) in
+    let a = length-append (lineText mostDigits (line k n)) (bind (map (line k) ns) (lineText mostDigits)) in
     let b = line-text p h (line k n) (r .count n (inl refl)) (r .within n (inl refl)) in
     let c = run-text p h k ns (run-tail p k n ns r) in
     omega arith
 
-runs-text : (s : Sheet) → Runs s → length (bind (sheetLines s) lineText) ≤ 10017
+-- the most bytes of the lines of these kinds
+unfoldable textRoom : List Kind → ℕ
 unfolding lineRoom
-runs-text s r =
-    let v = runs-valid s r in
-    let h = run-text (places s) (v .most-places) kindS (s .head ∷ []) (r .head) in
-    let c = run-text (places s) (v .most-places) kindC (s .corridors) (r .corridors) in
-    let o = run-text (places s) (v .most-places) kindO (s .occupancies) (r .occupancies) in
-    let a = texts-append (map (line kindS) (s .head ∷ [])) (map (line kindC) (s .corridors) ++ map (line kindO) (s .occupancies)) in
-    let b = texts-append (map (line kindC) (s .corridors)) (map (line kindO) (s .occupancies)) in
-    omega (arith, r .corridors .few, r .occupancies .few)
+textRoom [] = 0
+textRoom (k ∷ ks) = k .most * lineRoom k + textRoom ks
 
-pub text-bound : (ls : List Line) → AllShaped ls → Passes [] ls → 1 ≤ length ls → length (bind ls lineText) ≤ 10240
+runs-text : (p : ℕ) → p ≤ 64 → (ks : List Kind) (gs : List (List (List ℕ))) → AllRuns p ks gs → length (bind (linesFrom ks gs) (lineText mostDigits)) ≤ textRoom ks
+unfolding textRoom
+runs-text p h [] gs r = omega arith
+runs-text p h (k ∷ ks) [] r = omega arith
+runs-text p h (k ∷ ks) (g ∷ gs) r =
+    let a = ap length (bind-append (lineText mostDigits) (map (line k) g) (linesFrom ks gs)) in
+    let b = length-append (bind (map (line k) g) (lineText mostDigits)) (bind (linesFrom ks gs) (lineText mostDigits)) in
+    omega (arith, a, b, run-text p h k g (r .0), runs-text p h ks gs (r .1), mul-le-mul-right (lineRoom k) (r .0 .few))
+
+-- the longest sheet
+text-room : textRoom kinds ≡ 10017
+unfolding textRoom
+text-room = refl
+
+pub text-bound : (ls : List Line) → AllShaped ls → Passes [] ls → 1 ≤ length ls → length (bind ls (lineText mostDigits)) ≤ mostBytes
 text-bound ls f p h =
-    let t = runs-text (sheetOf ls) (lines-runs ls f p h) in
-    let q = ap (λ (k : List Line). length (bind k lineText)) (lines-sheet ls f p h) in
-    omega arith
+    let s = sheetOf ls in
+    let r = lines-runs ls f p h in
+    let q = ap (λ (k : List Line). length (bind k (lineText mostDigits))) (lines-sheet ls f p h) in
+    omega (arith, runs-text (places s) (runs-valid s r .most-places) kinds (groupsOf s) r, q, text-room)

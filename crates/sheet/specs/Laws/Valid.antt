@@ -2,51 +2,29 @@
 -- sheet, of one kind each (Laws.Runs): what remains is that a run of C lines, say, says of its numbers what a valid sheet says of corridors.
 -- Also: no number of lines that pass has more than five digits.
 use mathlib.Core.Path.{_≡_, refl, sym, _∙_, ap, subst}
-use mathlib.Core.Logic.{_⊎_, inl, inr}
+use mathlib.Core.Logic.{inl}
 use mathlib.Core.Bool.{false}
-use mathlib.Core.List.{List, [], _∷_, _++_, map}
+use mathlib.Core.List.{List, [], _∷_}
 use Prim.Native.Nat.{ℕ, _≤_, _<_}
 use native.Mathlib.Omega.{arith}
 use lib.ListN.{length}
 use borrow.Author.Tests.{ltb-false, eqb-false, le-ltb, ne-eqb}
 use Rattle.sheet.specs.Lists.{number, _∈_}
-use Rattle.sheet.specs.Kinds.{Kind, kindS, kindC, kindO}
+use Rattle.sheet.specs.Kinds.{Kind, kindS, kindC, kindO, kinds}
 use Rattle.sheet.specs.Lines.{Line, line}
-use Rattle.sheet.specs.Sheet.{Sheet, places, sheetOf, sheetLines, placesIn, unpaired}
+use Rattle.sheet.specs.Sheet.{Sheet, places, sheetOf, groupsOf, sheetLines, placesIn, unpaired}
 use Rattle.sheet.specs.Valid.{ValidCorridor, ValidOccupancy, Valid}
-use Rattle.sheet.specs.Laws.Members.{mem-left, mem-right, mem-append}
+use Rattle.sheet.specs.Laws.Kinds.{kinds-ascend}
 use Rattle.sheet.specs.Laws.Judge.{Passes}
-use Rattle.sheet.specs.Laws.Shape.{Shaped, AllShaped}
-use Rattle.sheet.specs.Laws.Passed.{passes-append, append-passes, passes-inside, passed-fault}
+use Rattle.sheet.specs.Laws.Shape.{AllShaped}
+use Rattle.sheet.specs.Laws.Passed.{passes-inside, passed-fault}
 use Rattle.sheet.specs.Laws.Limits.{Within, inside-within, within-inside, within-costs, costs-within, from-position, to-position, five-digits, within-below}
-use Rattle.sheet.specs.Laws.Groups.{of-kind, group-other, lines-sheet}
-use Rattle.sheet.specs.Laws.Runs.{Run, passes-run, run-shaped, run-passes}
+use Rattle.sheet.specs.Laws.Groups.{later-kinds, lines-sheet}
+use Rattle.sheet.specs.Laws.Runs.{AllRuns, passes-runs, runs-shaped, runs-pass}
 
 -- the runs of a sheet
-pub record Runs (s : Sheet) : Type 0 where
-  pub head : Run (places s) kindS (s .head ∷ [])
-  pub corridors : Run (places s) kindC (s .corridors)
-  pub occupancies : Run (places s) kindO (s .occupancies)
-
-passes-runs : (s : Sheet) → AllShaped (sheetLines s) → Passes [] (sheetLines s) → Runs s
-passes-runs s f p =
-    let a = passes-append [] (h ∷ []) (cs ++ os) p in
-    let b = passes-append (h ∷ []) cs os (a .1) in
-    record {
-      head = passes-run [] kindS (s .head ∷ []) refl (λ l m. f l (mem-left l (h ∷ []) (cs ++ os) m)) (a .0);
-      corridors = passes-run (h ∷ []) kindC (s .corridors) refl (λ l m. f l (inr (mem-left l cs os m))) (b .0);
-      occupancies =
-          passes-run (h ∷ cs) kindO (s .occupancies) (group-other kindO kindC (s .corridors) (omega arith)) (λ l m. f l (inr (mem-right l cs os m))) (b .1);
-    }
-  where
-    h : Line
-    h = line kindS (s .head)
-
-    cs : List Line
-    cs = map (line kindC) (s .corridors)
-
-    os : List Line
-    os = map (line kindO) (s .occupancies)
+abbrev pub Runs : Sheet → Type 0
+Runs s = AllRuns (places s) kinds (groupsOf s)
 
 -- what a valid sheet says of its S line
 record ValidHead (h : List ℕ) : Type 0 where
@@ -94,8 +72,8 @@ occupancy-valid s (a ∷ b ∷ []) e w u = absurd (omega arith)
 occupancy-valid s (a ∷ b ∷ c ∷ r) e w u = record { three = e; place = w .0; in-day = w .1 .1 .0 .1; ordered = ltb-false c b u }
 
 pub runs-valid : (s : Sheet) → Runs s → Valid s
-runs-valid s r =
-    let h = head-valid (s .head) (r .head .count (s .head) (inl refl)) (r .head .within (s .head) (inl refl)) in
+runs-valid s (rs, (rc, (ro, u))) =
+    let h = head-valid (s .head) (rs .count (s .head) (inl refl)) (rs .within (s .head) (inl refl)) in
     record {
       seven = h .seven;
       some-place = h .some-place;
@@ -104,18 +82,18 @@ runs-valid s r =
       start-place = h .start-place;
       goal-place = h .goal-place;
       wait = h .wait;
-      corridors = λ k m. corridor-valid s k (r .corridors .count k m) (r .corridors .within k m) (r .corridors .paired k m);
-      most-corridors = r .corridors .few;
-      corridors-ascend = r .corridors .ascend;
-      occupancies = λ o m. occupancy-valid s o (r .occupancies .count o m) (r .occupancies .within o m) (r .occupancies .paired o m);
-      most-occupancies = r .occupancies .few;
-      occupancies-ascend = r .occupancies .ascend;
+      corridors = λ k m. corridor-valid s k (rc .count k m) (rc .within k m) (rc .paired k m);
+      most-corridors = rc .few;
+      corridors-ascend = rc .ascend;
+      occupancies = λ o m. occupancy-valid s o (ro .count o m) (ro .within o m) (ro .paired o m);
+      most-occupancies = ro .few;
+      occupancies-ascend = ro .ascend;
     }
 
 pub lines-runs : (ls : List Line) → AllShaped ls → Passes [] ls → 1 ≤ length ls → Runs (sheetOf ls)
 lines-runs ls f p h =
     let e = lines-sheet ls f p h in
-    passes-runs (sheetOf ls) (subst AllShaped (sym e) f) (subst (Passes []) (sym e) p)
+    passes-runs kinds (groupsOf (sheetOf ls)) kinds-ascend (subst AllShaped (sym e) f) (subst (Passes []) (sym e) p)
 
 pub passes-valid : (ls : List Line) → AllShaped ls → Passes [] ls → 1 ≤ length ls → Valid (sheetOf ls)
 passes-valid ls f p h = runs-valid (sheetOf ls) (lines-runs ls f p h)
@@ -157,26 +135,28 @@ valid-occupancy s (a ∷ b ∷ []) g = absurd (omega arith)
 valid-occupancy s (a ∷ b ∷ c ∷ r) g = ((omega arith, (omega arith, (omega arith, tt))), le-ltb c b (g .ordered))
 
 pub valid-runs : (s : Sheet) → Valid s → Runs s
-valid-runs s g =
+valid-runs s g = (
+  record { count = count; within = within; paired = λ n m. refl; few = omega arith; ascend = (tt, tt) },
+  (
     record {
-      head = record { count = count; within = within; paired = λ n m. refl; few = omega arith; ascend = (tt, tt) };
-      corridors =
-          record {
-            count = λ k m. g .corridors k m .five;
-            within = λ k m. valid-corridor s k (g .corridors k m) .0;
-            paired = λ k m. valid-corridor s k (g .corridors k m) .1;
-            few = g .most-corridors;
-            ascend = g .corridors-ascend;
-          };
-      occupancies =
-          record {
-            count = λ o m. g .occupancies o m .three;
-            within = λ o m. valid-occupancy s o (g .occupancies o m) .0;
-            paired = λ o m. valid-occupancy s o (g .occupancies o m) .1;
-            few = g .most-occupancies;
-            ascend = g .occupancies-ascend;
-          };
-    }
+      count = λ k m. g .corridors k m .five;
+      within = λ k m. valid-corridor s k (g .corridors k m) .0;
+      paired = λ k m. valid-corridor s k (g .corridors k m) .1;
+      few = g .most-corridors;
+      ascend = g .corridors-ascend;
+    },
+    (
+      record {
+        count = λ o m. g .occupancies o m .three;
+        within = λ o m. valid-occupancy s o (g .occupancies o m) .0;
+        paired = λ o m. valid-occupancy s o (g .occupancies o m) .1;
+        few = g .most-occupancies;
+        ascend = g .occupancies-ascend;
+      },
+      tt,
+    ),
+  ),
+)
   where
     head : ValidHead (s .head)
     head =
@@ -197,31 +177,17 @@ valid-runs s g =
     within h (inl e) = rw e (valid-head (s .head) head)
 
 pub valid-shaped : (s : Sheet) → Valid s → AllShaped (sheetLines s)
-valid-shaped s g l (inl e) = run-shaped (places s) kindS (s .head ∷ []) (inl refl) (valid-runs s g .head) l (inl e)
-valid-shaped s g l (inr m) = go (mem-append l (map (line kindC) (s .corridors)) (map (line kindO) (s .occupancies)) m)
-  where
-    go : l ∈ map (line kindC) (s .corridors) ⊎ l ∈ map (line kindO) (s .occupancies) → Shaped l
-    go (inl m) = run-shaped (places s) kindC (s .corridors) (inr (inl refl)) (valid-runs s g .corridors) l m
-    go (inr m) = run-shaped (places s) kindO (s .occupancies) (inr (inr (inl refl))) (valid-runs s g .occupancies) l m
+valid-shaped s g = runs-shaped (places s) kinds (groupsOf s) (λ k m. m) (valid-runs s g)
 
 pub valid-passes : (s : Sheet) → Valid s → Passes [] (sheetLines s)
 valid-passes s g = (
   passed-fault [] h
-      (record { placed = refl; few = refl; inside = within-inside (places s) (kindS .limits) (s .head) (r .head .within (s .head) (inl refl)); paired = refl; above = refl }),
-  append-passes (h ∷ []) (map (line kindC) (s .corridors)) (map (line kindO) (s .occupancies))
-      (run-passes h [] kindC (s .corridors) head-first (r .corridors))
-      (run-passes h (map (line kindC) (s .corridors)) kindO (s .occupancies) all-earlier (r .occupancies)),
+      (record { placed = refl; few = refl; inside = within-inside (places s) (kindS .limits) (s .head) (valid-runs s g .0 .within (s .head) (inl refl)); paired = refl; above = refl }),
+  runs-pass h [] (kindC ∷ kindO ∷ []) (s .corridors ∷ s .occupancies ∷ []) (kinds-ascend .1) (λ m i k j. earlier m i k j) (valid-runs s g .1),
 )
   where
     h : Line
     h = line kindS (s .head)
 
-    r : Runs s
-    r = valid-runs s g
-
-    head-first : (m : Line) → m ∈ (h ∷ []) → m .kind .order < 1
-    head-first m (inl e) = omega (arith, ap (λ (l : Line). l .kind .order) e)
-
-    all-earlier : (m : Line) → m ∈ (h ∷ map (line kindC) (s .corridors)) → m .kind .order < 2
-    all-earlier m (inl e) = omega (arith, ap (λ (l : Line). l .kind .order) e)
-    all-earlier m (inr i) = omega (arith, ap (λ (k : Kind). k .order) (of-kind kindC (s .corridors) m i))
+    earlier : (m : Line) → m ∈ (h ∷ []) → (k : Kind) → k ∈ (kindC ∷ kindO ∷ []) → m .kind .order < k .order
+    earlier m (inl e) k j = subst (λ (l : Line). l .kind .order < k .order) (sym e) (later-kinds kindS (kindC ∷ kindO ∷ []) kinds-ascend k j)

@@ -1,13 +1,15 @@
--- `arrivals::fill::fill` meets its contract: the rows of the search and zeros after them, or zeros alone.
+-- `arrivals::fill::fill` meets its contract: after the rows, or instead of them, zeros.
 -- Assumes nothing.
+use native.Mathlib.Omega.{arith}
 use lib.ListN.{length}
 use borrow.Author.Needs.{needs}
-use Rattle.arrivals.specs.Inner.Table.{crowded-as, search-full, search-ok}
+use Rattle.arrivals.specs.Inner.Ending.{search-full, search-ok}
+use Rattle.arrivals.specs.Inner.Filling.{crowded-as}
 use Rattle.arrivals.proofs.fill.fill.Statement.{statement}
 use Rattle.arrivals.proofs.fill.fill.Tie as tie
 
 search-all-requires : tie.Need-search-all-requires
-search-all-requires c κs = search needs
+search-all-requires c κs = c .before .before .before .before .pre
 
 mul-clear-from : tie.Need-mul-clear-from
 mul-clear-from c = search needs
@@ -19,7 +21,7 @@ same-length : tie.Need-same-length
 same-length c = search needs
 
 returns : tie.Need-returns
-returns c = let r = c .before .before .before .before .before .before .before .search-all .ensures in search-ok _ _ _ _ _ _ (search needs) (search needs) (r .room) (r .done (c .before .before .before .before .if1 .taken)) (c .before .before .clear-from .ensures)
+returns c = let r = c .before .before .before .before .before .before .before .search-all .ensures in search-ok _ _ _ _ _ _ (search needs) (omega (arith, r .room)) (r .room) (r .done (c .before .before .before .before .if1 .taken)) (c .before .before .clear-from .ensures)
 
 clear-requires : tie.Need-clear-requires
 clear-requires c κs = search needs

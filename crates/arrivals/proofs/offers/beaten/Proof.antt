@@ -6,9 +6,11 @@ use mathlib.Core.Path.{subst, sym}
 use Prim.Native.Nat.{_-_, _≤_, ℕ}
 use native.Mathlib.Omega.{arith}
 use borrow.Author.Needs.{needs}
-use Rattle.arrivals.specs.Inner.Facts.{at-most-decided, fails, holds, no-of, yes-of}
-use Rattle.arrivals.specs.Inner.Group.{Beaten, tail-any, tail-none, tail-none-end, tail-none-more, tailOf}
+use Rattle.sheet.specs.Laws.Decided.{fails, holds, no-of, yes-of}
 use Rattle.costs.specs.Costs.{AtMost}
+use Rattle.arrivals.specs.Inner.Facts.{at-most-decided}
+use Rattle.arrivals.specs.Inner.Offering.{Beaten}
+use Rattle.arrivals.specs.Inner.Rows.{tail-any, tail-none, tail-none-end, tail-none-more, tailOf}
 use Rattle.arrivals.proofs.offers.beaten.Statement.{statement}
 use Rattle.arrivals.proofs.offers.beaten.Tie as tie
 

@@ -2,8 +2,9 @@
 -- waiting.
 -- Assumes nothing.
 use borrow.Author.Needs.{needs}
-use Rattle.arrivals.specs.Inner.Facts.{at-most-decided, fails, no-of, yes-of}
-use Rattle.arrivals.specs.Inner.Index.{lag-led, rest-led}
+use Rattle.sheet.specs.Laws.Decided.{fails, no-of, yes-of}
+use Rattle.arrivals.specs.Inner.Facts.{at-most-decided}
+use Rattle.arrivals.specs.Inner.Leaders.{lag-led, rest-led}
 use Rattle.arrivals.proofs.offers.led_group.Statement.{statement}
 use Rattle.arrivals.proofs.offers.led_group.Tie as tie
 
@@ -13,14 +14,14 @@ at-most-requires c κs = search needs
 sub-beaten : tie.Need-sub-beaten
 sub-beaten c = search needs
 
-minus-requires : tie.Need-minus-requires
-minus-requires c κs = yes-of (at-most-decided _ _ _ (c .before .at-most .ensures)) (c .if1 .taken)
+less-requires : tie.Need-less-requires
+less-requires c κs = yes-of (at-most-decided _ _ _ (c .before .at-most .ensures)) (c .if1 .taken)
 
 beaten-requires : tie.Need-beaten-requires
 beaten-requires c κs = search needs
 
 returns : tie.Need-returns
-returns c = rest-led _ _ _ (c .before .minus .ensures) (c .beaten .ensures)
+returns c = rest-led _ _ _ (c .before .less .ensures .1) (c .beaten .ensures)
 
 returns-2 : tie.Need-returns-2
 returns-2 c = fails (lag-led (no-of (at-most-decided _ _ _ (c .before .at-most .ensures)) (c .if1 .left)))
@@ -28,4 +29,4 @@ returns-2 c = fails (lag-led (no-of (at-most-decided _ _ _ (c .before .at-most .
 pub led-group-spec : {M : Type 1} → statement M
 led-group-spec =
     tie.close
-    (tie.spec at-most-requires sub-beaten minus-requires beaten-requires returns returns-2)
+    (tie.spec at-most-requires sub-beaten less-requires beaten-requires returns returns-2)

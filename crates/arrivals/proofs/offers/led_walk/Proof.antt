@@ -1,100 +1,60 @@
--- `arrivals::offers::led_walk` meets its contract: some row leads, or none does. The loop's invariant: no row of v at step s or later leads.
+-- `arrivals::offers::led_walk` meets its contract: the groups of the place are gone through from the newest. The loop's invariant: no row of it
+-- at step s or later leads g.
 -- Assumes nothing.
 use mathlib.Core.Path.{_≡_}
-use Prim.Native.Nat.{_*_, _+_, _-_, _<_, _≤_, ℕ}
+use Prim.Native.Nat.{_+_, _-_, _<_, _≤_, ℕ}
 use native.Mathlib.Omega.{arith}
 use lib.ListN.{length}
 use borrow.Author.Needs.{needs}
-use Rattle.arrivals.specs.Inner.Facts.{fails, holds, no-of, yes-of}
-use Rattle.arrivals.specs.Inner.Index.{group-leads, older-most, row-newest, unled-all, unled-more}
-use Rattle.arrivals.specs.Inner.Rows.{RowLeads, rowAt}
-use Rattle.arrivals.specs.Inner.Table.{since}
+use Rattle.sheet.specs.Laws.Decided.{fails, holds, no-of, yes-of}
+use Rattle.arrivals.specs.Inner.Entering.{RowLeadsAt}
+use Rattle.arrivals.specs.Inner.Index.{older-most, row-newest}
+use Rattle.arrivals.specs.Inner.Leaders.{group-leads, span-as, unled-all, unled-more}
+use Rattle.arrivals.specs.Rows.{rowAt}
 use Rattle.arrivals.proofs.offers.led_walk.Statement.{statement}
 use Rattle.arrivals.proofs.offers.led_walk.Tie as tie
 
 abbrev Inv-loop : tie.InvT-loop
-Inv-loop table n ix v t since wait g s₀ s = (s ≤ t + 1) × (t ≤ 255) × (32832 ≤ length ix) × ((i : ℕ) → i < n → rowAt table i .place ≡ v → s ≤ rowAt table i .step → RowLeads v t since wait g (rowAt table i) → ⊥)
+Inv-loop table n ix here g s₀ s = (s ≤ here .step .0 + 1) × (here .step .0 ≤ 255) × (32896 ≤ length ix) × ((i : ℕ) → i < n → rowAt table i .place ≡ here .place .0 → s ≤ rowAt table i .step → RowLeadsAt here g (rowAt table i) → ⊥)
 
 abbrev μ-loop : tie.MeasureT-loop
-μ-loop table n ix v t since wait g s₀ s = s
+μ-loop table n ix here g s₀ s = s
 
-add-s : tie.Need-add-s Inv-loop μ-loop
-add-s c = search needs
-
-mul-s : tie.Need-mul-s Inv-loop μ-loop
-mul-s c = search needs
-
-shared-slice-read-s : tie.Need-shared-slice-read-s Inv-loop μ-loop
-shared-slice-read-s c = omega (arith, c .before .before .before .pre .3 .size)
-
-cast-s : tie.Need-cast-s Inv-loop μ-loop
-cast-s c = omega (arith, c .shared-slice-known3 .given (32768 + c .before .before .before .args .v))
+newest-requires : tie.Need-newest-requires Inv-loop μ-loop
+newest-requires c κs = (c .before .before .pre .0 .inside, c .before .before .pre .1 .size)
 
 loop-holds : tie.Need-loop-holds Inv-loop μ-loop
-loop-holds c = (c .before .before .before .pre .3 .latest (c .before .before .before .args .v) (c .before .before .before .pre .2), c .before .before .before .pre .3 .now, c .before .before .before .pre .3 .size, λ i l p q d. let z = row-newest (c .before .before .before .pre .3) i (c .before .before .before .args .v) l p in omega arith)
+loop-holds c = let w = c .before .before .before .pre .1 in (omega (arith, c .newest .ensures, w .latest (c .before .before .before .args .here .place .0) (c .before .before .before .pre .0 .inside)), w .now, w .size, λ i l p q d. let z = row-newest w i (c .before .before .before .args .here .place .0) l p in omega (arith, c .newest .ensures))
 
 sub-s : tie.Need-sub-s Inv-loop μ-loop
 sub-s c = search needs
 
-sub-multiple : tie.Need-sub-multiple Inv-loop μ-loop
-sub-multiple c = search needs
+group-requires : tie.Need-group-requires Inv-loop μ-loop
+group-requires c κs = (c .before .before .before .before .before .before .pre .0 .inside, omega arith, c .before .before .loop .inv .2)
 
-cast-multiple : tie.Need-cast-multiple Inv-loop μ-loop
-cast-multiple c = search needs
+sub-late : tie.Need-sub-late Inv-loop μ-loop
+sub-late c = search needs
 
 multiple-requires : tie.Need-multiple-requires Inv-loop μ-loop
-multiple-requires c κs = search needs
-
-mul-lo : tie.Need-mul-lo Inv-loop μ-loop
-mul-lo c = search needs
-
-add-lo : tie.Need-add-lo Inv-loop μ-loop
-add-lo c = search needs
-
-mul-lo-2 : tie.Need-mul-lo-2 Inv-loop μ-loop
-mul-lo-2 c = search needs
-
-shared-slice-read-lo : tie.Need-shared-slice-read-lo Inv-loop μ-loop
-shared-slice-read-lo c = search needs
-
-cast-lo : tie.Need-cast-lo Inv-loop μ-loop
-cast-lo c = omega (arith, c .shared-slice-known4 .given ((c .before .before .before .loop .s - 1) * 64 + c .before .before .before .before .before .before .before .args .v))
-
-mul-hi : tie.Need-mul-hi Inv-loop μ-loop
-mul-hi c = search needs
-
-add-hi : tie.Need-add-hi Inv-loop μ-loop
-add-hi c = search needs
-
-add-hi-2 : tie.Need-add-hi-2 Inv-loop μ-loop
-add-hi-2 c = search needs
-
-mul-hi-2 : tie.Need-mul-hi-2 Inv-loop μ-loop
-mul-hi-2 c = search needs
-
-shared-slice-read-hi : tie.Need-shared-slice-read-hi Inv-loop μ-loop
-shared-slice-read-hi c = search needs
-
-cast-hi : tie.Need-cast-hi Inv-loop μ-loop
-cast-hi c = omega (arith, c .shared-slice-known5 .given (16384 + (c .before .before .before .before .loop .s - 1) * 64 + c .before .before .before .before .before .before .before .before .args .v))
+multiple-requires c κs = (omega arith, c .before .before .before .before .before .before .before .before .before .pre .0 .waits)
 
 led-group-requires : tie.Need-led-group-requires Inv-loop μ-loop
-led-group-requires c κs = let b = c .before .before .before .before .before .before .before .before .pre .3 .order (c .before .before .before .before .loop .s - 1) (c .before .before .before .before .before .before .before .before .args .v) (omega arith) (c .before .before .before .before .before .before .before .before .pre .2) in (b .0, omega (arith, b .1))
+led-group-requires c κs = let b = c .before .before .before .before .before .before .before .before .before .before .pre .1 .order (c .before .before .before .before .before .before .loop .s - 1) (c .before .before .before .before .before .before .before .before .before .before .args .here .place .0) (omega arith) (c .before .before .before .before .before .before .before .before .before .before .pre .0 .inside) in (omega (arith, c .before .before .before .group .ensures .0, c .before .before .before .group .ensures .1, b .0), omega (arith, c .before .before .before .group .ensures .1, b .1, c .before .before .before .before .before .before .before .before .before .before .pre .0 .room))
 
 returns : tie.Need-returns Inv-loop μ-loop
-returns c = holds (group-leads (c .before .before .before .before .before .before .before .before .before .before .pre .3) (c .before .before .before .before .before .before .loop .s - 1) (c .before .before .before .before .before .before .before .before .before .before .args .v) (c .before .before .before .before .before .before .before .before .before .before .args .since) (c .before .before .before .before .before .before .before .before .before .before .args .wait) (c .before .before .before .before .before .before .before .before .before .before .args .g) (c .before .before .before .before .before .before .before .before .before .before .pre .2) (c .before .before .before .before .multiple .result) (omega arith) (omega arith) (c .before .before .before .before .multiple .ensures) (yes-of (c .before .led-group .ensures) (c .if1 .taken)))
+returns c = let a = c .before .before .before .before .before .before .before .before .before .before .before .before .args in holds (group-leads (c .before .before .before .before .before .before .before .before .before .before .before .before .pre .1) (c .before .before .before .before .before .before .before .before .loop .s - 1) (a .here .place .0) (a .here .since .0) (a .here .wait) (a .g) (c .before .before .before .before .before .before .before .before .before .before .before .before .pre .0 .inside) (c .before .before .multiple .result) (omega arith) (omega arith) (c .before .before .multiple .ensures) (yes-of (span-as _ _ _ _ _ (c .before .before .before .before .before .group .ensures .0) (c .before .before .before .before .before .group .ensures .1) (c .before .led-group .ensures)) (c .if2 .taken)))
 
 older-requires : tie.Need-older-requires Inv-loop μ-loop
-older-requires c κs = search needs
+older-requires c κs = (c .before .before .before .before .before .before .before .before .before .before .before .before .pre .0 .inside, omega arith, c .before .before .before .before .before .before .before .before .loop .inv .2)
 
 loop-less : tie.Need-loop-less Inv-loop μ-loop
-loop-less c = let m = older-most (c .before .before .before .before .before .before .before .before .before .before .before .pre .3) (omega arith) (c .before .before .before .before .before .before .before .before .before .before .before .pre .2) (c .older .ensures) in omega arith
+loop-less c = let m = older-most (c .before .before .before .before .before .before .before .before .before .before .before .before .before .pre .1) (omega arith) (c .before .before .before .before .before .before .before .before .before .before .before .before .before .pre .0 .inside) (c .older .ensures) in omega arith
 
 loop-again : tie.Need-loop-again Inv-loop μ-loop
-loop-again c = let inv = c .before .before .before .before .before .before .before .loop .inv in let m = older-most (c .before .before .before .before .before .before .before .before .before .before .before .pre .3) (omega arith) (c .before .before .before .before .before .before .before .before .before .before .before .pre .2) (c .older .ensures) in let e : c .before .before .before .before .before .before .before .loop .s - 1 + 1 ≡ c .before .before .before .before .before .before .before .loop .s = omega arith in (omega arith, inv .1, inv .2, unled-more (c .before .before .before .before .before .before .before .before .before .before .before .pre .3) (c .before .before .before .before .before .before .before .loop .s - 1) (c .before .before .before .before .before .before .before .before .before .before .before .args .v) (c .before .before .before .before .before .before .before .before .before .before .before .args .since) (c .before .before .before .before .before .before .before .before .before .before .before .args .wait) (c .before .before .before .before .before .before .before .before .before .before .before .args .g) (c .before .before .before .before .before .before .before .before .before .before .before .pre .2) (c .before .before .before .before .before .multiple .result) _ (omega arith) (c .before .before .before .before .before .multiple .ensures) (no-of (c .before .before .led-group .ensures) (c .before .if1 .left)) (c .older .ensures) (λ i l p q d. inv .3 i l p (omega arith) d))
+loop-again c = let a = c .before .before .before .before .before .before .before .before .before .before .before .before .before .args in let inv = c .before .before .before .before .before .before .before .before .before .loop .inv in let m = older-most (c .before .before .before .before .before .before .before .before .before .before .before .before .before .pre .1) (omega arith) (c .before .before .before .before .before .before .before .before .before .before .before .before .before .pre .0 .inside) (c .older .ensures) in let e : c .before .before .before .before .before .before .before .before .before .loop .s ≡ c .before .before .before .before .before .before .before .before .before .loop .s - 1 + 1 = omega arith in (omega arith, inv .1, inv .2, unled-more (c .before .before .before .before .before .before .before .before .before .before .before .before .before .pre .1) (c .before .before .before .before .before .before .before .before .before .loop .s - 1) (a .here .place .0) (a .here .since .0) (a .here .wait) (a .g) (c .before .before .before .before .before .before .before .before .before .before .before .before .before .pre .0 .inside) (c .before .before .before .multiple .result) (c .older .result .0) (omega arith) (c .before .before .before .multiple .ensures) (no-of (span-as _ _ _ _ _ (c .before .before .before .before .before .before .group .ensures .0) (c .before .before .before .before .before .before .group .ensures .1) (c .before .before .led-group .ensures)) (c .before .if2 .left)) (c .older .ensures) (λ i l p q d. inv .3 i l p (omega arith) d))
 
 returns-2 : tie.Need-returns-2 Inv-loop μ-loop
-returns-2 c = fails (unled-all _ _ _ (c .before .loop .s) _ _ _ _ (omega arith) (c .before .loop .inv .3))
+returns-2 c = fails (unled-all _ _ _ (c .before .before .loop .s) _ _ _ _ (omega arith) (c .before .before .loop .inv .3))
 
 pub led-walk-spec : {M : Type 1} → statement M
 led-walk-spec =
@@ -102,26 +62,12 @@ led-walk-spec =
     (tie.spec
     Inv-loop
     μ-loop
-    add-s
-    mul-s
-    shared-slice-read-s
-    cast-s
+    newest-requires
     loop-holds
     sub-s
-    sub-multiple
-    cast-multiple
+    group-requires
+    sub-late
     multiple-requires
-    mul-lo
-    add-lo
-    mul-lo-2
-    shared-slice-read-lo
-    cast-lo
-    mul-hi
-    add-hi
-    add-hi-2
-    mul-hi-2
-    shared-slice-read-hi
-    cast-hi
     led-group-requires
     returns
     older-requires

@@ -5,7 +5,7 @@ use mathlib.Core.Path.{subst, sym}
 use Prim.Native.Nat.{ℕ}
 use native.Mathlib.Omega.{arith}
 use borrow.Author.Needs.{needs}
-use Rattle.arrivals.specs.Inner.Facts.{decided-as, fails, lex-decided}
+use Rattle.sheet.specs.Laws.Decided.{decided-as, fails, lex-decided}
 use Rattle.sheet.specs.Lists.{Lex}
 use Rattle.arrivals.proofs.offers.precedes.Statement.{statement}
 use Rattle.arrivals.proofs.offers.precedes.Tie as tie

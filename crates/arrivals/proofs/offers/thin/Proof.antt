@@ -1,12 +1,13 @@
--- `arrivals::offers::thin` meets its contract: the rows that g is nowhere above are dropped. The loop's invariant: of the first i rows k are
--- kept, from row a on, and the rows past them are as they were.
+-- `arrivals::offers::thin` meets its contract: row after row is kept or dropped. The loop's invariant: k of the first i rows are kept, and the
+-- rows past them are as they were.
 -- Assumes nothing.
 use mathlib.Core.Path.{_∙_, _≡_, refl}
 use Prim.Native.Nat.{_*_, _+_, _-_, _<_, _≤_, ℕ}
 use native.Mathlib.Omega.{arith}
 use lib.ListN.{getD, length}
 use borrow.Author.Needs.{needs}
-use Rattle.arrivals.specs.Inner.Group.{Thin, tailOf, thin-end, thin-more, thin-zero}
+use Rattle.arrivals.specs.Inner.Offering.{Thin, thin-end, thin-more, thin-zero}
+use Rattle.arrivals.specs.Inner.Rows.{tailOf}
 use Rattle.arrivals.proofs.offers.thin.Statement.{statement}
 use Rattle.arrivals.proofs.offers.thin.Tie as tie
 
@@ -29,13 +30,13 @@ loop-less : tie.Need-loop-less Inv-loop μ-loop
 loop-less c = search needs
 
 loop-again : tie.Need-loop-again Inv-loop μ-loop
-loop-again c = let inv = c .before .before .before .before .before .loop .inv in let p = c .before .before .thin-row .ensures in (omega (arith, p .most), omega arith, search needs, (λ j l. p .below j l ∙ inv .3 j l), (λ j l. p .above j (omega arith) ∙ inv .4 j (omega arith)), thin-more _ _ _ _ _ _ _ _ (inv .4) (inv .5) p)
+loop-again c = let inv = c .before .before .before .before .before .loop .inv in let t = c .before .before .thin-row .ensures in (omega (arith, t .most), omega arith, search needs, (λ j l. t .below j l ∙ inv .3 j l), (λ j l. t .above j (omega arith) ∙ inv .4 j (omega arith)), thin-more _ _ (c .before .before .before .before .before .loop .i) (c .before .before .before .before .before .loop .k) _ _ _ _ (inv .4) (inv .5) t)
 
 same-length : tie.Need-same-length Inv-loop μ-loop
-same-length c = search needs
+same-length c = c .before .loop .inv .2
 
 returns : tie.Need-returns Inv-loop μ-loop
-returns c = let inv = c .before .loop .inv in (omega arith, inv .3, thin-end _ _ _ _ _ _ _ (inv .1) (c .loop-test .left) (inv .5))
+returns c = let inv = c .before .loop .inv in record { most = omega arith; below = inv .3; thin = thin-end _ _ _ _ _ _ _ (inv .1) (c .loop-test .left) (inv .5) }
 
 pub thin-spec : {M : Type 1} → statement M
 thin-spec =

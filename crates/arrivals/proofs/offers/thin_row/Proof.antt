@@ -5,9 +5,10 @@ use mathlib.Core.List.{List}
 use mathlib.Core.Path.{subst, sym}
 use Prim.Native.Nat.{ℕ}
 use borrow.Author.Needs.{needs}
-use Rattle.arrivals.specs.Inner.Facts.{at-most-decided, no-of, yes-of}
-use Rattle.arrivals.specs.Inner.Group.{thinned-drop, thinned-keep, thinned-stay}
+use Rattle.sheet.specs.Laws.Decided.{no-of, yes-of}
 use Rattle.costs.specs.Costs.{AtMost}
+use Rattle.arrivals.specs.Inner.Facts.{at-most-decided}
+use Rattle.arrivals.specs.Inner.Offering.{thinned-drop, thinned-keep, thinned-stay}
 use Rattle.arrivals.proofs.offers.thin_row.Statement.{statement}
 use Rattle.arrivals.proofs.offers.thin_row.Tie as tie
 

@@ -1,24 +1,40 @@
--- `journeys::calls::lay_path` meets its contract: the walk back writes the journey's places, one more than its arrival step, and zeros follow.
+-- `journeys::calls::lay_path` meets its contract: the S line and the corridors stand at their places in the array, and zeros are put past the path.
 -- Assumes nothing.
 use mathlib.Core.Path.{sym, _∙_}
+use native.Mathlib.Omega.{arith}
+use lib.Seq.{length-take-le}
 use borrow.Author.Needs.{needs}
-use Rattle.sheet.specs.Calls.{sheetOfGroups}
-use Rattle.journeys.specs.Laws.Laid.{valid-group, walks-of, laid}
+use Rattle.sheet.specs.Laws.Store.{store-counts, store-length}
+use Rattle.journeys.specs.Laws.Laid.{few-corridors, corridors-inside, walks-of, laid}
 use Rattle.journeys.proofs.calls.lay_path.Statement.{statement}
 use Rattle.journeys.proofs.calls.lay_path.Tie as tie
 
-fill-since-requires : tie.Need-fill-since-requires
-fill-since-requires c κs =
-    let a = c .before .before .before .before .before .before .args in
-    valid-group (a .head .now) (a .corridors .now) (a .occupancies .now) (c .before .before .before .before .before .before .pre .1) (c .before .before .before .before .before .before .pre .2 .valid)
+shared-slice-read-e : tie.Need-shared-slice-read-e
+shared-slice-read-e c = omega (arith, store-counts (c .before .before .before .before .before .before .pre .derived .store))
 
-slice-aggregate-walk-back : tie.Need-slice-aggregate-walk-back
-slice-aggregate-walk-back c = sym (c .before .fill-since .ensures .size)
+cast-e : tie.Need-cast-e
+cast-e c = omega (arith, few-corridors (c .before .before .before .before .before .before .pre))
+
+mul-e : tie.Need-mul-e
+mul-e c = omega (arith, few-corridors (c .before .before .before .before .before .before .pre))
+
+add-e : tie.Need-add-e
+add-e c = omega (arith, few-corridors (c .before .before .before .before .before .before .pre))
+
+slice-aggregate-head : tie.Need-slice-aggregate-head
+slice-aggregate-head c = let z = c .before .before .before .before .before .before .before in sym (length-take-le 7 (z .args .all .now) (omega (arith, store-length (z .pre .derived .store))))
+
+sub-corridors : tie.Need-sub-corridors
+sub-corridors c = search needs
+
+part-corridors-start : tie.Need-part-corridors-start
+part-corridors-start c = search needs
+
+part-corridors-end : tie.Need-part-corridors-end
+part-corridors-end c = corridors-inside (c .before .before .before .before .before .before .before .pre)
 
 walk-back-requires : tie.Need-walk-back-requires
-walk-back-requires c κs =
-    let a = c .before .before .before .before .before .before .before .before .before .args in
-    record { sheet = sheetOfGroups (a .head .now) (a .corridors .now) (a .occupancies .now); walks = walks-of (a .head .now) (a .corridors .now) (a .occupancies .now) (a .n) (a .table .now) (a .arrival) (a .cost) (a .path .now) (c .before .before .before .before .before .before .before .before .before .pre .0) (c .before .before .before .before .before .before .before .before .before .pre .2) (c .before .before .fill-since .last .1 .0) (c .before .before .fill-since .ensures); room = c .before .before .before .before .before .before .before .before .before .pre .2 .room }
+walk-back-requires c κs = let z = c .before .before .before .before .before .before .before .before .before in record { sheet = _; walks = walks-of (z .pre); room = z .pre .room }
 
 add-clear-from : tie.Need-add-clear-from
 add-clear-from c = search needs
@@ -31,15 +47,21 @@ same-length c = search needs
 
 returns : tie.Need-returns
 returns c =
-    let a = c .before .before .before .before .before .before .before .before .before .before .before .before .before .before .before .before .args in
-    c .before .before .clear-from .ensures ∙ laid (a .head .now) (a .corridors .now) (a .occupancies .now) (a .n) (a .table .now) (a .arrival) (a .cost) (a .path .now) (c .before .before .before .before .before .before .before .before .before .before .before .before .before .before .before .before .pre .0) (c .before .before .before .before .before .before .before .before .before .before .before .before .before .before .before .before .pre .2) (c .before .before .before .before .before .before .before .before .before .fill-since .last .1 .0) (c .before .before .before .before .before .before .before .before .before .fill-since .ensures) (c .before .before .before .before .before .before .walk-back .last .1 .1 .1 .1 .1 .1 .1 .0) (c .before .before .before .before .before .before .walk-back .ensures)
+    let z = c .before .before .before .before .before .before .before .before .before .before .before .before .before .before .before .before in
+    c .before .before .clear-from .ensures ∙ laid (z .pre) (c .before .before .before .before .before .before .walk-back .last .1 .1 .1 .1 .1 .1 .1 .0) (c .before .before .before .before .before .before .walk-back .ensures)
 
 pub lay-path-spec : {M : Type 1} → statement M
 lay-path-spec =
     tie.close
     (tie.spec
-    fill-since-requires
-    slice-aggregate-walk-back
+    shared-slice-read-e
+    cast-e
+    mul-e
+    add-e
+    slice-aggregate-head
+    sub-corridors
+    part-corridors-start
+    part-corridors-end
     walk-back-requires
     add-clear-from
     clear-from-requires

@@ -1,8 +1,7 @@
 -- `journeys::compare::both_same` meets its contract: each early return fails by what it tested, and what is left is the comparison of the costs.
 -- Assumes nothing.
 use native.Mathlib.Omega.{arith}
-use borrow.Author.Needs.{needs}
-use Rattle.arrivals.specs.Inner.Facts.{fails}
+use Rattle.sheet.specs.Laws.Decided.{fails}
 use Rattle.journeys.proofs.Sameness.{both-decided}
 use Rattle.journeys.proofs.compare.both_same.Statement.{statement}
 use Rattle.journeys.proofs.compare.both_same.Tie as tie
@@ -16,17 +15,14 @@ returns-2 c = fails (λ h. c .if2 .taken (h .second-served))
 returns-3 : tie.Need-returns-3
 returns-3 c = fails (λ h. c .if3 .taken (h .lists .counts))
 
-cast-same-costs : tie.Need-cast-same-costs
-cast-same-costs c = search needs
-
 same-costs-requires : tie.Need-same-costs-requires
 same-costs-requires c κs =
-    let s = c .before .before .before .before .before .before .before .before .before .before in
-    (omega (arith, s .pre .0 (c .before .before .before .before .before .before .if1 .left)), omega (arith, s .pre .1 (c .before .before .before .before .if2 .left), c .before .if3 .left))
+    let s = c .before .before .before .before .before .before .before .before .before in
+    (omega (arith, s .pre .0 (c .before .before .before .before .before .if1 .left)), omega (arith, s .pre .1 (c .before .before .before .if2 .left), c .if3 .left))
 
 returns-4 : tie.Need-returns-4
-returns-4 c = both-decided _ _ _ (c .before .before .before .before .before .before .before .if1 .left) (c .before .before .before .before .before .if2 .left) (c .before .before .if3 .left) (c .same-costs .ensures)
+returns-4 c = both-decided _ _ _ (c .before .before .before .before .before .before .if1 .left) (c .before .before .before .before .if2 .left) (c .before .if3 .left) (c .same-costs .ensures)
 
 pub both-same-spec : {M : Type 1} → statement M
 both-same-spec =
-    tie.close (tie.spec returns returns-2 returns-3 cast-same-costs same-costs-requires returns-4)
+    tie.close (tie.spec returns returns-2 returns-3 same-costs-requires returns-4)

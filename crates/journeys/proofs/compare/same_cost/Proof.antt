@@ -4,7 +4,7 @@ use Prim.Native.Nat.{_≤_, _-_}
 use native.Mathlib.Omega.{arith}
 use borrow.Author.Count.{below-more}
 use borrow.Author.Needs.{needs}
-use Rattle.arrivals.specs.Inner.Facts.{holds, fails}
+use Rattle.sheet.specs.Laws.Decided.{holds, fails}
 use Rattle.journeys.specs.Inner.{SameFigures}
 use Rattle.journeys.proofs.compare.same_cost.Statement.{statement}
 use Rattle.journeys.proofs.compare.same_cost.Tie as tie

@@ -5,7 +5,7 @@ use native.Mathlib.Omega.{arith}
 use borrow.Author.Count.{below-more}
 use borrow.Author.Needs.{needs}
 use borrow.Author.Tests.{not-true, not-false}
-use Rattle.arrivals.specs.Inner.Facts.{holds, fails, yes-of, no-of}
+use Rattle.sheet.specs.Laws.Decided.{holds, fails, yes-of, no-of}
 use Rattle.journeys.specs.Inner.{SameRows}
 use Rattle.journeys.proofs.compare.same_costs.Statement.{statement}
 use Rattle.journeys.proofs.compare.same_costs.Tie as tie

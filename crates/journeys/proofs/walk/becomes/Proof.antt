@@ -4,7 +4,7 @@
 use Prim.Native.Nat.{ℕ, _-_, _≤_, _<_}
 use native.Mathlib.Omega.{arith}
 use borrow.Author.Count.{below-none, below-more}
-use Rattle.arrivals.specs.Inner.Facts.{holds, fails, yes-of, no-of}
+use Rattle.sheet.specs.Laws.Decided.{holds, fails, yes-of, no-of}
 use Rattle.journeys.specs.Inner.Walk.{Becomes}
 use borrow.Author.Needs.{needs}
 use Rattle.journeys.proofs.walk.becomes.Statement.{statement}

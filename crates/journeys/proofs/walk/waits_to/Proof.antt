@@ -8,7 +8,7 @@ use native.Mathlib.Omega.{arith}
 use borrow.Author.Count.{below-none, below-more}
 use Rattle.sheet.specs.Lists.{number}
 use Rattle.costs.specs.Costs.{fig}
-use Rattle.arrivals.specs.Inner.Facts.{holds, fails}
+use Rattle.sheet.specs.Laws.Decided.{holds, fails}
 use Rattle.journeys.proofs.Rowwise.{waits-all, waits-at}
 use borrow.Author.Needs.{needs}
 use Rattle.journeys.proofs.walk.waits_to.Statement.{statement}

@@ -1,102 +1,176 @@
--- `sheet::judge::fault_of` meets its contract: the tests in their order, each computed from the tally.
+-- `sheet::judge::fault_of` meets its contract: the tests one after another, each as the arrays and the row of the line's kind tell it. For each test there
+-- is the place where the code has made it (`row-`, the way back to where the row is known), what it found (`tried-`), and that the tests after it are left
+-- where it passed (`left-`).
 -- Assumes nothing.
-use mathlib.Core.Path.{_≡_, sym, _∙_, ap}
+use mathlib.Core.Path.{_≡_, refl, sym, _∙_, ap}
 use mathlib.Core.Bool.{Bool, true, false}
+use mathlib.Core.List.{List}
 use Prim.Native.Nat.{ℕ}
-use lib.Dec.{leb}
-use lib.ListN.{take}
-use Rattle.sheet.specs.Sheet.{outside, unpaired}
-use Rattle.sheet.specs.Calls.{width}
-use Rattle.sheet.specs.Inner.{kindAt}
-use Rattle.sheet.proofs.Tallies.{misplacedAt, countAt, placesAt, fault-is}
 use native.Mathlib.Omega.{arith}
+use lib.Dec.{leb}
 use borrow.Author.Tests.{le-leb, lt-leb}
 use borrow.Author.Needs.{needs}
+use Rattle.sheet.specs.Lists.{number}
+use Rattle.sheet.specs.Lines.{Line}
+use Rattle.sheet.specs.Sheet.{misplaced, tests, fault}
+use Rattle.sheet.specs.Inner.{lineAt, Stored}
+use Rattle.sheet.specs.Laws.Kinds.{width-small}
+use Rattle.sheet.proofs.Standing.{lines-length, all-length, row-fits}
+use Rattle.sheet.proofs.Tested.{misplaced-is, many-is, outside-is, unpaired-is, above-is}
+use Rattle.sheet.proofs.FirstFault.{Left, Tried, first, left-next, left-stop}
 use Rattle.sheet.proofs.judge.fault_of.Statement.{statement}
 use Rattle.sheet.proofs.judge.fault_of.Tie as tie
 
--- the tests that the line has passed
-placed : (c : tie.Else1) → misplacedAt (c .before .before .args .t) (c .before .before .args .kind) ≡ false
-placed c = sym (c .before .is-misplaced .ensures) ∙ c .if1 .left
+-- at the entry: the arrays, and the line
+abbrev entry : tie.After-row-of → tie.Start
+entry r = r .before .before .before
 
-few : (c : tie.Else2) → let a = c .before .before .before .before .before .args in leb (kindAt (a .kind) .most) (countAt (a .t) (a .kind)) ≡ false
-few c =
-    let a = c .before .before .before .before .before .args in
-    lt-leb (kindAt (a .kind) .most) (countAt (a .t) (a .kind)) (omega (arith, c .before .before .most-of .ensures, c .before .count-of .ensures))
+abbrev LeftAt : tie.After-row-of → ℕ → Type 0
+LeftAt r n = let a = entry r .args in Left (a .lines .now) (a .all .now) (lineAt (a .kind) (a .values)) n
 
-outside-is : (c : tie.After-is-outside) (b : Bool) → c .is-outside .result ≡ b
-    → let a = c .before .before .before .before .before .before .before .args in outside (placesAt (a .t) (a .values)) (kindAt (a .kind) .limits) (take (width (kindAt (a .kind))) (a .values)) ≡ b
-outside-is c b e =
-    let a = c .before .before .before .before .before .before .before .args in
-    ap (λ (p : ℕ). outside p (kindAt (a .kind) .limits) (take (width (kindAt (a .kind))) (a .values))) (sym (c .before .places-with .ensures))
-    ∙ sym (c .is-outside .ensures)
-    ∙ e
+abbrev TriedAt : tie.After-row-of → ℕ → ℕ → Bool → Type 0
+TriedAt r n m b = let a = entry r .args in Tried (a .lines .now) (a .all .now) (lineAt (a .kind) (a .values)) n m b
 
-within : (c : tie.Else3) → let a = c .before .before .before .before .before .before .before .before .args in outside (placesAt (a .t) (a .values)) (kindAt (a .kind) .limits) (take (width (kindAt (a .kind))) (a .values)) ≡ false
-within c = outside-is (c .before) false (c .if3 .left)
+left-all : (r : tie.After-row-of) → LeftAt r 3
+unfolding fault tests
+left-all r = record { of = λ before S. refl }
 
-paired : (c : tie.Else4) → let a = c .before .before .before .before .before .before .before .before .before .before .args in unpaired (kindAt (a .kind) .pair) (take (width (kindAt (a .kind))) (a .values)) ≡ false
-paired c = sym (c .before .is-unpaired .ensures) ∙ c .if4 .left
+-- test 3
+abbrev row-3 : tie.After-is-misplaced → tie.After-row-of
+row-3 c = c .before .before .before
+
+misplaced-at : (c : tie.After-is-misplaced) (b : Bool) → c .is-misplaced .result ≡ b
+    → let a = entry (row-3 c) .args in (before : List Line) → Stored before (a .lines .now) (a .all .now) → misplaced before (lineAt (a .kind) (a .values)) ≡ b
+misplaced-at c b e before S = let s = entry (row-3 c) in misplaced-is S (s .pre .0) (s .args .values) ∙ sym (c .is-misplaced .ensures) ∙ e
+
+tried-3 : (c : tie.After-is-misplaced) (b : Bool) → c .is-misplaced .result ≡ b → TriedAt (row-3 c) 3 7 b
+unfolding tests
+tried-3 c b e = record { of = λ before S. ap (first 3 _) (misplaced-at c b e before S) }
+
+left-3 : (c : tie.Else1) → LeftAt (row-3 (c .before)) 7
+left-3 c = left-next (left-all (row-3 (c .before))) (tried-3 (c .before) false (c .if1 .left))
+
+-- test 7
+abbrev row-7 : tie.After-struct-known → tie.After-row-of
+row-7 c = row-3 (c .before .before)
+
+tried-7 : (c : tie.After-struct-known) (b : Bool)
+    → let r = row-7 c in leb (r .row-of .result .most) (number (entry r .args .lines .now) (entry r .args .kind)) ≡ b
+    → TriedAt r 7 4 b
+unfolding tests
+tried-7 c b e =
+    let r = row-7 c in
+    record { of = λ before S. ap (first 7 _) (many-is S (entry r .pre .0) (r .row-of .ensures) (entry r .args .values) ∙ e) }
+
+left-7 : (c : tie.Else2) → LeftAt (row-7 (c .before)) 4
+left-7 c = left-next (left-3 (c .before .before)) (tried-7 (c .before) false (lt-leb _ _ (c .if2 .left)))
+
+-- test 4, after test 3 has passed
+abbrev row-4 : tie.After-is-outside → tie.After-row-of
+row-4 c = row-7 (c .before .before .before)
+
+tried-4 : (c : tie.After-is-outside) (b : Bool) → c .is-outside .result ≡ b → TriedAt (row-4 c) 4 6 b
+unfolding tests
+tried-4 c b e =
+    let r = row-4 c in
+    let p = c .before .before .before .before in
+    record {
+      of = λ before S. ap (first 4 _)
+          (outside-is S (entry r .pre .0) (r .row-of .ensures) (entry r .args .values) (c .before .places-with .ensures)
+          (misplaced-at (p .before) false (p .if1 .left) before S)
+          ∙ sym (c .is-outside .ensures)
+          ∙ e);
+    }
+
+left-4 : (c : tie.Else3) → LeftAt (row-4 (c .before)) 6
+left-4 c = left-next (left-7 (c .before .before .before)) (tried-4 (c .before) false (c .if3 .left))
+
+-- test 6
+abbrev row-6 : tie.After-is-unpaired → tie.After-row-of
+row-6 c = row-4 (c .before .before)
+
+tried-6 : (c : tie.After-is-unpaired) (b : Bool) → c .is-unpaired .result ≡ b → TriedAt (row-6 c) 6 5 b
+unfolding tests
+tried-6 c b e =
+    let r = row-6 c in
+    record { of = λ before S. ap (first 6 _) (unpaired-is S (entry r .pre .0) (r .row-of .ensures) (entry r .args .values) ∙ sym (c .is-unpaired .ensures) ∙ e) }
+
+left-6 : (c : tie.Else4) → LeftAt (row-6 (c .before)) 5
+left-6 c = left-next (left-4 (c .before .before)) (tried-6 (c .before) false (c .if4 .left))
+
+-- test 5
+abbrev row-5 : tie.After-is-not-above → tie.After-row-of
+row-5 c = row-6 (c .before .before)
+
+tried-5 : (c : tie.After-is-not-above) (b : Bool) → c .is-not-above .result ≡ b → TriedAt (row-5 c) 5 0 b
+unfolding tests
+tried-5 c b e =
+    let r = row-5 c in
+    record { of = λ before S. ap (first 5 _) (above-is S (entry r .pre .0) (r .row-of .ensures) (entry r .args .values) ∙ sym (c .is-not-above .ensures) ∙ e) }
+
+left-5 : (c : tie.Else5) → LeftAt (row-5 (c .before)) 0
+left-5 c = left-next (left-6 (c .before .before)) (tried-5 (c .before) false (c .if5 .left))
+
+row-of-requires : tie.Need-row-of-requires
+row-of-requires c κs = search needs
+
+mul-n : tie.Need-mul-n
+mul-n c = search needs
+
+shared-slice-read-n : tie.Need-shared-slice-read-n
+shared-slice-read-n c = omega (arith, lines-length (entry (c .before) .pre .1 .stored))
 
 is-misplaced-requires : tie.Need-is-misplaced-requires
 is-misplaced-requires c κs = search needs
 
 returns : tie.Need-returns
-returns c =
-    let a = c .before .before .args in
-    fault-is (a .t) (a .kind) (c .before .before .pre .0) (a .values) 3 (rw (sym (c .before .is-misplaced .ensures) ∙ c .if1 .taken))
-
-most-of-requires : tie.Need-most-of-requires
-most-of-requires c κs = search needs
-
-count-of-requires : tie.Need-count-of-requires
-count-of-requires c κs = search needs
+returns c = left-stop (left-all (row-3 (c .before))) (tried-3 (c .before) true (c .if1 .taken))
 
 returns-2 : tie.Need-returns-2
-returns-2 c =
-    let a = c .before .before .before .before .before .args in
-    fault-is (a .t) (a .kind) (c .before .before .before .before .before .pre .0) (a .values) 7 (rw (placed (c .before .before .before), le-leb (kindAt (a .kind) .most) (countAt (a .t) (a .kind)) (omega (arith, c .before .before .most-of .ensures, c .before .count-of .ensures))))
+returns-2 c = left-stop (left-3 (c .before .before)) (tried-7 (c .before) true (le-leb _ _ (c .if2 .taken)))
 
 places-with-requires : tie.Need-places-with-requires
-places-with-requires c κs = search needs
+places-with-requires c κs = omega (arith, all-length (entry (row-7 (c .before)) .pre .1 .stored))
 
 is-outside-requires : tie.Need-is-outside-requires
-is-outside-requires c κs = search needs
+is-outside-requires c κs =
+    let r = row-7 (c .before .before) in
+    omega (arith, r .row-of .ensures .width-is, width-small (entry r .args .kind) (entry r .pre .0))
 
 returns-3 : tie.Need-returns-3
-returns-3 c =
-    let a = c .before .before .before .before .before .before .before .before .args in
-    fault-is (a .t) (a .kind) (c .before .before .before .before .before .before .before .before .pre .0) (a .values) 4 (rw (placed (c .before .before .before .before .before .before), few (c .before .before .before), outside-is (c .before) true (c .if3 .taken)))
+returns-3 c = left-stop (left-7 (c .before .before .before)) (tried-4 (c .before) true (c .if3 .taken))
 
 is-unpaired-requires : tie.Need-is-unpaired-requires
-is-unpaired-requires c κs = search needs
+is-unpaired-requires c κs =
+    let r = row-4 (c .before) in
+    let q = r .row-of .ensures in
+    let w = width-small (entry r .args .kind) (entry r .pre .0) in
+    (omega (arith, q .width-is, q .one-inside), omega (arith, q .width-is, q .other-inside))
 
 returns-4 : tie.Need-returns-4
-returns-4 c =
-    let a = c .before .before .before .before .before .before .before .before .before .before .args in
-    fault-is (a .t) (a .kind) (c .before .before .before .before .before .before .before .before .before .before .pre .0) (a .values) 6 (rw (placed (c .before .before .before .before .before .before .before .before), few (c .before .before .before .before .before), within (c .before .before), sym (c .before .is-unpaired .ensures) ∙ c .if4 .taken))
+returns-4 c = left-stop (left-4 (c .before .before)) (tried-6 (c .before) true (c .if4 .taken))
 
 is-not-above-requires : tie.Need-is-not-above-requires
-is-not-above-requires c κs = search needs
+is-not-above-requires c κs =
+    let r = row-6 (c .before) in
+    row-fits (entry r .pre .1 .stored) (entry r .pre .0) (r .row-of .ensures)
 
 returns-5 : tie.Need-returns-5
-returns-5 c =
-    let a = c .before .before .before .before .before .before .before .before .before .before .before .before .args in
-    fault-is (a .t) (a .kind) (c .before .before .before .before .before .before .before .before .before .before .before .before .pre .0) (a .values) 5 (rw (placed (c .before .before .before .before .before .before .before .before .before .before), few (c .before .before .before .before .before .before .before), within (c .before .before .before .before), paired (c .before .before), sym (c .before .is-not-above .ensures) ∙ c .if5 .taken))
+returns-5 c = left-stop (left-6 (c .before .before)) (tried-5 (c .before) true (c .if5 .taken))
 
 returns-6 : tie.Need-returns-6
-returns-6 c =
-    let a = c .before .before .before .before .before .before .before .before .before .before .before .before .args in
-    fault-is (a .t) (a .kind) (c .before .before .before .before .before .before .before .before .before .before .before .before .pre .0) (a .values) 0 (rw (placed (c .before .before .before .before .before .before .before .before .before .before), few (c .before .before .before .before .before .before .before), within (c .before .before .before .before), paired (c .before .before), sym (c .before .is-not-above .ensures) ∙ c .if5 .left))
+unfolding tests
+returns-6 c = record { of = λ before S. sym (left-5 c .of before S) }
 
 pub fault-of-spec : {M : Type 1} → statement M
 fault-of-spec =
     tie.close
     (tie.spec
+    row-of-requires
+    mul-n
+    shared-slice-read-n
     is-misplaced-requires
     returns
-    most-of-requires
-    count-of-requires
     returns-2
     places-with-requires
     is-outside-requires

@@ -1,14 +1,35 @@
--- `sheet::judge::is_beyond` meets its contract: the limit is a place where its high end is 0, and else lies between its ends.
+-- `sheet::judge::is_beyond` meets its contract, limit by limit.
 -- Assumes nothing.
-use borrow.Author.Tests.{eq-eqb, ne-eqb}
+use mathlib.Core.Path.{_≡_, refl}
+use mathlib.Core.Logic.{_≢_}
+use Prim.Native.Nat.{ℕ, zero, suc}
+use native.Mathlib.Omega.{arith}
+use borrow.Author.Tests.{le-ltb}
+use Rattle.sheet.specs.Kinds.{between}
+use Rattle.sheet.specs.Inner.{limitAt}
 use Rattle.sheet.proofs.judge.is_beyond.Statement.{statement}
 use Rattle.sheet.proofs.judge.is_beyond.Tie as tie
 
+-- the last of the limits
+count-last : (n : ℕ) → n ≢ 0 → n ≢ 1 → n ≢ 2 → limitAt n ≡ between 1 64
+count-last zero a b d = absurd (a refl)
+count-last (suc zero) a b d = absurd (b refl)
+count-last (suc (suc zero)) a b d = absurd (d refl)
+count-last (suc (suc (suc n))) a b d = refl
+
 returns : tie.Need-returns
-returns c = rw (eq-eqb (c .before .args .high) 0 (c .if1 .taken))
+returns c = rw (c .if1 .taken)
 
 returns-2 : tie.Need-returns-2
-returns-2 c = rw (ne-eqb (c .before .args .high) 0 (c .if1 .left))
+returns-2 c = rw (c .if2 .taken, le-ltb (c .before .before .args .n) 0 (omega arith))
+
+returns-3 : tie.Need-returns-3
+returns-3 c = rw (c .if3 .taken, le-ltb (c .before .before .before .args .n) 0 (omega arith))
+
+returns-4 : tie.Need-returns-4
+returns-4 c =
+    let s = c .before .before .before in
+    rw (count-last (s .args .limit) (c .before .before .if1 .left) (c .before .if2 .left) (c .if3 .left))
 
 pub is-beyond-spec : {M : Type 1} → statement M
-is-beyond-spec = tie.close (tie.spec returns returns-2)
+is-beyond-spec = tie.close (tie.spec returns returns-2 returns-3 returns-4)

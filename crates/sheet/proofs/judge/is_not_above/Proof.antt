@@ -1,36 +1,41 @@
--- `sheet::judge::is_not_above` meets its contract: only the line before, of the same kind, is compared, by the kind's key.
+-- `sheet::judge::is_not_above` meets its contract: the last of the n rows is inside the array.
 -- Assumes nothing.
-use mathlib.Core.Path.{_∙_, ap}
+use mathlib.Core.Path.{_≡_, ap}
 use mathlib.Core.Bool.{not}
-use Prim.Native.Nat.{ℕ}
+use Prim.Native.Nat.{ℕ, suc, _+_, _*_, _-_}
 use native.Mathlib.Omega.{arith}
-use lib.ListN.{take}
+use native.Mathlib.Nat.{suc-mul}
 use borrow.Author.Tests.{eq-eqb, ne-eqb}
-use Rattle.sheet.specs.Lists.{lexb}
-use Rattle.sheet.proofs.KindFacts.{key-within, width-small}
 use borrow.Author.Needs.{needs}
 use Rattle.sheet.proofs.judge.is_not_above.Statement.{statement}
 use Rattle.sheet.proofs.judge.is_not_above.Tie as tie
 
+-- the n rows are the last one after the others
+last-row : (c : tie.Else1) → let a = c .before .before .args in (a .n - 1) * a .row .width + a .row .width ≡ a .n * a .row .width
+last-row c =
+    let a = c .before .before .args in
+    let e : suc (a .n - 1) ≡ a .n = omega arith in
+    omega (arith, suc-mul (a .n - 1) (a .row .width), ap (λ (m : ℕ). m * a .row .width) e)
+
 returns : tie.Need-returns
-returns c = rw (eq-eqb (c .before .args .t .lines) 0 (c .if1 .taken))
+returns c = rw (eq-eqb (c .before .before .args .n) 0 (c .if1 .taken))
 
-returns-2 : tie.Need-returns-2
-returns-2 c = rw (ne-eqb (c .before .before .args .t .lines) 0 (c .before .if1 .left), ne-eqb (c .before .before .args .t .kind) (c .before .before .args .kind) (c .if2 .taken))
+sub-at : tie.Need-sub-at
+sub-at c = search needs
 
-key-of-requires : tie.Need-key-of-requires
-key-of-requires c κs = search needs
+mul-at : tie.Need-mul-at
+mul-at c = omega (arith, last-row (c .before))
+
+add-at : tie.Need-add-at
+add-at c = omega (arith, last-row (c .before .before))
 
 is-before-requires : tie.Need-is-before-requires
-is-before-requires c κs = omega (arith, c .key-of .ensures, key-within (c .before .before .before .before .args .kind) (c .before .before .before .before .pre .0), width-small (c .before .before .before .before .args .kind) (c .before .before .before .before .pre .0))
+is-before-requires c κs = (omega arith, omega (arith, last-row (c .before .before)))
 
-returns-3 : tie.Need-returns-3
-returns-3 c =
-    let x = c .before .before .before in
-    let a = x .before .before .args in
-    rw (ne-eqb (a .t .lines) 0 (x .before .if1 .left), eq-eqb (a .t .kind) (a .kind) (x .if2 .left))
-    (ap not (c .is-before .ensures ∙ ap (λ (n : ℕ). lexb (take n (a .t .values)) (take n (a .values))) (c .before .key-of .ensures)))
+returns-2 : tie.Need-returns-2
+returns-2 c =
+    let e = c .before .before .before in
+    rw (ne-eqb (e .before .before .args .n) 0 (e .if1 .left)) (ap not (c .is-before .ensures))
 
 pub is-not-above-spec : {M : Type 1} → statement M
-is-not-above-spec =
-    tie.close (tie.spec returns returns-2 key-of-requires is-before-requires returns-3)
+is-not-above-spec = tie.close (tie.spec returns sub-at mul-at add-at is-before-requires returns-2)

@@ -42,7 +42,7 @@ use denote.Triple.Walked.{says, needs, Stays, stay-none, stay-none-ref, stay-non
 use denote.Exit.{yes}
 use denote.Triple.Clauses.{ensured, lasts}
 use Rattle.sheet.specs.Inner.{kindTable}
-use Rattle.sheet.specs.LineEnds.{lineEndAt}
+use Rattle.sheet.specs.LineEnds.{EndIs}
 use Rattle.sheet.specs.declared.line_reader.LineReader.{LineReader}
 use Rattle.sheet.specs.declared.line_reader.LineEnd.{LineEnd}
 use Rattle.sheet.proofs.line_reader.LineReader as T
@@ -96,8 +96,8 @@ module _ {M : Type 1} (𝓤 : URA M) (H : Heap 𝓤) (A : Atoms 𝓤) (W : Given
   abbrev made : LineReader
   made = record { src = s; at = n }
 
-  abbrev found : LineEnd
-  found = lineEndAt (now s) n
+  abbrev Found : LineEnd → Type 0
+  Found r = EndIs (now s) n r
 
   abbrev Post : Val → SProp 𝓤
   Post = walkOf 𝓤 H A this.ended stayed (this.clauses 𝓤 H A mem run) .post ((κs, (q, (q′, tt)), tt, (k, (s, (n, tt))), at), tt)
@@ -131,10 +131,10 @@ module _ {M : Type 1} (𝓤 : URA M) (H : Heap 𝓤) (A : Atoms 𝓤) (W : Given
       move ! (3 ∷ 0 ∷ []) $ use2 W (raw (Callee 𝓤 H A mem run .pre to)) (asked is-table) $ frame ! $ frame ! $ done !
 
   -- of the callee's `ensured`, the clause alone: it has no `&mut`, so what is said of last values is dropped
-  said : (r : LineEnd) → ent 𝓤 (ensured 𝓤 H A callee.ended (callee.clauses 𝓤 H A mem run) κs (k, (made, tt)) tt r) (fact 𝓤 (r ≡ found))
-  said r = exE 𝓤 _ (λ ws. snd∗ 𝓤 (sem 𝓤 H A (lasts callee.ended κs (k, (made, tt)) ws)) (fact 𝓤 (r ≡ found)))
+  said : (r : LineEnd) → ent 𝓤 (ensured 𝓤 H A callee.ended (callee.clauses 𝓤 H A mem run) κs (k, (made, tt)) tt r) (fact 𝓤 (Found r))
+  said r = exE 𝓤 _ (λ ws. snd∗ 𝓤 (sem 𝓤 H A (lasts callee.ended κs (k, (made, tt)) ws)) (fact 𝓤 (Found r)))
 
-  exits : (r : LineEnd) (u : Val) → r ≡ found → ent 𝓤 (⋆ 𝓤 H A (‵ (S.the-row .own r (u ∷ [])) ∷ (‵ (flft κ q) ⊛ ‵ (flft κ′ q′) ⊛ ‵ ftrue) ∷ (‵ Own ⊛ ‵ OwnKinds) ∷ [])) (Post u)
+  exits : (r : LineEnd) (u : Val) → Found r → ent 𝓤 (⋆ 𝓤 H A (‵ (S.the-row .own r (u ∷ [])) ∷ (‵ (flft κ q) ⊛ ‵ (flft κ′ q′) ⊛ ‵ ftrue) ∷ (‵ Own ⊛ ‵ OwnKinds) ∷ [])) (Post u)
   exits r u e =
       qed W (‵ (S.the-row .own r (u ∷ [])) ∷ (‵ (flft κ q) ⊛ ‵ (flft κ′ q′) ⊛ ‵ ftrue) ∷ (‵ Own ⊛ ‵ OwnKinds) ∷ []) ∵
       suffices ! _ (ends-at 𝓤 H A this.ended stayed (this.clauses 𝓤 H A mem run) W ((κs, (q, (q′, tt)), tt, (k, (s, (n, tt))), at), tt) u r (tt, (tt, (tt, tt))) (tt, (tt, (tt, tt)))) $ says ! e $
@@ -153,7 +153,7 @@ module _ {M : Type 1} (𝓤 : URA M) (H : Heap 𝓤) (A : Atoms 𝓤) (W : Given
         -- [what the callee asks; what is kept; _4; …; _3; …; _2; …; _1; …; _0; …]
         calls-at ! fm (Callee 𝓤 H A mem run) known to (and-then ! (load ! (from ! (stop !)) (look ! 8 refl)) (and-then ! (load ! (from ! (stop !)) (look ! 2 refl)) (no-more !))) (λ u.
         use1 W (later (some (λ (r : LineEnd). ((‵ (flft κ q) ⊛ ‵ (flft κ′ q′) ⊛ ‵ ftrue) ⊛ ‵ (S.the-row .own r (u ∷ []))) ⊛ raw (ensured 𝓤 H A callee.ended (callee.clauses 𝓤 H A mem run) κs (k, (made, tt)) tt r)))) (id⊢ 𝓤 _) $ await ! tt $ pick ! (λ r.
-        split ! $ move ! (1 ∷ []) $ use1 W (raw (fact 𝓤 (r ≡ found))) (said r) $ heard ! (r ≡ found) (λ e. split ! $ move ! (1 ∷ []) $
+        split ! $ move ! (1 ∷ []) $ use1 W (raw (fact 𝓤 (Found r))) (said r) $ heard ! (Found r) (λ e. split ! $ move ! (1 ∷ []) $
         -- [the result; the tokens; what is kept; _4; …; _3; …; _2; …; _1; …; room for _0; …]
         peeks ! S.the-row (Is S.the-row) (shows 𝓤 H A S.the-row) r (u ∷ []) (λ is.
         land ! (from ! (stop !)) (init ! 11 refl (EL.lawful S.the-type S′.the-laws 𝓤 H A W tt .typed r _ is .0)) $

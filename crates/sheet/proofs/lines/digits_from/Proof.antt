@@ -1,5 +1,5 @@
 -- `sheet::lines::digits_from` meets its contract. Invariant: the field ends where it ended, what is still to be read of it, from the value
--- so far, is what the whole reads as, and the value has at most i - at digits.
+-- so far, is what the whole reads as, and the value has at most i - at digits, of which there are at most eight before one more is read.
 -- Assumes nothing.
 use mathlib.Core.Path.{_≡_, refl, sym, _∙_}
 use Prim.Native.Nat.{suc, _≤_, _<_, _+_, _-_, _^_}
@@ -18,7 +18,7 @@ use Rattle.sheet.proofs.lines.digits_from.Statement.{statement}
 use Rattle.sheet.proofs.lines.digits_from.Tie as tie
 
 abbrev Inv-loop : tie.InvT-loop
-Inv-loop kinds line at value₀ i₀ value i =
+Inv-loop kinds line at most value₀ i₀ value i =
     (at ≤ i)
     × (i ≤ length line)
     × (value < 10 ^ (i - at))
@@ -26,7 +26,7 @@ Inv-loop kinds line at value₀ i₀ value i =
     × (digitsFrom value (fieldFrom line i) ≡ digitsFrom 0 (fieldFrom line at))
 
 abbrev μ-loop : tie.MeasureT-loop
-μ-loop kinds line at value₀ i₀ value i = length line - i
+μ-loop kinds line at most value₀ i₀ value i = length line - i
 
 loop-holds : tie.Need-loop-holds Inv-loop μ-loop
 loop-holds c =
@@ -42,7 +42,7 @@ bad-field-requires c κs = search needs
 returns : tie.Need-returns Inv-loop μ-loop
 returns c =
     let h = c .before .before .before in
-    digits-many _ _ _ _ (h .loop .inv .3) (h .loop .inv .4) _ (c .bad-field .ensures) (omega (arith, c .before .if1 .taken))
+    digits-many _ _ _ _ _ (h .loop .inv .3) (h .loop .inv .4) _ (c .bad-field .ensures) (omega (arith, c .before .if1 .taken))
 
 shared-slice-read-b : tie.Need-shared-slice-read-b Inv-loop μ-loop
 shared-slice-read-b c = omega (arith, c .before .before)
@@ -53,7 +53,7 @@ kind-of-requires c κs = c .before .before .before .before .before .pre .0
 returns-2 : tie.Need-returns-2 Inv-loop μ-loop
 returns-2 c =
     let h = c .before .before .before .before .before in
-    digits-stop _ _ _ _ (h .loop .inv .3) (h .loop .inv .4) _ (c .before .before .before .before .loop-test .taken) (c .before .kind-of .ensures) (c .if2 .taken)
+    digits-stop _ _ _ _ _ (h .loop .inv .3) (h .loop .inv .4) _ (c .before .before .before .before .loop-test .taken) (c .before .kind-of .ensures) (c .if2 .taken)
 
 -- where a digit was found: its kind and range, and that the value so far is small
 kind : (c : tie.Else2 Inv-loop μ-loop) →
@@ -67,10 +67,10 @@ range : (c : tie.Else2 Inv-loop μ-loop) →
     (48 ≤ b) × (b ≤ 57)
 range c = digit-byte _ (kind c)
 
-low : (c : tie.Else2 Inv-loop μ-loop) → c .before .before .before .before .before .loop .value < 10 ^ 5
+low : (c : tie.Else2 Inv-loop μ-loop) → c .before .before .before .before .before .loop .value < 10 ^ 8
 low c =
     let x = c .before .before .before in
-    lt-of-lt-of-le (x .before .before .loop .inv .2) (pow-le-pow-right (lit< tt) {j = 5} (omega (arith, x .if1 .left)))
+    lt-of-lt-of-le (x .before .before .loop .inv .2) (pow-le-pow-right (lit< tt) {j = 8} (omega (arith, x .if1 .left, x .before .before .before .before .pre)))
 
 mul-value : tie.Need-mul-value Inv-loop μ-loop
 mul-value c = omega (arith, low c)
@@ -108,7 +108,7 @@ loop-again c =
 returns-3 : tie.Need-returns-3 Inv-loop μ-loop
 returns-3 c =
     let h = c .before in
-    digits-over _ _ _ _ (h .loop .inv .3) (h .loop .inv .4) (c .loop-test .left)
+    digits-over _ _ _ _ _ (h .loop .inv .3) (h .loop .inv .4) (c .loop-test .left)
 
 pub digits-from-spec : {M : Type 1} → statement M
 digits-from-spec =

@@ -4,12 +4,12 @@ use mathlib.Core.Path.{_≡_, sym, _∙_}
 use native.Mathlib.Omega.{arith}
 use native.Mathlib.Nat.{zero-add}
 use Prim.Native.Nat.{_<_}
+use lib.ListN.{length}
+use borrow.Author.Needs.{needs}
 use Rattle.sheet.specs.Bytes.{comma}
 use Rattle.sheet.specs.Inner.{spanOf}
-use Rattle.sheet.proofs.Three.{narrow}
 use Rattle.sheet.proofs.Parts.{span-le}
-use Rattle.sheet.proofs.LineLaws.{line-first, line-unknown, line-yes, line-no}
-use borrow.Author.Needs.{needs}
+use Rattle.sheet.proofs.LineLaws.{forms-widths, line-not-one, line-unknown, letter-below, line-known}
 use Rattle.sheet.proofs.lines.line_in.Statement.{statement}
 use Rattle.sheet.proofs.lines.line_in.Tie as tie
 
@@ -20,61 +20,51 @@ bad-line-requires : tie.Need-bad-line-requires
 bad-line-requires c κs = search needs
 
 returns : tie.Need-returns
-returns c = (
-  c .bad-line .ensures .0 ∙ sym (line-first _ (λ e. c .before .if1 .taken (c .before .before .until .ensures ∙ zero-add _ ∙ e))),
-  c .bad-line .ensures .1,
-)
+returns c = line-not-one _ _ _ _ _ (c .bad-line .ensures) (λ e. c .before .if1 .taken (c .before .before .until .ensures ∙ zero-add _ ∙ e))
 
 -- the first field is one byte
-one : (c : tie.Else1) → spanOf comma (c .before .before .before .args .l .now) ≡ 1
+one : (c : tie.Else1) → spanOf comma (c .before .before .before .before .before .args .l .now) ≡ 1
 one c = sym (zero-add _) ∙ sym (c .before .until .ensures) ∙ c .if1 .left
 
-shared-slice-read-with-letter : tie.Need-shared-slice-read-with-letter
-shared-slice-read-with-letter c = omega (arith, one (c .before), span-le comma (c .before .before .before .before .args .l .now))
+shared-slice-read-position : tie.Need-shared-slice-read-position
+shared-slice-read-position c = omega (arith, one (c .before), span-le comma (c .before .before .before .before .before .before .args .l .now))
 
-with-letter-requires : tie.Need-with-letter-requires
-with-letter-requires c κs = search needs
+position-requires : tie.Need-position-requires
+position-requires c κs = search needs
 
 bad-line-requires-2 : tie.Need-bad-line-requires-2
 bad-line-requires-2 c κs = search needs
 
 returns-2 : tie.Need-returns-2
 returns-2 c =
-    let k = c .before .before .with-letter in (
-      c .bad-line2 .ensures .0 ∙ sym (line-unknown _ (k .result) (one (c .before .before .before .before)) (k .ensures .0) (omega arith)),
-      c .bad-line2 .ensures .1,
-    )
+    let k = c .before .before in
+    line-unknown _ _ _ _ (one (k .before .before)) _ (k .position .ensures) _ (c .bad-line2 .ensures) (c .before .if2 .taken)
 
-width-of-requires : tie.Need-width-of-requires
-width-of-requires c κs = omega arith
+-- the letter is one of them
+below : (c : tie.Else2) → c .before .position .result < length (c .before .before .before .before .before .before .before .before .args .widths .now)
+below c =
+    let k = c .before in
+    let f = k .before .before .before .before .before .before .before .pre .1 in
+    omega (arith, letter-below _ _ _ _ (k .position .ensures) f (c .if2 .left), forms-widths _ _ f)
+
+mul-numbers-in : tie.Need-mul-numbers-in
+mul-numbers-in c = let h = below c in search needs
+
+shared-slice-read-numbers-in : tie.Need-shared-slice-read-numbers-in
+shared-slice-read-numbers-in c = below (c .before)
 
 numbers-in-requires : tie.Need-numbers-in-requires
-numbers-in-requires c κs = (c .before .before .before .before .before .before .before .pre, omega (arith, narrow (c .before .before .with-letter .result)))
+numbers-in-requires c κs =
+    let p = c .before .before .before .before .before .before .before .before .before .pre in
+    (p .0, p .1 .forms .narrow (c .before .before .position .result), p .2)
 
 returns-3 : tie.Need-returns-3
 returns-3 c =
-    let x = c .before .before in
-    let k = x .before .before .before .with-letter in
-    let h : k .result < 3 = omega arith in (
-      line-yes _ (k .result) (one (x .before .before .before .before .before)) (k .ensures .0) _ _ _ h
-          (x .before .width-of .ensures) (x .numbers-in .ensures) (c .before .if3 .taken),
-      h,
-    )
-
-bad-line-requires-3 : tie.Need-bad-line-requires-3
-bad-line-requires-3 c κs = search needs
-
-returns-4 : tie.Need-returns-4
-returns-4 c =
-    let x = c .before .before in
-    let k = x .before .before .before .with-letter in
-    let h : k .result < 3 = omega arith in (
-      c .bad-line3 .ensures .0
-          ∙ sym (line-no _ (k .result) (one (x .before .before .before .before .before)) (k .ensures .0)
-          (x .numbers-in .result .values) (x .before .width-of .result) (x .numbers-in .result .ok) h
-          (x .before .width-of .ensures) (x .numbers-in .ensures) (c .before .if3 .left)),
-      c .bad-line3 .ensures .1,
-    )
+    let n = c .before in
+    let x = n .before .before in
+    let k = x .before in
+    line-known _ _ _ _ (one (k .before .before)) _ (k .position .ensures) (k .before .before .before .before .before .before .before .pre .1) (x .if2 .left)
+    _ (n .numbers-in .ensures)
 
 pub line-in-spec : {M : Type 1} → statement M
 line-in-spec =
@@ -83,12 +73,11 @@ line-in-spec =
     until-requires
     bad-line-requires
     returns
-    shared-slice-read-with-letter
-    with-letter-requires
+    shared-slice-read-position
+    position-requires
     bad-line-requires-2
     returns-2
-    width-of-requires
+    mul-numbers-in
+    shared-slice-read-numbers-in
     numbers-in-requires
-    returns-3
-    bad-line-requires-3
-    returns-4)
+    returns-3)

@@ -19,27 +19,27 @@ use Rattle.sheet.proofs.lines.numbers_in.Statement.{statement}
 use Rattle.sheet.proofs.lines.numbers_in.Tie as tie
 
 abbrev Inv-loop : tie.InvT-loop
-Inv-loop kinds line start width values₀ at₀ k₀ values at k =
-    (k ≤ width) × (length values ≡ 8) × (numbersOf width (partsFrom comma start line) ≡ soFar line values width k at comma)
+Inv-loop kinds line start width most values₀ at₀ k₀ values at k =
+    (k ≤ width) × (length values ≡ 8) × (numbersOf most width (partsFrom comma start line) ≡ soFar most line values width k at comma)
 
 abbrev μ-loop : tie.MeasureT-loop
-μ-loop kinds line start width values₀ at₀ k₀ values at k = width - k
+μ-loop kinds line start width most values₀ at₀ k₀ values at k = width - k
 
 loop-holds : tie.Need-loop-holds Inv-loop μ-loop
 loop-holds c = (omega arith, refl, rw sub-zero (onto-none _))
 
 returns : tie.Need-returns Inv-loop μ-loop
-returns c = sym (so-missing _ _ _ _ _ _ (c .before .loop-test .taken) (c .if1 .taken)) ∙ sym (c .before .before .loop .inv .2)
+returns c = sym (so-missing _ _ _ _ _ _ _ (c .before .loop-test .taken) (c .if1 .taken)) ∙ sym (c .before .before .loop .inv .2)
 
 field-at-requires : tie.Need-field-at-requires Inv-loop μ-loop
-field-at-requires c κs = (c .before .before .before .before .pre .0, omega arith)
+field-at-requires c κs = (c .before .before .before .before .pre .0, omega arith, c .before .before .before .before .pre .2)
 
 returns-2 : tie.Need-returns-2 Inv-loop μ-loop
 returns-2 c =
     let f = c .before .before in
     let h = f .before .before .before in
     let n = sym (f .field-at .ensures .number) ∙ ap (λ (b : Bool). pick b (some (f .field-at .result .value)) none) (not-true (f .field-at .result .ok) (c .if2 .taken)) in
-    sym (so-bad _ _ _ _ _ _ (f .before .before .loop-test .taken) (f .before .if1 .left) n) ∙ sym (h .loop .inv .2)
+    sym (so-bad _ _ _ _ _ _ _ (f .before .before .loop-test .taken) (f .before .if1 .left) n) ∙ sym (h .loop .inv .2)
 
 -- the field is read, and its end is within the line
 read : (c : tie.Else2 Inv-loop μ-loop) → c .before .before .field-at .result .ok ≡ true
@@ -73,18 +73,18 @@ loop-again c =
       omega arith,
       simp length-set (h .loop .inv .1),
       rw (f .field-at .ensures .ends (read (c .before)))
-          (h .loop .inv .2 ∙ so-more _ _ _ _ _ _ _ (f .before .before .loop-test .taken) v (f .before .if1 .left) n),
+          (h .loop .inv .2 ∙ so-more _ _ _ _ _ _ _ _ (f .before .before .loop-test .taken) v (f .before .if1 .left) n),
     )
 
 returns-3 : tie.Need-returns-3 Inv-loop μ-loop
-returns-3 c = sym (so-extra _ _ _ _ _ _ (c .before .loop-test .left) (c .if3 .taken)) ∙ sym (c .before .before .loop .inv .2)
+returns-3 c = sym (so-extra _ _ _ _ _ _ _ (c .before .loop-test .left) (c .if3 .taken)) ∙ sym (c .before .before .loop .inv .2)
 
 returns-4 : tie.Need-returns-4 Inv-loop μ-loop
 returns-4 c =
     let h = c .before .before in
     let e : h .before .before .args .width ≡ h .loop .k = omega arith in
     ap (λ (m : ℕ). some (take m (h .loop .values))) e
-    ∙ sym (so-all _ _ _ _ _ _ (c .before .loop-test .left) (c .if3 .left))
+    ∙ sym (so-all _ _ _ _ _ _ _ (c .before .loop-test .left) (c .if3 .left))
     ∙ sym (h .loop .inv .2)
 
 pub numbers-in-spec : {M : Type 1} → statement M

@@ -1,156 +1,103 @@
 -- `sheet::text::put_digits` meets its contract: by recursion on the count of digits that are left.
 -- Assumes nothing.
-use mathlib.Core.Path.{refl, ap}
-use native.Mathlib.Omega.{arith}
-use native.Mathlib.Nat.{add-zero}
-use lib.ListN.{length, length-set}
-use Rattle.sheet.specs.Laws.Stores.{sets-append}
-use Rattle.sheet.proofs.Written.{digits-none, digits-small, digits-big, digits-big-length}
+use mathlib.Core.Path.{ap}
 use Prim.Native.Nat.{ℕ, _<_}
-use borrow.Fn.Kinds.{In}
+use native.Mathlib.Omega.{arith}
+use lib.ListN.{length, length-set}
+use borrow.Fn.Kinds.{In, Out}
 use borrow.Fn.PlainCycle.{Measures, is, falls, and}
-use Rattle.sheet.proofs.text.put_digits.Reads as put-digits
-use Rattle.sheet.proofs.text.put_digits.Kinds as put-digits-kinds
-use Rattle.sheet.proofs.text.+put_digits.Lts-put_digits as put-digits-lts
+use Rattle.sheet.specs.Laws.Puts.{puts-none, puts-byte, puts-append, puts-length}
+use Rattle.sheet.proofs.Written.{digits-none, digits-one, digits-big, digits-big-length}
+use Rattle.sheet.proofs.text.put_digits.Reads as reads
+use Rattle.sheet.proofs.text.put_digits.Kinds as kinds
+use Rattle.sheet.proofs.text.+put_digits.Lts-put_digits as lts
 use Rattle.sheet.proofs.text.+put_digits.{statement}
 use Rattle.sheet.proofs.text.+put_digits.Tie.{close}
 
-abbrev μ-put-digits : Measures 1 put-digits-kinds.ps ℕ
-μ-put-digits κs a = a .1 .1 .1 .0
+abbrev μ : Measures 1 kinds.ps ℕ
+μ κs a = a .1 .1 .1 .0
 
-abbrev put-digits-at : ℕ → In 1 put-digits-kinds.ps
-put-digits-at t =
-    and 1 put-digits-kinds.ps (is 1 put-digits-kinds.ps μ-put-digits t) put-digits.Pre
+abbrev at : ℕ → In 1 kinds.ps
+at t = and 1 kinds.ps (is 1 kinds.ps μ t) reads.Pre
 
-abbrev put-digits-below : ℕ → In 1 put-digits-kinds.ps
-put-digits-below t =
-    and 1 put-digits-kinds.ps (falls 1 put-digits-kinds.ps _<_ μ-put-digits t) put-digits.Pre
+abbrev below : ℕ → In 1 kinds.ps
+below t = and 1 kinds.ps (falls 1 kinds.ps _<_ μ t) reads.Pre
 
-put-digits-returns :
-    (t : ℕ) →
-    put-digits-lts.Need-returns
-    (put-digits-below t, put-digits.Post)
-    (put-digits-at t)
-    put-digits.Post
-put-digits-returns t c = rw (digits-none _ _ (c .if1 .taken)) (rw add-zero refl, refl)
+-- a need, for every count
+abbrev Each : (lts.Claims → In 1 kinds.ps → Out 1 kinds.ps kinds.r → Type 0) → Type 0
+Each need = (t : ℕ) → need (below t, reads.Post) (at t) reads.Post
 
-put-digits-cast-out :
-    (t : ℕ) →
-    put-digits-lts.Need-cast-out
-    (put-digits-below t, put-digits.Post)
-    (put-digits-at t)
-    put-digits.Post
-put-digits-cast-out t c = omega arith
+returns : Each lts.Need-returns
+returns t c = rw (digits-none _ _ (c .if1 .taken)) (puts-none _ _)
 
-put-digits-add-out :
-    (t : ℕ) →
-    put-digits-lts.Need-add-out
-    (put-digits-below t, put-digits.Post)
-    (put-digits-at t)
-    put-digits.Post
-put-digits-add-out t c = omega arith
+cast-out : Each lts.Need-cast-out
+cast-out t c = omega arith
 
-put-digits-slice-write-out : (t : ℕ) → put-digits-lts.Need-slice-write-out (
-  put-digits-below t,
-  put-digits.Post,
-) (put-digits-at t) put-digits.Post
-put-digits-slice-write-out t c = omega (arith, ap length (digits-small _ _ (c .before .if1 .left) (c .if2 .taken)))
+add-out : Each lts.Need-add-out
+add-out t c = omega arith
 
-put-digits-add-result : (t : ℕ) → put-digits-lts.Need-add-result (
-  put-digits-below t,
-  put-digits.Post,
-) (put-digits-at t) put-digits.Post
-put-digits-add-result t c = omega (arith, ap length (digits-small _ _ (c .before .if1 .left) (c .if2 .taken)))
+slice-write-out : Each lts.Need-slice-write-out
+slice-write-out t c = omega (arith, ap length (digits-one _ _ (c .before .if1 .left) (c .if2 .taken)))
 
-put-digits-same-length : (t : ℕ) → put-digits-lts.Need-same-length (
-  put-digits-below t,
-  put-digits.Post,
-) (put-digits-at t) put-digits.Post
-put-digits-same-length t c = simp length-set
+add-result : Each lts.Need-add-result
+add-result t c = omega (arith, ap length (digits-one _ _ (c .before .if1 .left) (c .if2 .taken)))
 
-put-digits-returns-2 : (t : ℕ) → put-digits-lts.Need-returns-2 (
-  put-digits-below t,
-  put-digits.Post,
-) (put-digits-at t) put-digits.Post
-put-digits-returns-2 t c = rw (digits-small _ _ (c .before .if1 .left) (c .if2 .taken)) (refl, refl)
+same-length : Each lts.Need-same-length
+same-length t c = simp length-set
 
-put-digits-sub-put-digits : (t : ℕ) → put-digits-lts.Need-sub-put-digits (
-  put-digits-below t,
-  put-digits.Post,
-) (put-digits-at t) put-digits.Post
-put-digits-sub-put-digits t c = omega arith
+returns-2 : Each lts.Need-returns-2
+returns-2 t c = rw (digits-one _ _ (c .before .if1 .left) (c .if2 .taken)) (puts-byte _ _ _)
 
-put-digits-put-digits-requires : (t : ℕ) → put-digits-lts.Need-put-digits-requires (
-  put-digits-below t,
-  put-digits.Post,
-) (put-digits-at t) put-digits.Post
-put-digits-put-digits-requires t c κs = (omega arith, omega (arith, digits-big-length _ _ (c .before .before .if1 .left) (c .before .if2 .left)))
+sub-put-digits : Each lts.Need-sub-put-digits
+sub-put-digits t c = omega arith
 
-put-digits-cast-out-2 : (t : ℕ) → put-digits-lts.Need-cast-out-2 (
-  put-digits-below t,
-  put-digits.Post,
-) (put-digits-at t) put-digits.Post
-put-digits-cast-out-2 t c = omega arith
+put-digits-requires : Each lts.Need-put-digits-requires
+put-digits-requires t c κs = (omega arith, omega (arith, digits-big-length _ _ (c .before .before .if1 .left) (c .before .if2 .left)))
 
-put-digits-add-out-2 : (t : ℕ) → put-digits-lts.Need-add-out-2 (
-  put-digits-below t,
-  put-digits.Post,
-) (put-digits-at t) put-digits.Post
-put-digits-add-out-2 t c = omega arith
+cast-out-2 : Each lts.Need-cast-out-2
+cast-out-2 t c = omega arith
 
-put-digits-slice-write-out-2 : (t : ℕ) → put-digits-lts.Need-slice-write-out-2 (
-  put-digits-below t,
-  put-digits.Post,
-) (put-digits-at t) put-digits.Post
-put-digits-slice-write-out-2 t c =
+add-out-2 : Each lts.Need-add-out-2
+add-out-2 t c = omega arith
+
+slice-write-out-2 : Each lts.Need-slice-write-out-2
+slice-write-out-2 t c =
     let x = c .before .before in
-    omega (arith, digits-big-length _ _ (x .before .before .before .if1 .left) (x .before .before .if2 .left), x .put-digits .kept .0)
+    omega (arith, digits-big-length _ _ (x .before .before .before .if1 .left) (x .before .before .if2 .left), x .put-digits .ensures .next-is, puts-length (x .put-digits .ensures))
 
-put-digits-add-result-2 : (t : ℕ) → put-digits-lts.Need-add-result-2 (
-  put-digits-below t,
-  put-digits.Post,
-) (put-digits-at t) put-digits.Post
-put-digits-add-result-2 t c =
+add-result-2 : Each lts.Need-add-result-2
+add-result-2 t c =
     let x = c .before .before in
-    omega (arith, digits-big-length _ _ (x .before .before .before .if1 .left) (x .before .before .if2 .left), x .put-digits .kept .0)
+    omega (arith, digits-big-length _ _ (x .before .before .before .if1 .left) (x .before .before .if2 .left), x .put-digits .ensures .next-is, puts-length (x .put-digits .ensures))
 
-put-digits-same-length-2 : (t : ℕ) → put-digits-lts.Need-same-length-2 (
-  put-digits-below t,
-  put-digits.Post,
-) (put-digits-at t) put-digits.Post
-put-digits-same-length-2 t c =
+same-length-2 : Each lts.Need-same-length-2
+same-length-2 t c = simp length-set (puts-length (c .before .before .put-digits .ensures))
+
+returns-3 : Each lts.Need-returns-3
+returns-3 t c =
     let x = c .before .before in
-    simp length-set (x .put-digits .kept .0)
-
-put-digits-returns-3 : (t : ℕ) → put-digits-lts.Need-returns-3 (
-  put-digits-below t,
-  put-digits.Post,
-) (put-digits-at t) put-digits.Post
-put-digits-returns-3 t c =
-    let x = c .before .before in (
-      omega (arith, digits-big-length _ _ (x .before .before .before .if1 .left) (x .before .before .if2 .left)),
-      rw (x .put-digits .ensures .1, x .put-digits .ensures .0, digits-big _ _ (x .before .before .before .if1 .left) (x .before .before .if2 .left), sets-append),
-    )
+    rw (digits-big _ _ (x .before .before .before .if1 .left) (x .before .before .if2 .left)) (puts-append (x .put-digits .ensures) (puts-byte _ _ _))
 
 pub +put-digits-spec : {M : Type 1} → statement M
-+put-digits-spec = close μ-put-digits λ t. put-digits-lts.spec (
-  put-digits-below t,
-  put-digits.Post,
-)
-    (put-digits-at t)
-    put-digits.Post
-    (put-digits-returns t)
-    (put-digits-cast-out t)
-    (put-digits-add-out t)
-    (put-digits-slice-write-out t)
-    (put-digits-add-result t)
-    (put-digits-same-length t)
-    (put-digits-returns-2 t)
-    (put-digits-sub-put-digits t)
-    (put-digits-put-digits-requires t)
-    (put-digits-cast-out-2 t)
-    (put-digits-add-out-2 t)
-    (put-digits-slice-write-out-2 t)
-    (put-digits-add-result-2 t)
-    (put-digits-same-length-2 t)
-    (put-digits-returns-3 t)
++put-digits-spec =
+    close
+    μ
+    λ t. lts.spec
+    (below t, reads.Post)
+    (at t)
+    reads.Post
+    (returns t)
+    (cast-out t)
+    (add-out t)
+    (slice-write-out t)
+    (add-result t)
+    (same-length t)
+    (returns-2 t)
+    (sub-put-digits t)
+    (put-digits-requires t)
+    (cast-out-2 t)
+    (add-out-2 t)
+    (slice-write-out-2 t)
+    (add-result-2 t)
+    (same-length-2 t)
+    (returns-3 t)

@@ -1,122 +1,89 @@
--- `sheet::text::put_line` meets its contract. Invariant: the text of the first i numbers is written after the letter.
+-- `sheet::text::put_line` meets its contract. Invariant: the first i numbers are written after the letter.
 -- Assumes nothing.
-use mathlib.Core.Path.{_≡_, refl, _∙_, ap}
-use Prim.Native.Nat.{ℕ, _≤_, _<_, _-_, _+_}
+use mathlib.Core.Path.{_≡_, _∙_}
+use Prim.Native.Nat.{_≤_, _<_, _-_, _+_}
 use native.Mathlib.Omega.{arith}
-use lib.ListN.{length, take, drop, length-set}
-use lib.Seq.{sets, length-sets}
+use lib.ListN.{length, take, set, length-set}
 use borrow.Author.Needs.{needs}
-use Rattle.sheet.specs.Lines.{line}
-use Rattle.sheet.specs.Text.{lineText}
-use Rattle.sheet.specs.Calls.{width}
-use Rattle.sheet.specs.Inner.{kindAt}
-use Rattle.sheet.specs.Laws.Stores.{sets-append}
-use Rattle.sheet.proofs.PutText.{numbersText, numbers-more, numbers-more-length, numbers-room, line-length, line-sets}
+use Rattle.sheet.specs.Lists.{bind}
+use Rattle.sheet.specs.Text.{numberText, printed}
+use Rattle.sheet.specs.Laws.Puts.{Puts, puts-length, puts-none, puts-byte, puts-append, puts-more, puts-all, puts-fits}
+use Rattle.sheet.specs.Laws.Printed.{printed-length}
 use Rattle.sheet.proofs.text.put_line.Statement.{statement}
 use Rattle.sheet.proofs.text.put_line.Tie as tie
 
 abbrev Inv-loop : tie.InvT-loop
-Inv-loop out₀ at k g from w next₀ i₀ out next i =
-    (i ≤ w)
-    × (next ≡ at + 1 + length (numbersText (take i (drop from g))))
-    × (out ≡ sets out₀ (at + 1) (numbersText (take i (drop from g))))
+Inv-loop out₀ at letter numbers most next₀ i₀ out next i = (i ≤ length numbers) × Puts (bind (take i numbers) (numberText most)) out₀ (at + 1) out next
 
 abbrev μ-loop : tie.MeasureT-loop
-μ-loop out₀ at k g from w next₀ i₀ out next i = w - i
+μ-loop out₀ at letter numbers most next₀ i₀ out next i = length numbers - i
 
-width-of-requires : tie.Need-width-of-requires Inv-loop μ-loop
-width-of-requires c κs = search needs
-
-letter-of-requires : tie.Need-letter-of-requires Inv-loop μ-loop
-letter-of-requires c κs = search needs
-
--- the length of the line's text
-size : (z : tie.Start Inv-loop μ-loop) → let a = z .args in let ns = take (width (kindAt (a .k))) (drop (a .from) (a .g .now)) in
-    length (lineText (line (kindAt (a .k)) ns)) ≡ length (numbersText ns) + 2
-size z = let a = z .args in line-length (kindAt (a .k)) (take (width (kindAt (a .k))) (drop (a .from) (a .g .now)))
+-- what the line takes
+size : (z : tie.Start Inv-loop μ-loop) → let a = z .args in
+    length (printed (a .most) (a .letter) (a .numbers .now)) ≡ length (bind (a .numbers .now) (numberText (a .most))) + 2
+size z = printed-length (z .args .most) (z .args .letter) (z .args .numbers .now)
 
 slice-write-out : tie.Need-slice-write-out Inv-loop μ-loop
-slice-write-out c = let z = c .before .before .before .before in omega (arith, z .pre, size z)
+slice-write-out c = let z = c .before .before in omega (arith, z .pre, size z)
 
 add-next : tie.Need-add-next Inv-loop μ-loop
-add-next c = let z = c .before .before .before .before in omega (arith, z .pre, size z)
+add-next c = let z = c .before .before in omega (arith, z .pre, size z)
 
 loop-holds : tie.Need-loop-holds Inv-loop μ-loop
-loop-holds c = (omega arith, omega arith, refl)
-
--- the buffer is as long as it was
-len : (c : tie.At-loop Inv-loop μ-loop) → length (c .loop .out) ≡ length (c .before .before .before .before .before .args .out .now)
-len c = ap length (c .loop .inv .2) ∙ simp (length-sets, length-set)
-
-add-put-number : tie.Need-add-put-number Inv-loop μ-loop
-add-put-number c = omega (arith, c .before .before .before .before .width-of .ensures)
+loop-holds c = (omega arith, puts-none _ _)
 
 mul-put-number : tie.Need-mul-put-number Inv-loop μ-loop
-mul-put-number c = omega (arith, c .before .before .before .before .width-of .ensures)
+mul-put-number c = search needs
 
 shared-slice-read-put-number : tie.Need-shared-slice-read-put-number Inv-loop μ-loop
-shared-slice-read-put-number c = omega (arith, c .before .before .before .before .before .width-of .ensures)
+shared-slice-read-put-number c = search needs
 
 put-number-requires : tie.Need-put-number-requires Inv-loop μ-loop
 put-number-requires c κs =
     let h = c .before .before .before in
-    let z = h .before .before .before .before .before in
-    let a = z .args in
-    let l : a .from + h .loop .i < length (a .g .now) = omega (arith, c .before .before, z .pre, h .before .before .width-of .ensures) in
-    let m : h .loop .i + 1 ≤ width (kindAt (a .k)) = omega (arith, c .before .before, h .before .before .width-of .ensures) in
-    let more = numbers-more-length (a .g .now) (a .from) (h .loop .i) l in
-    let room = numbers-room (drop (a .from) (a .g .now)) (h .loop .i + 1) (width (kindAt (a .k))) m in
-    omega (arith, h .loop .inv, z .pre, len h, size z)
+    let z = h .before .before .before in
+    let ns = z .args .numbers .now in
+    let l : h .loop .i < length ns = search needs in
+    omega (arith, puts-fits (numberText (z .args .most)) 0 ns (h .loop .i) l (h .loop .inv .1), puts-length (h .loop .inv .1), length-set (z .args .out .now) (z .args .at) (z .args .letter), z .pre, size z)
 
 add-i : tie.Need-add-i Inv-loop μ-loop
-add-i c = omega (arith, c .before .before .before .before .before)
+add-i c = search needs
 
 loop-less : tie.Need-loop-less Inv-loop μ-loop
-loop-less c = omega (arith, c .before .before .before .before .before)
+loop-less c = search needs
 
 loop-again : tie.Need-loop-again Inv-loop μ-loop
 loop-again c =
-    let x = c .before .before in
-    let y = x .before .before .before in
-    let h = y .before in
-    let z = h .before .before .before .before .before in
-    let a = z .args in
-    let l : a .from + h .loop .i < length (a .g .now) = omega (arith, y, z .pre, h .before .before .width-of .ensures) in (
-      omega (arith, y),
-      omega (arith, x .put-number .ensures .0, h .loop .inv .1, numbers-more-length (a .g .now) (a .from) (h .loop .i) l),
-      x .put-number .ensures .1
-          ∙ rw (numbers-more (a .g .now) (a .from) (h .loop .i) l, sets-append, ← (h .loop .inv .1), ← (h .loop .inv .2)),
-    )
+    let h = c .before .before .before .before .before .before in
+    let a = h .before .before .before .args in
+    let l : h .loop .i < length (a .numbers .now) = search needs in
+    (omega arith, puts-more (numberText (a .most)) 0 (a .numbers .now) (h .loop .i) l (h .loop .inv .1) (c .before .before .put-number .ensures))
 
 -- all numbers are written
-ends : (c : tie.After-loop Inv-loop μ-loop) → c .before .loop .i ≡ width (kindAt (c .before .before .before .before .before .before .args .k))
-ends c = omega (arith, c .before .before .before .width-of .ensures, c .before .loop .inv .0, c .loop-test .left)
-
-next : (c : tie.After-loop Inv-loop μ-loop) → let h = c .before in let a = h .before .before .before .before .before .args in
-    h .loop .next ≡ a .at + 1 + length (numbersText (take (width (kindAt (a .k))) (drop (a .from) (a .g .now))))
-next c =
-    let h = c .before in
-    let a = h .before .before .before .before .before .args in
-    h .loop .inv .1 ∙ ap (λ (m : ℕ). a .at + 1 + length (numbersText (take m (drop (a .from) (a .g .now))))) (ends c)
+all : (c : tie.After-loop Inv-loop μ-loop) → let h = c .before in let a = h .before .before .before .args in
+    Puts (bind (a .numbers .now) (numberText (a .most))) (set (a .out .now) (a .at) (a .letter)) (a .at + 1) (h .loop .out) (h .loop .next)
+all c = let a = c .before .before .before .before .args in puts-all (numberText (a .most)) 0 (a .numbers .now) (c .before .loop .i) (search needs) (c .before .loop .inv .1)
 
 slice-write-out-2 : tie.Need-slice-write-out-2 Inv-loop μ-loop
-slice-write-out-2 c = let z = c .before .before .before .before .before .before in omega (arith, len (c .before), next c, z .pre, size z)
+slice-write-out-2 c =
+    let h = c .before in
+    let z = h .before .before .before in
+    let e = all c in
+    omega (arith, e .next-is, puts-length e, length-set (z .args .out .now) (z .args .at) (z .args .letter), z .pre, size z)
 
 add-result : tie.Need-add-result Inv-loop μ-loop
-add-result c = let z = c .before .before .before .before .before .before in omega (arith, len (c .before), next c, z .pre, size z)
+add-result c =
+    let h = c .before in
+    let z = h .before .before .before in
+    let e = all c in
+    omega (arith, e .next-is, puts-length e, length-set (z .args .out .now) (z .args .at) (z .args .letter), z .pre, size z)
 
 same-length : tie.Need-same-length Inv-loop μ-loop
-same-length c = simp length-set (len (c .before))
+same-length c = simp length-set (puts-length (all c) ∙ simp length-set)
 
 returns : tie.Need-returns Inv-loop μ-loop
-returns c =
-    let h = c .before in
-    let z = h .before .before .before .before .before in
-    let a = z .args in (
-      omega (arith, next c, size z),
-      rw (h .loop .inv .2, next c, ends c, h .before .letter-of .ensures)
-          (line-sets (a .out .now) (a .at) (kindAt (a .k)) (take (width (kindAt (a .k))) (drop (a .from) (a .g .now)))),
-    )
+unfolding printed
+returns c = puts-append (puts-byte _ _ _) (puts-append (all c) (puts-byte 10 _ _))
 
 pub put-line-spec : {M : Type 1} → statement M
 put-line-spec =
@@ -124,12 +91,9 @@ put-line-spec =
     (tie.spec
     Inv-loop
     μ-loop
-    width-of-requires
-    letter-of-requires
     slice-write-out
     add-next
     loop-holds
-    add-put-number
     mul-put-number
     shared-slice-read-put-number
     put-number-requires

@@ -1,11 +1,11 @@
 -- `sheet::text::put_number` meets its contract: a comma, and the digits after it.
 -- Assumes nothing.
-use mathlib.Core.Path.{refl, _∙_}
+use mathlib.Core.Path.{_∙_}
 use native.Mathlib.Omega.{arith}
-use native.Mathlib.Numerals.{add-one}
 use lib.ListN.{length-set}
 use borrow.Author.Needs.{needs}
 use Rattle.sheet.specs.Text.{numberText}
+use Rattle.sheet.specs.Laws.Puts.{puts-byte, puts-append}
 use Rattle.sheet.proofs.text.put_number.Statement.{statement}
 use Rattle.sheet.proofs.text.put_number.Tie as tie
 
@@ -26,9 +26,7 @@ same-length c = c .before .before .put-digits .kept .0 ∙ simp length-set
 
 returns : tie.Need-returns
 unfolding numberText
-returns c =
-    let x = c .before .before in
-    (omega arith, x .put-digits .ensures .1 ∙ rw add-one refl)
+returns c = puts-append (puts-byte 44 _ _) (c .before .before .put-digits .ensures)
 
 pub put-number-spec : {M : Type 1} → statement M
 put-number-spec =

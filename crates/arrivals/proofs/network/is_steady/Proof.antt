@@ -1,0 +1,26 @@
+-- `arrivals::network::is_steady` meets its contract: one test.
+-- Assumes nothing.
+use borrow.Author.Needs.{needs}
+use borrow.Author.Tests.{eqb-true}
+use Rattle.arrivals.specs.Inner.Pruning.{steady-of}
+use Rattle.arrivals.proofs.network.is_steady.Statement.{statement}
+use Rattle.arrivals.proofs.network.is_steady.Tie as tie
+
+cast-result : tie.Need-cast-result
+cast-result c = search needs
+
+add-result : tie.Need-add-result
+add-result c = search needs
+
+mul-result : tie.Need-mul-result
+mul-result c = search needs
+
+shared-slice-read-result : tie.Need-shared-slice-read-result
+shared-slice-read-result c = search needs
+
+returns : tie.Need-returns
+returns c = steady-of _ _ _ _ (λ e. eqb-true _ _ e)
+
+pub is-steady-spec : {M : Type 1} → statement M
+is-steady-spec =
+    tie.close (tie.spec cast-result add-result mul-result shared-slice-read-result returns)

@@ -1,0 +1,29 @@
+-- The table of first steps of free runs, as `fill_since` leaves it, and a sheet in one array with that table beside it.
+use mathlib.Core.Path.{_≡_}
+use mathlib.Core.List.{List}
+use Prim.Native.Nat.{ℕ, _+_, _*_, _≤_, _<_, _%_}
+use lib.ListN.{length}
+use Rattle.sheet.specs.Lists.{_∈_, number}
+use Rattle.sheet.specs.Kinds.{kindO}
+use Rattle.sheet.specs.Sheet.{Sheet, placeOf, last}
+use Rattle.sheet.specs.Calls.{groupRows}
+use Rattle.sheet.specs.Store.{StoreOf, partOf}
+use Rattle.intervals.specs.Computed.{sinceOf}
+
+-- whole lines, at most 256, of places below 64 and steps up to 255
+pub record ValidGroup (occupancies : List ℕ) : Type 0 where
+  pub most : length occupancies ≤ 768
+  pub whole : length occupancies % 3 ≡ 0
+  pub place : (o : List ℕ) → o ∈ groupRows kindO occupancies → placeOf o < 64
+  pub step : (o : List ℕ) → o ∈ groupRows kindO occupancies → last o ≤ 255
+
+-- the table holds the first steps of the free runs, on every sheet with these occupancies
+pub record SinceTable (occupancies since : List ℕ) : Type 0 where
+  pub size : length since ≡ 16384
+  pub of : (s : Sheet) → s .occupancies ≡ groupRows kindO occupancies → (v t : ℕ) → v < 64 → t < 256 → number since (v * 256 + t) ≡ sinceOf s v t
+
+-- a valid sheet stands in the array, and the table holds the first steps of its free runs
+pub record Derived (lines all since : List ℕ) : Type 0 where
+  pub sheet : Sheet
+  pub store : StoreOf sheet lines all
+  pub firsts : SinceTable (partOf lines all 2) since

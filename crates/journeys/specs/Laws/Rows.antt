@@ -1,0 +1,154 @@
+-- The rows of a table and the goal rows among them: row k of the table and the rows up to it; the goal rows are a prefix, and one row more. The first
+-- goal row with a cost has the step that the front list tells.
+use mathlib.Core.Path.{_≡_, refl, sym, _∙_, ap, subst}
+use mathlib.Core.Logic.{inl, inr, _≢_}
+use mathlib.Core.Bool.{Bool, true, false, true≢false}
+use mathlib.Core.List.{List, [], _∷_, _++_, map, append-nil}
+use Prim.Native.Nat.{ℕ, zero, suc, _+_, _*_, _<_}
+use native.Mathlib.Omega.{arith}
+use native.Mathlib.Nat.{zero-mul}
+use native.Mathlib.Numerals.{add-one}
+use lib.Dec.{eqb}
+use lib.ListN.{getD, take, drop}
+use borrow.Author.Tests.{eqb-true, eqb-false}
+use Rattle.sheet.specs.Lists.{_∈_, pick, number, numbersFrom, rows, keep, filter}
+use Rattle.sheet.specs.Laws.Members.{filter-mem, map-mem, mem-map, mem-left, mem-right, getD-map}
+use Rattle.sheet.specs.Laws.Rows.{rows-count, rows-at}
+use Rattle.costs.specs.Costs.{Cost, figures}
+use Rattle.costs.specs.Computed.{sameb}
+use Rattle.costs.specs.Laws.Figures.{sameb-true, sameb-refl}
+use Rattle.costs.specs.Laws.Rows.{row, row-number, row-later, rows-mem}
+use Rattle.arrivals.specs.Arrivals.{Arrival, arrival}
+use Rattle.arrivals.specs.Laws.Leading.{arrival-path}
+use Rattle.arrivals.specs.Rows.{costAt, rowAt}
+use Rattle.journeys.specs.Held.{rowOf, tableRows}
+use Rattle.journeys.specs.Inner.{isGoalRow, goalRows, costsOf, firstStep}
+
+-- row k of the table, by the table's numbers
+pub rowAt-is : (xs : List ℕ) (k : ℕ) → rowOf (row 5 xs k) ≡ rowAt xs k
+rowAt-is xs k = arrival-path (rowOf (row 5 xs k)) (rowAt xs k) first (row-number 5 xs k 1 (omega arith)) rest
+  where
+    at : (j i : ℕ) → j < 5 → k * 5 + j ≡ i → number (row 5 xs k) j ≡ number xs i
+    at j i h e = row-number 5 xs k j h ∙ ap (number xs) e
+
+    first : number (row 5 xs k) 0 ≡ number xs (k * 5)
+    first = at 0 (k * 5) (omega arith) (omega arith)
+
+    rest : numbersFrom figures 2 (row 5 xs k) ≡ numbersFrom figures (k * 5 + 2) xs
+    rest =
+        let a = at 2 (k * 5 + 2) (omega arith) refl in
+        let b = at 3 (suc (k * 5 + 2)) (omega arith) (omega arith) in
+        let d = at 4 (suc (suc (k * 5 + 2))) (omega arith) (omega arith) in
+        rw (a, b, d)
+
+-- one row more
+rows-snoc : (w k : ℕ) (l : List ℕ) → rows w (suc k) l ≡ rows w k l ++ (row w l k ∷ [])
+rows-snoc w zero l = rw (zero-mul w)
+rows-snoc w (suc k) l = ap (λ (x : List (List ℕ)). take w l ∷ x) (rows-snoc w k (drop w l) ∙ ap (λ (x : List ℕ). rows w k (drop w l) ++ (x ∷ [])) (row-later w l k))
+
+map-snoc : {A B : Type 0} (f : A → B) (l : List A) (x : A) → map f (l ++ (x ∷ [])) ≡ map f l ++ (f x ∷ [])
+map-snoc f [] x = refl
+map-snoc f (y ∷ l) x = ap (λ (k : List _). f y ∷ k) (map-snoc f l x)
+
+filter-snoc : {A : Type 0} (p : A → Bool) (l : List A) (x : A) → filter p (l ++ (x ∷ [])) ≡ filter p l ++ keep (p x) x []
+filter-snoc p [] x = refl
+filter-snoc p (y ∷ l) x = go (p y) (filter-snoc p l x)
+  where
+    go : (b : Bool) → filter p (l ++ (x ∷ [])) ≡ filter p l ++ keep (p x) x [] → keep b y (filter p (l ++ (x ∷ []))) ≡ keep b y (filter p l) ++ keep (p x) x []
+    go true e = ap (λ (k : List _). y ∷ k) e
+    go false e = e
+
+pub table-row : (n : ℕ) (xs : List ℕ) (i : ℕ) → i < n → getD (tableRows n xs) i (arrival 0 0 []) ≡ rowAt xs i
+table-row n xs i h =
+    getD-map rowOf (rows 5 n xs) i [] (arrival 0 0 []) (omega (arith, h, rows-count 5 n xs)) ∙ ap rowOf (rows-at 5 n xs i h) ∙ rowAt-is xs i
+
+pub table-more : (k : ℕ) (xs : List ℕ) → tableRows (k + 1) xs ≡ tableRows k xs ++ (rowAt xs k ∷ [])
+table-more k xs =
+    ap (λ (n : ℕ). tableRows n xs) (add-one k)
+    ∙ ap (map rowOf) (rows-snoc 5 k xs)
+    ∙ map-snoc rowOf (rows 5 k xs) (row 5 xs k)
+    ∙ ap (λ (a : Arrival). tableRows k xs ++ (a ∷ [])) (rowAt-is xs k)
+
+module _ (v last : ℕ) (xs : List ℕ) where
+  pub goal-more : (k : ℕ) → goalRows v last (k + 1) xs ≡ goalRows v last k xs ++ keep (isGoalRow v last (rowAt xs k)) (rowAt xs k) []
+  goal-more k = ap (filter (isGoalRow v last)) (table-more k xs) ∙ filter-snoc (isGoalRow v last) (tableRows k xs) (rowAt xs k)
+
+  pub goal-kept : (k : ℕ) → isGoalRow v last (rowAt xs k) ≡ true → goalRows v last (k + 1) xs ≡ goalRows v last k xs ++ (rowAt xs k ∷ [])
+  goal-kept k e = goal-more k ∙ ap (λ (b : Bool). goalRows v last k xs ++ keep b (rowAt xs k) []) e
+
+  goal-later : (k : ℕ) (a : Arrival) → a ∈ goalRows v last k xs → a ∈ goalRows v last (k + 1) xs
+  goal-later k a m = subst (λ (l : List Arrival). a ∈ l) (sym (goal-more k)) (mem-left a (goalRows v last k xs) (keep (isGoalRow v last (rowAt xs k)) (rowAt xs k) []) m)
+
+  -- the rows are the goal rows
+  pub goal-row : (n k : ℕ) → k < n → isGoalRow v last (rowAt xs k) ≡ true → rowAt xs k ∈ goalRows v last n xs
+  goal-row zero k h e = absurd (omega arith)
+  goal-row (suc n) k h e = go (eqb k n) refl (goal-row n k)
+    where
+      go : (b : Bool) → eqb k n ≡ b → (k < n → isGoalRow v last (rowAt xs k) ≡ true → rowAt xs k ∈ goalRows v last n xs) → rowAt xs k ∈ goalRows v last (suc n) xs
+      go true q f =
+          let r : k ≡ n = eqb-true k n q in
+          let m : rowAt xs k ∈ goalRows v last (k + 1) xs = subst (λ (l : List Arrival). rowAt xs k ∈ l) (sym (goal-kept k e)) (mem-right (rowAt xs k) (goalRows v last k xs) (rowAt xs k ∷ []) (inl refl)) in
+          let z : k + 1 ≡ suc n = omega arith in
+          subst (λ (i : ℕ). rowAt xs k ∈ goalRows v last i xs) z m
+      go false q f =
+          let d : k ≢ n = eqb-false k n q in
+          subst (λ (i : ℕ). rowAt xs k ∈ goalRows v last i xs) (add-one n) (goal-later n (rowAt xs k) (f (omega arith) e))
+
+-- each goal row is a row of the table
+pub goal-at : (v last n : ℕ) (xs : List ℕ) (a : Arrival) → a ∈ goalRows v last n xs → (k : ℕ) × (k < n) × (isGoalRow v last (rowAt xs k) ≡ true) × (a ≡ rowAt xs k)
+goal-at v last n xs a m =
+    let f = filter-mem (isGoalRow v last) a (tableRows n xs) m in
+    let r = map-mem rowOf a (rows 5 n xs) (f .0) in
+    let q = rows-mem 5 n xs (r .0) (r .1) in
+    let e : a ≡ rowAt xs (q .0) = r .2 ∙ ap rowOf (q .2) ∙ rowAt-is xs (q .0) in
+    (q .0, q .1, ap (isGoalRow v last) (sym e) ∙ f .1, e)
+
+pub cost-at : (v last n : ℕ) (xs : List ℕ) (g : Cost) → g ∈ costsOf (goalRows v last n xs) → (k : ℕ) × (k < n) × (isGoalRow v last (rowAt xs k) ≡ true) × (g ≡ costAt xs k)
+cost-at v last n xs g m =
+    let r = map-mem (λ (a : Arrival). a .cost) g (goalRows v last n xs) m in
+    let q = goal-at v last n xs (r .0) (r .1) in
+    (q .0, q .1, q .2, r .2 ∙ ap (λ (a : Arrival). a .cost) (q .3))
+
+pub at-cost : (v last n : ℕ) (xs : List ℕ) (k : ℕ) → k < n → isGoalRow v last (rowAt xs k) ≡ true → costAt xs k ∈ costsOf (goalRows v last n xs)
+at-cost v last n xs k h e = mem-map (λ (a : Arrival). a .cost) (rowAt xs k) (goalRows v last n xs) (goal-row v last xs n k h e)
+
+-- the step of the first arrival with a cost, in a list that is gone through
+first-left : (g : Cost) (p : List Arrival) (a : Arrival) → g ∈ costsOf p → firstStep g (p ++ (a ∷ [])) ≡ firstStep g p
+first-left g [] a m = absurd m
+first-left g (x ∷ p) a m = go (sameb (x .cost) g) refl m (first-left g p a)
+  where
+    go : (b : Bool) → sameb (x .cost) g ≡ b → g ∈ costsOf (x ∷ p) → (g ∈ costsOf p → firstStep g (p ++ (a ∷ [])) ≡ firstStep g p) → pick b (x .step) (firstStep g (p ++ (a ∷ []))) ≡ pick b (x .step) (firstStep g p)
+    go true e m f = refl
+    go false e (inr n) f = f n
+    go false e (inl q) f = absurd (true≢false (sym (subst (λ (h : Cost). sameb h g ≡ true) q (sameb-refl g)) ∙ e))
+
+first-right : (p : List Arrival) (a : Arrival) → (a .cost ∈ costsOf p → ⊥) → firstStep (a .cost) (p ++ (a ∷ [])) ≡ a .step
+first-right [] a n = rw (sameb-refl (a .cost))
+first-right (x ∷ p) a n = go (sameb (x .cost) (a .cost)) refl (first-right p a)
+  where
+    go : (b : Bool) → sameb (x .cost) (a .cost) ≡ b → ((a .cost ∈ costsOf p → ⊥) → firstStep (a .cost) (p ++ (a ∷ [])) ≡ a .step) → pick b (x .step) (firstStep (a .cost) (p ++ (a ∷ []))) ≡ a .step
+    go true e f = absurd (n (inl (sym (sameb-true (x .cost) (a .cost) e))))
+    go false e f = f (λ m. n (inr m))
+
+-- the step of the first arrival with the cost of row k is row k's, where no goal row before it has that cost
+pub first-row : (v last n : ℕ) (xs : List ℕ) (k : ℕ) → k < n → isGoalRow v last (rowAt xs k) ≡ true → (costAt xs k ∈ costsOf (goalRows v last k xs) → ⊥)
+    → firstStep (costAt xs k) (goalRows v last n xs) ≡ rowAt xs k .step
+first-row v last zero xs k h e f = absurd (omega arith)
+first-row v last (suc n) xs k h e f = go (eqb k n) refl (first-row v last n xs k)
+  where
+    g : Cost
+    g = costAt xs k
+
+    more : (b : Bool) → firstStep g (goalRows v last n xs) ≡ rowAt xs k .step → g ∈ costsOf (goalRows v last n xs) → firstStep g (goalRows v last n xs ++ keep b (rowAt xs n) []) ≡ rowAt xs k .step
+    more true q m = first-left g (goalRows v last n xs) (rowAt xs n) m ∙ q
+    more false q m = ap (firstStep g) (append-nil (goalRows v last n xs)) ∙ q
+
+    go : (b : Bool) → eqb k n ≡ b → (k < n → isGoalRow v last (rowAt xs k) ≡ true → (g ∈ costsOf (goalRows v last k xs) → ⊥) → firstStep g (goalRows v last n xs) ≡ rowAt xs k .step)
+        → firstStep g (goalRows v last (suc n) xs) ≡ rowAt xs k .step
+    go true q r =
+        let z : suc n ≡ k + 1 = omega (arith, eqb-true k n q) in
+        ap (λ (i : ℕ). firstStep g (goalRows v last i xs)) z ∙ ap (firstStep g) (goal-kept v last xs k e) ∙ first-right (goalRows v last k xs) (rowAt xs k) f
+    go false q r =
+        let d : k ≢ n = eqb-false k n q in
+        let l : k < n = omega arith in
+        ap (λ (i : ℕ). firstStep g (goalRows v last i xs)) (sym (add-one n)) ∙ ap (firstStep g) (goal-more v last xs n) ∙ more (isGoalRow v last (rowAt xs n)) (r l e f) (at-cost v last n xs k l e)

@@ -1,0 +1,140 @@
+-- Each test of a line after the lines that stand in the arrays, as the code computes it from them and from the row of the line's kind.
+-- Test 3: the first line is of the first kind, and some line is of a later kind exactly where a later count is not 0.
+-- Assumes nothing.
+use mathlib.Core.Path.{_≡_, refl, sym, _∙_, ap}
+use mathlib.Core.Logic.{inl}
+use mathlib.Core.Bool.{Bool, true, false, not, _&&_, _||_}
+use mathlib.Core.List.{List, [], _∷_, _++_, map, append-assoc}
+use Prim.Native.Nat.{ℕ, zero, suc, _+_, _*_, _-_, _≤_, _<_}
+use native.Mathlib.Omega.{arith}
+use lib.Dec.{ltb, leb, eqb}
+use lib.ListN.{length, take, drop, length-drop, List·getD-append}
+use lib.Seq.{getD-take, getD-drop, take-take}
+use borrow.Author.Tests.{ltb-true, ltb-false, eq-eqb, ne-eqb, eqb-true, eqb-false, not-false}
+use Rattle.sheet.specs.Lists.{pick, number, any, flat, lexb}
+use Rattle.sheet.specs.Kinds.{width, kindS}
+use Rattle.sheet.specs.Lines.{Line}
+use Rattle.sheet.specs.Sheet.{group, misplaced, tooMany, outside, placesIn, unpaired, latest, notAbove}
+use Rattle.sheet.specs.Store.{kindCount, kindAt}
+use Rattle.sheet.specs.Inner.{limitAt, pairAt, lineAt, misplacedBy, notAboveBy, RowIs, Stored}
+use Rattle.sheet.specs.Laws.Passed.{or-false, any-false, false-any}
+use Rattle.sheet.specs.Laws.Kinds.{order-at, kind-at, order-below, width-some, key-inside}
+use Rattle.sheet.specs.Laws.Groups.{group-none, first-head, head-group}
+use Rattle.sheet.specs.declared.kinds.Row.{Row}
+use Rattle.sheet.proofs.Passing.{counted}
+use Rattle.sheet.proofs.Standing.{group-some, count-is, lines-length, last-is, part-is, head-count}
+
+-- two tests that fail alike
+same-fails : (a b : Bool) → (a ≡ false → b ≡ false) → (b ≡ false → a ≡ false) → a ≡ b
+same-fails false b f g = sym (f refl)
+same-fails true false f g = g refl
+same-fails true true f g = refl
+
+-- a test of every number of a list, by its position
+none-at : (t : ℕ → Bool) (l : List ℕ) → any t l ≡ false → (i : ℕ) → i < length l → t (number l i) ≡ false
+none-at t [] e i h = absurd (omega arith)
+none-at t (x ∷ l) e zero h = or-false (t x) (any t l) e .0
+none-at t (x ∷ l) e (suc i) h = none-at t l (or-false (t x) (any t l) e .1) i (omega arith)
+
+at-none : (t : ℕ → Bool) (l : List ℕ) → ((i : ℕ) → i < length l → t (number l i) ≡ false) → any t l ≡ false
+at-none t [] f = refl
+at-none t (x ∷ l) f = rw (f 0 (omega arith)) (at-none t l (λ i h. f (suc i) (omega arith)))
+
+-- a number that is counted is not among the later ones, where none of them is
+counted-below : (lines : List ℕ) (k o : ℕ) → any counted (drop (suc k) lines) ≡ false → o < length lines → 1 ≤ number lines o → ltb k o ≡ false
+counted-below lines k o e b c = go (ltb k o) refl
+  where
+    go : (t : Bool) → ltb k o ≡ t → ltb k o ≡ false
+    go false q = q
+    go true q =
+        let l = ltb-true k o q in
+        let s : suc k + (o - suc k) ≡ o = omega arith in
+        let n : number (drop (suc k) lines) (o - suc k) ≡ number lines o = getD-drop (suc k) lines (o - suc k) 0 ∙ ap (number lines) s in
+        let z = none-at counted (drop (suc k) lines) e (o - suc k) (omega (arith, length-drop (suc k) lines)) in
+        absurd (omega (arith, n, eqb-true (number (drop (suc k) lines) (o - suc k)) 0 (not-false (eqb (number (drop (suc k) lines) (o - suc k)) 0) z)))
+
+-- the first numbers of a pair of positions
+pair-inside : (p i j w : ℕ) (v : List ℕ) → i < w → j < w → unpaired (pairAt p i j) (take w v) ≡ unpaired (pairAt p i j) v
+pair-inside zero i j w v a b = refl
+pair-inside (suc zero) i j w v a b = rw (getD-take w v i 0 a, getD-take w v j 0 b)
+pair-inside (suc (suc p)) i j w v a b = rw (getD-take w v i 0 a, getD-take w v j 0 b)
+
+-- some line is of a later kind
+later-counted : {before : List Line} {lines all : List ℕ} → Stored before lines all → (k : ℕ)
+    → any (λ l. ltb k (l .kind .order)) before ≡ any counted (drop (suc k) lines)
+later-counted {before = before} {lines = lines} S k =
+    same-fails (any (λ l. ltb k (l .kind .order)) before) (any counted (drop (suc k) lines))
+    (λ e. at-none counted (drop (suc k) lines) (λ i l.
+    let b : suc k + i < kindCount = omega (arith, length-drop (suc k) lines, lines-length S) in
+    let z : group (kindAt (suc k + i)) before ≡ [] =
+    group-none (kindAt (suc k + i)) before
+    (λ m j q. omega (arith, order-at (suc k + i) b, ltb-false k (m .kind .order) (any-false (λ l. ltb k (l .kind .order)) before e m j))) in
+    rw (getD-drop (suc k) lines i 0, count-is S b, z)))
+    (λ e. false-any (λ l. ltb k (l .kind .order)) before (λ m j.
+    let o = m .kind .order in
+    let b : o < kindCount = order-below (m .kind) (S .shaped m j .known) in
+    counted-below lines k o e (omega (arith, lines-length S))
+    (rw (count-is S b, kind-at (m .kind) (S .shaped m j .known)) (group-some m before j))))
+
+-- test 3
+pub misplaced-is : {before : List Line} {lines all : List ℕ} → Stored before lines all → {k : ℕ} → k < kindCount → (v : List ℕ)
+    → misplaced before (lineAt k v) ≡ misplacedBy lines k
+misplaced-is {before = []} S {k = k} h v = rw (order-at k h, head-count S) (go (eqb k 0))
+  where
+    go : (b : Bool) → not b ≡ pick b false true
+    go true = refl
+    go false = refl
+misplaced-is {before = m ∷ before} {lines = lines} S {k = k} h v =
+    rw (order-at k h, head-count S, later-counted S k) (go (eqb k 0) (any counted (drop (suc k) lines)))
+  where
+    go : (b r : Bool) → b || r ≡ pick b true r
+    go true r = refl
+    go false r = refl
+
+no-rows : (g : List (List ℕ)) → length g ≡ 0 → g ≡ []
+no-rows [] e = refl
+no-rows (n ∷ g) e = absurd (omega arith)
+
+module _ {before : List Line} {lines all : List ℕ} (S : Stored before lines all) {k : ℕ} (h : k < kindCount) {r : Row} (R : RowIs k r) (v : List ℕ) where
+  -- test 7
+  pub many-is : tooMany before (lineAt k v) ≡ leb (r .most) (number lines k)
+  many-is = rw (R .most-is, count-is S h)
+
+  -- test 6
+  pub unpaired-is : unpaired (kindAt k .pair) (take (width (kindAt k)) v) ≡ unpaired (pairAt (r .pair) (r .one) (r .other)) v
+  unpaired-is = rw (← R .pair-is, ← R .width-is) (pair-inside (r .pair) (r .one) (r .other) (r .width) v (R .one-inside) (R .other-inside))
+
+  -- test 5
+  pub above-is : notAbove (kindAt k .key) (latest (group (kindAt k) before)) (take (width (kindAt k)) v) ≡ notAboveBy all r (number lines k) v
+  above-is = go (eqb (number lines k) 0) refl
+    where
+      go : (b : Bool) → eqb (number lines k) 0 ≡ b
+          → notAbove (kindAt k .key) (latest (group (kindAt k) before)) (take (width (kindAt k)) v)
+          ≡ not b && not (lexb (take (r .key) (drop (r .base + (number lines k - 1) * r .width) all)) (take (r .key) v))
+      go true q = rw (no-rows (group (kindAt k) before) (sym (count-is S h) ∙ eqb-true (number lines k) 0 q))
+      go false q =
+          let i = key-inside k h in
+          rw (last-is S h (omega (arith, eqb-false (number lines k) 0 q)), R .key-is, R .base-is, R .width-is, take-take (kindAt k .key) (width (kindAt k)) v i)
+          (ap (λ (l : List ℕ). not (lexb l (take (kindAt k .key) v))) (take-take (kindAt k .key) (width (kindAt k)) _ i))
+
+-- test 4
+places-is : {before : List Line} {lines all : List ℕ} → Stored before lines all → {k : ℕ} → k < kindCount → (v : List ℕ)
+    → misplaced before (lineAt k v) ≡ false → placesIn (before ++ (lineAt k v ∷ [])) ≡ pick (eqb k 0) (number v 0) (number all 0)
+places-is {before = []} S {k = k} h v e =
+    let z : k ≡ 0 = sym (order-at k h) ∙ eqb-true (kindAt k .order) 0 (not-false (eqb (kindAt k .order) 0) e) in
+    rw (eq-eqb k 0 z) (getD-take (width (kindAt k)) v 0 0 (width-some k h))
+places-is {before = m ∷ before} S {k = k} h v e =
+    let f : m .kind ≡ kindS = first-head m before (S .shaped) (S .passes) in
+    let q = part-is S {k = 0} (omega arith) in
+    let g = head-group m before (S .shaped) (S .passes) in
+    let w : 0 < length (m .numbers) = omega (arith, S .shaped m (inl refl) .count, ap width f) in
+    rw (ne-eqb k 0 (λ z. eqb-false (kindAt k .order) 0 (or-false (eqb (kindAt k .order) 0) _ e .0) (order-at k h ∙ z)))
+    (sym
+    (ap (λ (l : List ℕ). number l 0) (q .1 ∙ ap (λ (x : List (List ℕ)). flat x ++ q .0) g ∙ append-assoc (m .numbers) [] (q .0))
+    ∙ List·getD-append (m .numbers) (q .0) 0 0 w))
+
+pub outside-is : {before : List Line} {lines all : List ℕ} → Stored before lines all → {k : ℕ} → k < kindCount → {r : Row} → RowIs k r → (v : List ℕ) {p : ℕ}
+    → p ≡ pick (eqb k 0) (number v 0) (number all 0) → misplaced before (lineAt k v) ≡ false
+    → outside (placesIn (before ++ (lineAt k v ∷ []))) (kindAt k .limits) (take (width (kindAt k)) v)
+    ≡ outside p (map limitAt (take (r .width) (r .limits))) (take (r .width) v)
+outside-is S h R v e m = rw (R .limits-are, R .width-is, e, places-is S h v m)

@@ -1,0 +1,93 @@
+-- `sheet::reader::handed_back` meets its contract: each group stands at its base, at full length.
+-- Assumes nothing.
+use mathlib.Core.Path.{sym, _∙_, ap}
+use mathlib.Core.List.{List, append-nil}
+use Prim.Native.Nat.{ℕ, _≤_}
+use native.Mathlib.Omega.{arith}
+use lib.ListN.{length, drop, length-drop}
+use lib.Seq.{length-take-le}
+use borrow.Author.Needs.{needs}
+use Rattle.sheet.specs.Lists.{filled}
+use Rattle.sheet.specs.Kinds.{room, kindS}
+use Rattle.sheet.specs.Calls.{readAnswer}
+use Rattle.sheet.specs.Store.{SomeStore}
+use Rattle.sheet.specs.Laws.Store.{store-length, store-full}
+use Rattle.sheet.proofs.reader.handed_back.Statement.{statement}
+use Rattle.sheet.proofs.reader.handed_back.Tie as tie
+
+long : {lines all : List ℕ} (n : ℕ) → SomeStore lines all → n ≤ 2055 → n ≤ length all
+long n s h = omega (arith, store-length (s .store), h)
+
+slice-aggregate-copy : tie.Need-slice-aggregate-copy
+slice-aggregate-copy c = sym (length-take-le 7 (c .before .before .args .all .now) (long 7 (c .before .before .pre) (omega arith)))
+
+slice-aggregate-copy-2 : tie.Need-slice-aggregate-copy-2
+slice-aggregate-copy-2 c = search needs
+
+copy-requires : tie.Need-copy-requires
+copy-requires c κs = length-take-le 7 (c .before .before .before .args .all .now) (long 7 (c .before .before .before .pre) (omega arith))
+
+sub-copy : tie.Need-sub-copy
+sub-copy c = search needs
+
+part-copy-start : tie.Need-part-copy-start
+part-copy-start c = search needs
+
+part-copy-end : tie.Need-part-copy-end
+part-copy-end c = long 1287 (c .before .before .before .before .before .pre) (omega arith)
+
+slice-aggregate-copy-3 : tie.Need-slice-aggregate-copy-3
+slice-aggregate-copy-3 c = search needs
+
+copy-requires-2 : tie.Need-copy-requires-2
+copy-requires-2 c κs = search needs
+
+sub-copy-2 : tie.Need-sub-copy-2
+sub-copy-2 c = omega arith
+
+part-copy-start-2 : tie.Need-part-copy-start-2
+part-copy-start-2 c = omega arith
+
+part-copy-end-2 : tie.Need-part-copy-end-2
+part-copy-end-2 c = long 2055 (c .before .before .before .before .before .before .before .before .before .pre) (omega arith)
+
+slice-aggregate-copy-4 : tie.Need-slice-aggregate-copy-4
+slice-aggregate-copy-4 c = search needs
+
+copy-requires-3 : tie.Need-copy-requires-3
+copy-requires-3 c κs =
+    let all = c .before .before .before .before .before .before .before .before .before .before .before .args .all .now in
+    length-take-le 768 (drop 1287 all) (omega (arith, length-drop 1287 all, long 2055 (c .before .before .before .before .before .before .before .before .before .before .before .pre) (omega arith)))
+
+returns : tie.Need-returns
+unfolding readAnswer
+returns c =
+    record {
+      of = λ s S i. record {
+        refusal = 0;
+        line = 0;
+        lines = S .counts i;
+        head = (c .before .before .before .before .before .before .before .before .before .copy .ensures ∙ store-full S 0 (omega arith) ∙ ap (filled (room kindS)) (append-nil (s .head))) i;
+        corridors = (c .before .before .before .before .before .copy2 .ensures ∙ store-full S 1 (omega arith)) i;
+        occupancies = (c .before .copy3 .ensures ∙ store-full S 2 (omega arith)) i;
+      };
+    }
+
+pub handed-back-spec : {M : Type 1} → statement M
+handed-back-spec =
+    tie.close
+    (tie.spec
+    slice-aggregate-copy
+    slice-aggregate-copy-2
+    copy-requires
+    sub-copy
+    part-copy-start
+    part-copy-end
+    slice-aggregate-copy-3
+    copy-requires-2
+    sub-copy-2
+    part-copy-start-2
+    part-copy-end-2
+    slice-aggregate-copy-4
+    copy-requires-3
+    returns)

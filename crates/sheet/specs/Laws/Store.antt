@@ -1,0 +1,64 @@
+-- A sheet in one array: the lines of each kind stand at the kind's base, and the sheet is got back from them.
+use mathlib.Core.Path.{_≡_, refl, sym, _∙_, ap, ap₂, subst}
+use mathlib.Core.List.{List, [], append-nil}
+use Prim.Native.Nat.{ℕ, _+_, _*_, _≤_, _<_}
+use native.Mathlib.Omega.{arith}
+use lib.ListN.{length, getD, take, drop}
+use lib.Seq.{take-at}
+use Rattle.sheet.specs.Lists.{number, filled, flat}
+use Rattle.sheet.specs.Kinds.{width, room, kindS}
+use Rattle.sheet.specs.Sheet.{Sheet, places, groupsOf}
+use Rattle.sheet.specs.Calls.{groups, groupRows, sheetOfGroups}
+use Rattle.sheet.specs.Valid.{Valid}
+use Rattle.sheet.specs.Store.{kindCount, kindAt, baseOf, storeRoom, StoreOf, partOf, sheetIn}
+use Rattle.sheet.specs.Laws.Rows.{Wide, flat-length, rows-flat}
+use Rattle.sheet.specs.Laws.Kinds.{width-some}
+use Rattle.sheet.specs.Laws.Cells.{Held, held-run, held-count, held-length, held-few, held-full, held-part}
+use Rattle.sheet.specs.Laws.Valid.{valid-runs}
+
+module _ {s : Sheet} {lines all : List ℕ} (S : StoreOf s lines all) where
+  store-held : Held (places s) (groupsOf s) lines all
+  store-held = record { each = refl; runs = valid-runs s (S .valid); counts = S .counts; cells = S .cells }
+
+  pub store-wide : (k : ℕ) → k < kindCount → Wide (width (kindAt k)) (getD (groupsOf s) k [])
+  store-wide k h = held-run store-held k h .count
+
+  pub store-count : (k : ℕ) → k < kindCount → number lines k ≡ length (getD (groupsOf s) k [])
+  store-count = held-count store-held
+
+  pub store-length : length all ≡ storeRoom
+  store-length = held-length store-held
+
+  pub store-few : (k : ℕ) → k < kindCount → (number lines k ≤ kindAt k .most) × (baseOf k + number lines k * width (kindAt k) ≤ length all)
+  store-few = held-few store-held
+
+  pub store-part : (k : ℕ) → k < kindCount → partOf lines all k ≡ flat (getD (groupsOf s) k [])
+  store-part k h =
+      let g = getD (groupsOf s) k [] in
+      let q = held-part store-held k h in
+      let n : length (flat g) ≡ number lines k * width (kindAt k) =
+      flat-length (width (kindAt k)) g (store-wide k h) ∙ ap (λ (m : ℕ). m * width (kindAt k)) (sym (store-count k h)) in
+      ap (take (number lines k * width (kindAt k))) (q .1) ∙ take-at (flat g) (q .0) (number lines k * width (kindAt k)) n
+
+  -- the whole room of a kind
+  pub store-full : (k : ℕ) → k < kindCount → take (room (kindAt k)) (drop (baseOf k) all) ≡ filled (room (kindAt k)) (flat (getD (groupsOf s) k []))
+  store-full = held-full store-held
+
+  -- the sheet is got back
+  pub store-sheet : sheetIn lines all ≡ s
+  store-sheet =
+      let part : (k : ℕ) (h : k < kindCount) → groupRows (kindAt k) (partOf lines all k) ≡ getD (groupsOf s) k [] =
+      λ k h. ap (groupRows (kindAt k)) (store-part k h) ∙ rows-flat (width (kindAt k)) (getD (groupsOf s) k []) (width-some k h) (store-wide k h)
+      in
+      ap (λ (h : List ℕ). sheetOfGroups (groups h (partOf lines all 1) (partOf lines all 2))) (store-part 0 (omega arith) ∙ append-nil (s .head))
+      ∙ ap₂ (λ (c o : List (List ℕ)). record { head = s .head; corridors = c; occupancies = o }) (part 1 (omega arith)) (part 2 (omega arith))
+
+  pub store-valid : Valid (sheetIn lines all)
+  store-valid = subst Valid (sym store-sheet) (S .valid)
+
+  -- a count for each kind, and one S line
+  pub store-counts : length lines ≡ kindCount
+  store-counts = ap length (S .counts)
+
+  pub store-head : take (room kindS) all ≡ partOf lines all 0
+  store-head = ap (λ (n : ℕ). take (n * width kindS) all) (sym (store-count 0 (omega arith)))

@@ -1,0 +1,38 @@
+// The lines of a sheet that were read or taken so far, in one array of all groups: in the order of kinds, each at full length.
+ghost use mathlib.Core.Path.{_≡_};
+ghost use Prim.Native.Nat.{_+_, _≤_, _<_};
+ghost use lib.ListN.{length, take};
+ghost use lib.Seq.{sets};
+ghost use Rattle.sheet.specs.Store.{kindCount};
+ghost use Rattle.sheet.specs.Inner.{lineAt, Kept, Takes};
+use crate::judge::fault_of;
+use crate::kinds::row_of;
+
+// Writes the first w numbers of v from `at` on.
+fn store(all: &mut [u32], at: usize, v: [u32; 8], w: usize)
+    requires { ⌜ (w ≤ 8) × (at + w ≤ length (now all)) ⌝ }
+    ensures { λ r. ⌜ now (all .exit) ≡ sets (now (all .entry)) at (take w v) ⌝ }
+{
+    let mut i = 0;
+    while i < w {
+        all[at + i] = v[i];
+        i += 1;
+    }
+}
+
+// Judges a line after the lines in the array, and stores it after those of its kind if it has no fault; the fault, 0 for none.
+pub fn take_line(lines: &mut [u32], all: &mut [u32], kind: usize, v: [u32; 8]) -> u32
+    requires { ⌜ (kind < kindCount) × (Kept (now lines) (now all)) ⌝ }
+    ensures { λ r. ⌜ Takes (now (lines .entry)) (now (all .entry)) (lineAt kind v) (now (lines .exit)) (now (all .exit)) r ⌝ }
+{
+    let f = fault_of(lines, all, kind, v);
+    if f != 0 {
+        return f;
+    }
+    let row = row_of(kind);
+    let n = lines[kind];
+    let at = row.base + n as usize * row.width;
+    store(all, at, v, row.width);
+    lines[kind] = n + 1;
+    0
+}
