@@ -8,7 +8,7 @@ ghost use Prim.Native.Nat.{_+_, _*_, _<_, _≤_};
 ghost use lib.ListN.{length};
 ghost use Rattle.sheet.specs.Lists.{numbersFrom};
 ghost use Rattle.costs.specs.Costs.{figures};
-ghost use Rattle.arrivals.specs.Inner.Network.{waitIn, linkOf, linkAt, openb, sinceIn, countOf, placesOf, startOf, dearOf};
+ghost use Rattle.arrivals.specs.Inner.Network.{waitIn, linkOf, linkAt, openb, countOf, placesOf, startOf, dearOf};
 ghost use Rattle.arrivals.specs.Inner.Chains.{lastOf, Chained, NextLink};
 ghost use Rattle.arrivals.specs.Inner.Pruning.{SteadyIs};
 
@@ -34,13 +34,6 @@ pub fn wide(x: u32) -> usize
     ensures { λ r. ⌜ r ≡ x ⌝ }
 {
     x as usize
-}
-
-// A first step as a step.
-pub fn step_from(x: u16) -> Step
-    ensures { λ r. ⌜ r .0 ≡ x ⌝ }
-{
-    Step(x as u32)
 }
 
 // The cost of waiting one step at place v.
@@ -113,14 +106,6 @@ pub fn is_steady(net: &[u32], v: Place, t: Step) -> bool
     ensures { λ r. ⌜ SteadyIs (now (net .entry)) (v .0) (t .0) r ⌝ }
 {
     net[2116 + v.0 as usize] == 0
-}
-
-// The first step of the safe interval of place v at step t; above t where v is occupied then.
-pub fn first_step(runs: &[u16], v: Place, t: Step) -> Step
-    requires { ⌜ (v .0 < 64) × (t .0 ≤ 255) × (16384 ≤ length (now runs)) ⌝ }
-    ensures { λ r. ⌜ r .0 ≡ sinceIn (now (runs .entry)) (v .0) (t .0) ⌝ }
-{
-    step_from(runs[v.0 as usize * 256 + t.0 as usize])
 }
 
 // One more than the last corridor whose place q is v.

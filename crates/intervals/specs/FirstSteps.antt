@@ -7,7 +7,7 @@ use Rattle.sheet.specs.Lists.{_∈_, number}
 use Rattle.sheet.specs.Kinds.{kindO}
 use Rattle.sheet.specs.Sheet.{Sheet, placeOf, last}
 use Rattle.sheet.specs.Calls.{groupRows}
-use Rattle.sheet.specs.Store.{StoreOf, partOf}
+use Rattle.sheet.specs.Store.{StoreOf, SomeStore, partOf}
 use Rattle.intervals.specs.Computed.{sinceOf}
 
 -- whole lines, at most 256, of places below 64 and steps up to 255
@@ -27,3 +27,6 @@ pub record Derived (lines all since : List ℕ) : Type 0 where
   pub sheet : Sheet
   pub store : StoreOf sheet lines all
   pub firsts : SinceTable (partOf lines all 2) since
+
+abbrev pub some-derived : {lines all since : List ℕ} → Derived lines all since → SomeStore lines all
+some-derived d = record { sheet = d .sheet; store = d .store }

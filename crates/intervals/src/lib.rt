@@ -3,6 +3,7 @@
 ghost use mathlib.Core.Path.{_≡_};
 ghost use Prim.Native.Nat.{_+_, _*_, _≤_, _<_, _/_};
 ghost use lib.ListN.{length};
+ghost use Rattle.sheet.specs.Lists.{number};
 ghost use Rattle.intervals.specs.Inner.{Blank, MarkableLine, MarkedLine, Marked, FilledRun};
 ghost use Rattle.sheet.specs.Store.{SomeStore};
 ghost use Rattle.intervals.specs.FirstSteps.{Derived, SinceTable, ValidGroup};
@@ -103,4 +104,19 @@ pub fn derive(lines: &[u32], all: &[u32], since: &mut [u16; 16384])
 {
     let e = FIRST_OCCUPANCY + lines[2] as usize * OCCUPANCY;
     fill_since(&all[FIRST_OCCUPANCY..e], since);
+}
+
+// A number of the table of first steps as a step.
+fn step_from(x: u16) -> Step
+    ensures { λ r. ⌜ r .0 ≡ x ⌝ }
+{
+    Step(x as u32)
+}
+
+// The entry of place v and step t in the table of first steps.
+pub fn first_step(since: &[u16], v: Place, t: Step) -> Step
+    requires { ⌜ (v .0 < 64) × (t .0 ≤ 255) × (16384 ≤ length (now since)) ⌝ }
+    ensures { λ r. ⌜ r .0 ≡ number (now (since .entry)) (v .0 * 256 + t .0) ⌝ }
+{
+    step_from(since[v.0 as usize * 256 + t.0 as usize])
 }
