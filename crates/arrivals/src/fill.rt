@@ -1,5 +1,6 @@
 // All rows, place by place and step by step.
 use crate::expand::from_links;
+use crate::index::INDEX;
 use crate::index::Span;
 use crate::index::mark_next;
 use crate::index::note;
@@ -183,7 +184,7 @@ pub fn search_all(table: &mut [u32], net: &[u32], runs: &[u16], last: Step) -> O
     requires { ⌜ (Given (now runs) (now net)) × (last .0 ≤ 255) ⌝ }
     ensures { λ r. ⌜ Result (caseOf (now (runs .entry)) (now (net .entry))) (now (table .exit)) (last .0 + 1) 0 (r .ok) (r .rows) ⌝ }
 {
-    let mut ix = [0; 32896];
+    let mut ix = [0; INDEX];
     let r = first_row(table, &mut ix, net, runs);
     let ok = r.ok;
     let rows = r.rows;

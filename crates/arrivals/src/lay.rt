@@ -1,4 +1,12 @@
 // The network is laid out from the sheet in the array: waits, corridors and counts, then the chains, then where waiting is dearer.
+use crate::network::CHAIN;
+use crate::network::CHAINS;
+use crate::network::COUNT;
+use crate::network::DEAR;
+use crate::network::DEAR_INTO;
+use crate::network::LINKS;
+use crate::network::PLACES;
+use crate::network::START;
 use crate::network::count_of;
 use crate::network::link_end;
 use crate::network::wait_of;
@@ -12,7 +20,7 @@ ghost use mathlib.Core.Path.{_≡_};
 ghost use Prim.Native.Nat.{_+_, _<_, _≤_};
 ghost use lib.ListN.{length};
 ghost use Rattle.sheet.specs.Store.{partOf, sheetIn};
-ghost use Rattle.arrivals.specs.Inner.Network.{countOf, linkOf};
+ghost use Rattle.arrivals.specs.Inner.Network.{netRoom, countOf, linkOf};
 ghost use Rattle.arrivals.specs.Inner.Chains.{Chained};
 ghost use Rattle.arrivals.specs.Inner.Lent.{Linked};
 ghost use Rattle.arrivals.specs.Inner.Laying.{WaitsLaid, LinksLaid, Counted, Layable, Empty, LaidIn};
@@ -34,28 +42,28 @@ pub fn lay_links(lines: &[u32], all: &[u32], net: &mut [u32])
     ensures { λ _. ⌜ LinksLaid (partOf (now (lines .entry)) (now (all .entry)) 1) (now (net .entry)) (now (net .exit)) ⌝ }
 {
     for i in 0..lines[1] as usize * CORRIDOR {
-        net[832 + i] = all[FIRST_CORRIDOR + i];
+        net[LINKS + i] = all[FIRST_CORRIDOR + i];
     }
 }
 
 // The number of corridors, the number of places and the start.
 pub fn lay_counts(net: &mut [u32], count: u32, places: u32, start: Place)
-    requires { ⌜ 2436 ≤ length (now net) ⌝ }
+    requires { ⌜ netRoom ≤ length (now net) ⌝ }
     ensures { λ _. ⌜ Counted count places (start .0) (now (net .entry)) (now (net .exit)) ⌝ }
 {
-    net[2112] = count;
-    net[2113] = places;
-    net[2114] = start.0;
+    net[COUNT] = count;
+    net[PLACES] = places;
+    net[START] = start.0;
 }
 
 // One corridor more in the chain of its place q.
 pub fn chain_link(net: &mut [u32], j: usize, q: usize)
-    requires { ⌜ (q < 2) × (j < 256) × (2436 ≤ length (now net)) × (linkOf (now net) q j < 64) × (Chained (now net) q j) ⌝ }
+    requires { ⌜ (q < 2) × (j < 256) × (netRoom ≤ length (now net)) × (linkOf (now net) q j < 64) × (Chained (now net) q j) ⌝ }
     ensures { λ _. ⌜ ChainedMore q j (now (net .entry)) (now (net .exit)) ⌝ }
 {
     let end = link_end(net, j, q);
     let p = end.0 as usize;
-    let first = 192 + q * 320;
+    let first = CHAINS + q * CHAIN;
     net[first + 64 + j] = net[first + p];
     net[first + p] = (j + 1) as u32;
 }
@@ -79,8 +87,8 @@ pub fn weigh_link(net: &mut [u32], j: usize)
     if at_most(wait_of(net, to), wait_of(net, link_end(net, j, 0))) {
         return;
     }
-    net[2180 + j] = 1;
-    net[2116 + to.0 as usize] = 1;
+    net[DEAR + j] = 1;
+    net[DEAR_INTO + to.0 as usize] = 1;
 }
 
 // Where waiting is dearer, for every corridor.

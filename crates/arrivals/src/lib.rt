@@ -5,6 +5,7 @@ ghost use Rattle.intervals.specs.FirstSteps.{Derived};
 ghost use Rattle.arrivals.specs.Search.{searchOn, searchEnd};
 use crate::fill::fill;
 use crate::lay::lay;
+use crate::network::NETWORK;
 use sheet::Step;
 
 pub mod rows; // rows.rt: the rows of the lent table
@@ -28,7 +29,7 @@ pub fn search(lines: &[u32], all: &[u32], since: &[u16], table: &mut [u32]) -> S
     requires { ⌜ Derived (now lines) (now all) (now since) ⌝ }
     ensures { λ r. ⌜ searchEnd r (now (table .exit)) ≡ searchOn (sheetIn (now (lines .entry)) (now (all .entry))) (now (table .entry)) ⌝ }
 {
-    let mut net = [0; 2436];
+    let mut net = [0; NETWORK];
     lay(lines, all, &mut net);
     let r = fill(table, &net, since, Step(all[1]));
     let ok = r.ok;

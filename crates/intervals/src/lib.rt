@@ -4,6 +4,7 @@ ghost use mathlib.Core.Path.{_≡_};
 ghost use Prim.Native.Nat.{_+_, _*_, _≤_, _<_, _/_};
 ghost use lib.ListN.{length};
 ghost use Rattle.sheet.specs.Lists.{number};
+ghost use Rattle.sheet.specs.Kinds.{width, kindO};
 ghost use Rattle.intervals.specs.Inner.{Blank, MarkableLine, MarkedLine, Marked, FilledRun};
 ghost use Rattle.sheet.specs.Store.{SomeStore};
 ghost use Rattle.intervals.specs.FirstSteps.{Derived, SinceTable, ValidGroup};
@@ -27,9 +28,9 @@ fn mark(occupancies: &[u32], k: usize, since: &mut [u16])
     requires { ⌜ (MarkableLine (now occupancies) k) × (length (now since) ≡ 16384) ⌝ }
     ensures { λ _. ⌜ MarkedLine (now (occupancies .entry)) k (now (since .entry)) (now (since .exit)) ⌝ }
 {
-    let row = occupancies[k * 3] as usize * 256;
-    let last = occupancies[k * 3 + 2] as usize;
-    let mut t = occupancies[k * 3 + 1] as usize;
+    let row = occupancies[k * OCCUPANCY] as usize * 256;
+    let last = occupancies[k * OCCUPANCY + 2] as usize;
+    let mut t = occupancies[k * OCCUPANCY + 1] as usize;
     while t <= last {
         since[row + t] = 256;
         t += 1;
@@ -39,9 +40,9 @@ fn mark(occupancies: &[u32], k: usize, since: &mut [u16])
 // Marks with 256 the entries of the steps that are occupied, in a table of zeros.
 fn mark_all(occupancies: &[u32], since: &mut [u16])
     requires { ⌜ (ValidGroup (now occupancies)) × (length (now since) ≡ 16384) × (Blank (now since)) ⌝ }
-    ensures { λ _. ⌜ Marked (now (occupancies .entry)) (length (now (occupancies .entry)) / 3) (now (since .exit)) ⌝ }
+    ensures { λ _. ⌜ Marked (now (occupancies .entry)) (length (now (occupancies .entry)) / width kindO) (now (since .exit)) ⌝ }
 {
-    let n = occupancies.len() / 3;
+    let n = occupancies.len() / OCCUPANCY;
     let mut k = 0;
     while k < n {
         mark(occupancies, k, since);
@@ -72,14 +73,14 @@ fn fill_run(since: &mut [u16], place: usize, marked: usize)
 
 // Writes the first steps of the free runs that begin after an occupancy, into the table of marks.
 fn turn(occupancies: &[u32], since: &mut [u16])
-    requires { ⌜ (ValidGroup (now occupancies)) × (length (now since) ≡ 16384) × (Marked (now occupancies) (length (now occupancies) / 3) (now since)) ⌝ }
+    requires { ⌜ (ValidGroup (now occupancies)) × (length (now since) ≡ 16384) × (Marked (now occupancies) (length (now occupancies) / width kindO) (now since)) ⌝ }
     ensures { λ _. ⌜ SinceTable (now (occupancies .entry)) (now (since .exit)) ⌝ }
 {
-    let n = occupancies.len() / 3;
+    let n = occupancies.len() / OCCUPANCY;
     let mut k = 0;
     while k < n {
-        let place = occupancies[k * 3] as usize;
-        let last = occupancies[k * 3 + 2] as usize;
+        let place = occupancies[k * OCCUPANCY] as usize;
+        let last = occupancies[k * OCCUPANCY + 2] as usize;
         fill_run(since, place, last);
         k += 1;
     }
