@@ -8,12 +8,11 @@ use mathlib.Core.List.{List, [], _∷_, _++_}
 use Prim.Native.Nat.{ℕ, suc, _-_, _≤_, _<_}
 use native.Mathlib.Omega.{arith}
 use lib.ListN.{length, getD, take, replicate}
-use lib.Seq.{getD-take}
 use borrow.Author.Tests.{lt-ltb, le-ltb, lt-leb, le-leb}
-use Rattle.sheet.specs.Lists.{_∈_, number, filled, bind}
+use Rattle.sheet.specs.Lists.{_∈_, filled, bind}
 use Rattle.sheet.specs.Sheet.{Sheet, readOf, goal, steps}
 use Rattle.sheet.specs.Store.{sheetIn, VerdictIs}
-use Rattle.sheet.specs.Laws.Store.{store-head, store-sheet}
+use Rattle.sheet.specs.Laws.Store.{store-sheet}
 use Rattle.sheet.specs.declared.reader.Verdict.{Verdict}
 use Rattle.costs.specs.Costs.{Cost}
 use Rattle.intervals.specs.FirstSteps.{Derived}
@@ -32,10 +31,6 @@ use Rattle.journeys.specs.Laws.Journeys.{journey-length}
 use Rattle.journeys.specs.Laws.Served.{member}
 use Rattle.journeys.specs.Laws.Holds.{holds-front, holds-step}
 use Rattle.journeys.specs.Laws.Searched.{Ready}
-
--- the goal and the last step, as the code reads them off the array
-pub head-at : {lines all since : List ℕ} → Derived lines all since → (i : ℕ) → i < 7 → number all i ≡ number (sheetIn lines all .head) i
-head-at {lines} {all} d i h = sym (getD-take 7 all i 0 h) ∙ ap (λ (l : List ℕ). number l i) (store-head (d .store))
 
 -- a lent array, cleared from its start
 pub cleared-all : (table table′ : List ℕ) → length table′ ≡ length table → take 0 table′ ++ replicate (length table′ - 0) 0 ≡ cleared table
@@ -97,13 +92,13 @@ module _ (s : Sheet) (table table′ : List ℕ) (n : ℕ) (p : Ready s table ta
       listed : o .cost ∈ front s
       listed = subst (λ (g : Cost). g ∈ front s) (sym cost-is) (member (front s) i below)
 
-      step-is : o .step ≡ arrivalOf s (o .cost)
+      step-is : o .step .0 ≡ arrivalOf s (o .cost)
       step-is = h .on t .2 ∙ step-off (o .cost) listed
 
       on : OnFront s (o .cost)
       on = front-on s (o .cost) listed
 
-      journey-long : length (journeyOf s (o .cost)) ≡ suc (o .step)
+      journey-long : length (journeyOf s (o .cost)) ≡ suc (o .step .0)
       journey-long = journey-length s (o .cost) (on .has) ∙ ap suc (sym step-is)
 
     module _ (path : List ℕ) where
@@ -114,15 +109,15 @@ module _ (s : Sheet) (table table′ : List ℕ) (n : ℕ) (p : Ready s table ta
           ap₂ (λ (x : JourneyAnswer) (y : List ℕ). journeyEnd x y path) e (f ∙ ap (λ (m : ℕ). filled m []) (p .same-length))
           ∙ sym (rw (p .room, le-leb (length (front s)) i (found-off z)))
 
-      pub journey-eleven : (r : JourneyAnswer) (t : List ℕ) → r ≡ journeyRefused [] [] 11 0 .answer → t ≡ cleared table′ → o .found ≡ true → length path ≤ o .step
+      pub journey-eleven : (r : JourneyAnswer) (t : List ℕ) → r ≡ journeyRefused [] [] 11 0 .answer → t ≡ cleared table′ → o .found ≡ true → length path ≤ o .step .0
           → journeyEnd r t path ≡ journeyOn s i table path
       unfolding journeyOn tooShort
       journey-eleven r t e f z l =
           ap₂ (λ (x : JourneyAnswer) (y : List ℕ). journeyEnd x y path) e (f ∙ ap (λ (m : ℕ). filled m []) (p .same-length))
           ∙ sym (rw (p .room, lt-leb (length (front s)) i (below z), ← cost-is z, lt-ltb (length path) (length (journeyOf s (o .cost))) (omega (arith, l, journey-long z))))
 
-      pub journey-end : (l : List ℕ) → o .found ≡ true → o .step < length path → l ≡ filled (length path) (journeyOf s (o .cost))
-          → journeyEnd (record { refusal = 0; line = 0; cost = o .cost; arrival = o .step }) table′ l ≡ journeyOn s i table path
+      pub journey-end : (l : List ℕ) → o .found ≡ true → o .step .0 < length path → l ≡ filled (length path) (journeyOf s (o .cost))
+          → journeyEnd (record { refusal = 0; line = 0; cost = o .cost; arrival = o .step .0 }) table′ l ≡ journeyOn s i table path
       unfolding journeyOn tooShort journeyServed
       journey-end l z m e =
           sym
@@ -143,7 +138,7 @@ journey-eight s i table path r t e f c = ap₂ (λ (x : JourneyAnswer) (y : List
 -- the path of a cost that was found
 pub layable : {lines all since : List ℕ} (d : Derived lines all since) (table table′ : List ℕ) (n : ℕ) (p : Ready (sheetIn lines all) table table′ n) (v last : ℕ)
     (a : v ≡ goal (sheetIn lines all)) (b : last ≡ steps (sheetIn lines all)) (i : ℕ) (o : Offered) → NumberIs (goalRows v last n table′) i o → (path : List ℕ)
-    → o .found ≡ true → o .step < length path → Layable lines all since n table′ (o .step) (o .cost) path
+    → o .found ≡ true → o .step .0 < length path → Layable lines all since n table′ (o .step .0) (o .cost) path
 layable {lines} {all} d table table′ n p v last a b i o h path t l =
     let s = sheetIn lines all in
     record {

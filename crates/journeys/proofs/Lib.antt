@@ -1,4 +1,4 @@
-pub mod Rowwise
+pub mod Finding
 pub mod Stepping
 pub mod Backwards
 pub mod Ends

@@ -19,9 +19,6 @@ use arrivals::search;
 use intervals::derive;
 use sheet::Place;
 use sheet::Step;
-use sheet::kinds::CORRIDOR;
-use sheet::kinds::FIRST_CORRIDOR;
-use sheet::kinds::HEAD;
 use sheet::kinds::KINDS;
 use sheet::kinds::STORE;
 use sheet::reader::read_into;
@@ -119,18 +116,15 @@ pub fn lay_path(
     since: &[u16],
     table: &[u32],
     n: usize,
-    arrival: u32,
+    arrival: Step,
     cost: [u32; 3],
     path: &mut [u32],
 )
-    requires { ⌜ Layable (now lines) (now all) (now since) n (now table) arrival cost (now path) ⌝ }
+    requires { ⌜ Layable (now lines) (now all) (now since) n (now table) (arrival .0) cost (now path) ⌝ }
     ensures { λ _. ⌜ now (path .exit) ≡ filled (length (now (path .entry))) (journeyOf (sheetIn (now (lines .entry)) (now (all .entry))) cost) ⌝ }
 {
-    let e = FIRST_CORRIDOR + lines[1] as usize * CORRIDOR;
-    let head = &all[..HEAD];
-    let corridors = &all[FIRST_CORRIDOR..e];
-    walk_back(head, corridors, table, n, since, arrival, cost, path);
-    clear_from(path, arrival as usize + 1);
+    walk_back(lines, all, since, table, n, arrival, cost, path);
+    clear_from(path, arrival.0 as usize + 1);
 }
 
 // The journey with a number in the front of the sheet in the array, from 0: the path buffer holds one place for each step, then zeros, and the arrivals
@@ -156,7 +150,7 @@ pub fn journey_of(
         return refuse_searched(10, table);
     }
     let arrival = o.step;
-    if path.len() <= arrival as usize {
+    if path.len() <= arrival.0 as usize {
         return refuse_searched(11, table);
     }
     let cost = o.cost;
@@ -165,7 +159,7 @@ pub fn journey_of(
         refusal: 0,
         line: 0,
         cost,
-        arrival,
+        arrival: arrival.0,
     }
 }
 

@@ -11,11 +11,11 @@ use borrow.Author.Needs.{needs}
 use borrow.Author.Tests.{not-true, not-false}
 use Rattle.sheet.specs.Lists.{number, filled}
 use Rattle.sheet.specs.Store.{sheetIn}
-use Rattle.sheet.specs.Laws.Store.{store-length}
+use Rattle.sheet.specs.Laws.Store.{store-length, head-number}
 use Rattle.journeys.specs.Calls.{frontEnd}
 use Rattle.journeys.specs.Inner.{goalRows, offeredRows}
 use Rattle.journeys.specs.Laws.Searched.{search-full, search-ready}
-use Rattle.journeys.proofs.Ends.{head-at, front-eight, front-nine, front-end}
+use Rattle.journeys.proofs.Ends.{front-eight, front-nine, front-end}
 use Rattle.journeys.proofs.calls.front_of.Statement.{statement}
 use Rattle.journeys.proofs.calls.front_of.Tie as tie
 
@@ -50,8 +50,8 @@ count-front-requires c κs =
     let s = sheetIn (z .args .lines .now) (z .args .all .now) in
     let q = c .before .before .before .before .before .before .before .search in
     let p = search-ready s (z .args .table .now) (q .last .1 .1 .1 .0) (q .result .served) (q .result .arrivals) (q .ensures) (not-false (q .result .served) (c .before .before .before .if1 .left)) in
-    let v = head-at d 3 (omega arith) in
-    let w = head-at d 1 (omega arith) in
+    let v = head-number (d .store) 3 (omega arith) in
+    let w = head-number (d .store) 1 (omega arith) in
     p .holds .room
 
 clear-from-requires : tie.Need-clear-from-requires
@@ -70,8 +70,8 @@ returns-2 c =
     let s = sheetIn (z .args .lines .now) (z .args .all .now) in
     let q = c .before .before .before .before .before .before .before .before .before .before .before .before .before .before .before .before .search in
     let p = search-ready s (z .args .table .now) (q .last .1 .1 .1 .0) (q .result .served) (q .result .arrivals) (q .ensures) (not-false (q .result .served) (c .before .before .before .before .before .before .before .before .before .before .before .before .if1 .left)) in
-    let v = head-at d 3 (omega arith) in
-    let w = head-at d 1 (omega arith) in
+    let v = head-number (d .store) 3 (omega arith) in
+    let w = head-number (d .store) 1 (omega arith) in
     let k = c .before .before .before .before .before .before .before .before .count-front in
     let t = c .before .before .before .clear-from .ensures ∙ ap (λ (xs : List ℕ). take 0 xs ++ replicate (length xs - 0) 0) (k .ensures .kept) in
     front-nine s (z .args .table .now) (q .last .1 .1 .1 .0) (q .result .arrivals) p (number (z .args .all .now) 3) (number (z .args .all .now) 1) v w (z .args .list .now) (k .result) (k .ensures .counted) (c .refuse-front2 .result) (c .before .before .before .clear-from .last .0) (c .refuse-front2 .ensures) t (c .before .before .before .before .before .if2 .taken)
@@ -89,8 +89,8 @@ list-front-requires c κs =
     let s = sheetIn (z .args .lines .now) (z .args .all .now) in
     let q = c .before .before .before .before .before .before .before .before .before .before .before .before .before .before .before .search in
     let p = search-ready s (z .args .table .now) (q .last .1 .1 .1 .0) (q .result .served) (q .result .arrivals) (q .ensures) (not-false (q .result .served) (c .before .before .before .before .before .before .before .before .before .before .before .if1 .left)) in
-    let v = head-at d 3 (omega arith) in
-    let w = head-at d 1 (omega arith) in
+    let v = head-number (d .store) 3 (omega arith) in
+    let w = head-number (d .store) 1 (omega arith) in
     let k = c .before .before .before .before .before .before .before .count-front in
     let n = length (z .args .list .now) in
     rw (k .ensures .kept) (record { room = p .holds .room; list-room = omega (arith, c .before .before .before .before .if2 .left, k .ensures .counted, div-add-mod' n 4) })
@@ -108,8 +108,8 @@ returns-3 c =
     let s = sheetIn (z .args .lines .now) (z .args .all .now) in
     let q = c .before .before .before .before .before .before .before .before .before .before .before .before .before .before .before .before .before .before .before .before .search in
     let p = search-ready s (z .args .table .now) (q .last .1 .1 .1 .0) (q .result .served) (q .result .arrivals) (q .ensures) (not-false (q .result .served) (c .before .before .before .before .before .before .before .before .before .before .before .before .before .before .before .before .if1 .left)) in
-    let v = head-at d 3 (omega arith) in
-    let w = head-at d 1 (omega arith) in
+    let v = head-number (d .store) 3 (omega arith) in
+    let w = head-number (d .store) 1 (omega arith) in
     let k = c .before .before .before .before .before .before .before .before .before .before .before .before .count-front in
     let l = c .before .before .before .before .list-front in
     let e = l .ensures .listed ∙ ap (λ (xs : List ℕ). filled (length (z .args .list .now)) (offeredRows (goalRows (number (z .args .all .now) 3) (number (z .args .all .now) 1) (q .result .arrivals) xs))) (k .ensures .kept) in

@@ -10,10 +10,10 @@ use borrow.Author.Needs.{needs}
 use borrow.Author.Tests.{not-true, not-false}
 use Rattle.sheet.specs.Lists.{number, filled}
 use Rattle.sheet.specs.Store.{sheetIn}
-use Rattle.sheet.specs.Laws.Store.{store-length}
+use Rattle.sheet.specs.Laws.Store.{store-length, head-number}
 use Rattle.journeys.specs.Calls.{journeyEnd}
 use Rattle.journeys.specs.Laws.Searched.{search-full, search-ready}
-use Rattle.journeys.proofs.Ends.{head-at, journey-eight, journey-ten, journey-eleven, journey-end, layable}
+use Rattle.journeys.proofs.Ends.{journey-eight, journey-ten, journey-eleven, journey-end, layable}
 use Rattle.journeys.proofs.calls.journey_of.Statement.{statement}
 use Rattle.journeys.proofs.calls.journey_of.Tie as tie
 
@@ -48,8 +48,8 @@ nth-front-requires c κs =
     let s = sheetIn (z .args .lines .now) (z .args .all .now) in
     let q = c .before .before .before .before .before .before .before .search in
     let p = search-ready s (z .args .table .now) (q .last .1 .1 .1 .0) (q .result .served) (q .result .arrivals) (q .ensures) (not-false (q .result .served) (c .before .before .before .if1 .left)) in
-    let v = head-at d 3 (omega arith) in
-    let w = head-at d 1 (omega arith) in
+    let v = head-number (d .store) 3 (omega arith) in
+    let w = head-number (d .store) 1 (omega arith) in
     p .holds .room
 
 refuse-searched-requires : tie.Need-refuse-searched-requires
@@ -65,8 +65,8 @@ returns-2 c =
     let s = sheetIn (z .args .lines .now) (z .args .all .now) in
     let q = c .before .before .before .before .before .before .before .before .before .before .before .before .before .before .before .before .search in
     let p = search-ready s (z .args .table .now) (q .last .1 .1 .1 .0) (q .result .served) (q .result .arrivals) (q .ensures) (not-false (q .result .served) (c .before .before .before .before .before .before .before .before .before .before .before .before .if1 .left)) in
-    let v = head-at d 3 (omega arith) in
-    let w = head-at d 1 (omega arith) in
+    let v = head-number (d .store) 3 (omega arith) in
+    let w = head-number (d .store) 1 (omega arith) in
     let k = c .before .before .before .before .before .before .before .before .nth-front in
     let r = c .before .before .refuse-searched in
     journey-ten s (z .args .table .now) (q .last .1 .1 .1 .0) (q .result .arrivals) p (number (z .args .all .now) 3) (number (z .args .all .now) 1) v w (z .args .number) (k .result) (k .ensures .numbered) (z .args .path .now) (r .result) (r .last .1 .0) (r .ensures .0)
@@ -88,8 +88,8 @@ returns-3 c =
     let s = sheetIn (z .args .lines .now) (z .args .all .now) in
     let q = c .before .before .before .before .before .before .before .before .before .before .before .before .before .before .before .before .before .search in
     let p = search-ready s (z .args .table .now) (q .last .1 .1 .1 .0) (q .result .served) (q .result .arrivals) (q .ensures) (not-false (q .result .served) (c .before .before .before .before .before .before .before .before .before .before .before .before .before .if1 .left)) in
-    let v = head-at d 3 (omega arith) in
-    let w = head-at d 1 (omega arith) in
+    let v = head-number (d .store) 3 (omega arith) in
+    let w = head-number (d .store) 1 (omega arith) in
     let k = c .before .before .before .before .before .before .before .before .before .nth-front in
     let r = c .before .before .refuse-searched2 in
     journey-eleven s (z .args .table .now) (q .last .1 .1 .1 .0) (q .result .arrivals) p (number (z .args .all .now) 3) (number (z .args .all .now) 1) v w (z .args .number) (k .result) (k .ensures .numbered) (z .args .path .now) (r .result) (r .last .1 .0) (r .ensures .0)
@@ -102,8 +102,8 @@ lay-path-requires c κs =
     let s = sheetIn (z .args .lines .now) (z .args .all .now) in
     let q = c .before .before .before .before .before .before .before .before .before .before .before .before .before .before .before .before .search in
     let p = search-ready s (z .args .table .now) (q .last .1 .1 .1 .0) (q .result .served) (q .result .arrivals) (q .ensures) (not-false (q .result .served) (c .before .before .before .before .before .before .before .before .before .before .before .before .if1 .left)) in
-    let v = head-at d 3 (omega arith) in
-    let w = head-at d 1 (omega arith) in
+    let v = head-number (d .store) 3 (omega arith) in
+    let w = head-number (d .store) 1 (omega arith) in
     let k = c .before .before .before .before .before .before .before .before .nth-front in
     rw (k .ensures .kept)
     (layable d (z .args .table .now) (q .last .1 .1 .1 .0) (q .result .arrivals) p (number (z .args .all .now) 3) (number (z .args .all .now) 1) v w (z .args .number) (k .result) (k .ensures .numbered) (z .args .path .now) (not-false (k .result .found) (c .before .before .before .before .if2 .left)) (c .before .before .before .if3 .left))
@@ -121,8 +121,8 @@ returns-4 c =
     let s = sheetIn (z .args .lines .now) (z .args .all .now) in
     let q = c .before .before .before .before .before .before .before .before .before .before .before .before .before .before .before .before .before .before .before .search in
     let p = search-ready s (z .args .table .now) (q .last .1 .1 .1 .0) (q .result .served) (q .result .arrivals) (q .ensures) (not-false (q .result .served) (c .before .before .before .before .before .before .before .before .before .before .before .before .before .before .before .if1 .left)) in
-    let v = head-at d 3 (omega arith) in
-    let w = head-at d 1 (omega arith) in
+    let v = head-number (d .store) 3 (omega arith) in
+    let w = head-number (d .store) 1 (omega arith) in
     let k = c .before .before .before .before .before .before .before .before .before .before .before .nth-front in
     let l = c .before .before .lay-path in
     ap (λ (xs : List ℕ). journeyEnd (record { refusal = 0; line = 0; cost = k .result .cost; arrival = k .result .step }) xs (l .last .1 .1 .1 .1 .1 .1 .1 .0)) (k .ensures .kept)
