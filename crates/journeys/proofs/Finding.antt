@@ -89,11 +89,13 @@ module _ {n : ℕ} {xs : List ℕ} (s : Sorted n xs) where
     there m =
         let q = table-at n xs a m in
         let e : keyOf (rowAt xs (q .0)) ≡ keyOf a = ap keyOf (sym (q .2)) in
-        let late : r ≤ q .0 = ⊎-elim (λ l. absurd (Lex-irrefl (keyOf a) (subst (λ (y : List ℕ). Lex y (keyOf a)) e (p .before (q .0) l)))) (λ l. l) (lt-or-le (q .0) r) in
-        (omega (arith, q .1), λ x. ⊎-elim
-        (λ l. Lex-irrefl (keyOf a) (Lex-trans (keyOf a) (keyOf (rowAt xs r)) (keyOf a) x (subst (Lex (keyOf (rowAt xs r))) e (row-order r (q .0) l (q .1)))))
-        (λ l. let z : r ≡ q .0 = omega arith in Lex-irrefl (keyOf a) (subst (Lex (keyOf a)) (ap (λ (j : ℕ). keyOf (rowAt xs j)) z ∙ e) x))
-        (lt-or-le r (q .0)))
+        let late : r ≤ q .0 = ⊎-elim (λ l. absurd (Lex-irrefl (keyOf a) (subst (λ (y : List ℕ). Lex y (keyOf a)) e (p .before (q .0) l)))) (λ l. l) (lt-or-le (q .0) r) in (
+          omega (arith, q .1),
+          λ x. ⊎-elim
+              (λ l. Lex-irrefl (keyOf a) (Lex-trans (keyOf a) (keyOf (rowAt xs r)) (keyOf a) x (subst (Lex (keyOf (rowAt xs r))) e (row-order r (q .0) l (q .1)))))
+              (λ l. let z : r ≡ q .0 = omega arith in Lex-irrefl (keyOf a) (subst (Lex (keyOf a)) (ap (λ (j : ℕ). keyOf (rowAt xs j)) z ∙ e) x))
+              (lt-or-le r (q .0)),
+        )
 
     pub row-past : n ≤ r → Decided (a ∈ tableRows n xs) false
     row-past l = fails (λ m. omega (arith, there m .0))

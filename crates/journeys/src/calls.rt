@@ -45,7 +45,8 @@ pub fn front_of(
     list: &mut [u32],
 ) -> FrontAnswer
     requires { ⌜ Derived (now lines) (now all) (now since) ⌝ }
-    ensures { λ r. ⌜ frontEnd r (now (table .exit)) (now (list .exit)) ≡ frontOn (sheetIn (now (lines .entry)) (now (all .entry))) (now (table .entry)) (now (list .entry)) ⌝ }
+    ensures { λ r. ⌜ frontEnd r (now (table .exit)) (now (list .exit))
+        ≡ frontOn (sheetIn (now (lines .entry)) (now (all .entry))) (now (table .entry)) (now (list .entry)) ⌝ }
 {
     let r = search(lines, all, since, table);
     if !r.served {
@@ -69,7 +70,8 @@ pub fn front_of(
 // The same, with the first steps worked out here.
 fn front_stored(lines: &[u32], all: &[u32], table: &mut [u32], list: &mut [u32]) -> FrontAnswer
     requires { ⌜ SomeStore (now lines) (now all) ⌝ }
-    ensures { λ r. ⌜ frontEnd r (now (table .exit)) (now (list .exit)) ≡ frontOn (sheetIn (now (lines .entry)) (now (all .entry))) (now (table .entry)) (now (list .entry)) ⌝ }
+    ensures { λ r. ⌜ frontEnd r (now (table .exit)) (now (list .exit))
+        ≡ frontOn (sheetIn (now (lines .entry)) (now (all .entry))) (now (table .entry)) (now (list .entry)) ⌝ }
 {
     let mut since = [0u16; 16384];
     derive(lines, all, &mut since);
@@ -138,7 +140,8 @@ pub fn journey_of(
     path: &mut [u32],
 ) -> JourneyAnswer
     requires { ⌜ Derived (now lines) (now all) (now since) ⌝ }
-    ensures { λ r. ⌜ journeyEnd r (now (table .exit)) (now (path .exit)) ≡ journeyOn (sheetIn (now (lines .entry)) (now (all .entry))) number (now (table .entry)) (now (path .entry)) ⌝ }
+    ensures { λ r. ⌜ journeyEnd r (now (table .exit)) (now (path .exit))
+        ≡ journeyOn (sheetIn (now (lines .entry)) (now (all .entry))) number (now (table .entry)) (now (path .entry)) ⌝ }
 {
     let r = search(lines, all, since, table);
     if !r.served {
@@ -172,7 +175,8 @@ fn journey_stored(
     path: &mut [u32],
 ) -> JourneyAnswer
     requires { ⌜ SomeStore (now lines) (now all) ⌝ }
-    ensures { λ r. ⌜ journeyEnd r (now (table .exit)) (now (path .exit)) ≡ journeyOn (sheetIn (now (lines .entry)) (now (all .entry))) number (now (table .entry)) (now (path .entry)) ⌝ }
+    ensures { λ r. ⌜ journeyEnd r (now (table .exit)) (now (path .exit))
+        ≡ journeyOn (sheetIn (now (lines .entry)) (now (all .entry))) number (now (table .entry)) (now (path .entry)) ⌝ }
 {
     let mut since = [0u16; 16384];
     derive(lines, all, &mut since);

@@ -28,19 +28,19 @@ pub struct Back {
     pub cost: [u32; 3],
 }
 
-// Whether one of the first n rows is an arrival at here's place at step s that becomes h by waiting until here's step.
-fn becomes_at(table: &[u32], n: usize, here: Here, h: [u32; 3], s: Step) -> bool
-    requires { ⌜ (Sorted n (now table)) × (s .0 ≤ here .step .0) × (here .step .0 ≤ 60000) × (Within 60000 (here .wait)) ⌝ }
-    ensures { λ r. ⌜ Decided (BecomesAt n (now (table .entry)) here h (s .0)) r ⌝ }
+// Whether one of the first n rows is an arrival at here's place at this step that becomes h by waiting until here's step.
+fn becomes_at(table: &[u32], n: usize, here: Here, h: [u32; 3], step: Step) -> bool
+    requires { ⌜ (Sorted n (now table)) × (step .0 ≤ here .step .0) × (here .step .0 ≤ 60000) × (Within 60000 (here .wait)) ⌝ }
+    ensures { λ r. ⌜ Decided (BecomesAt n (now (table .entry)) here h (step .0)) r ⌝ }
 {
     let wait = here.wait;
-    let waited = multiple(here.step.0 - s.0, wait);
+    let waited = multiple(here.step.0 - step.0, wait);
     if !at_most(waited, h) {
         return false;
     }
     let place = here.place;
     let cost = less(h, waited);
-    has_row(table, n, Stand { place, step: s, cost })
+    has_row(table, n, Stand { place, step, cost })
 }
 
 // Whether one of them, at a step of here's safe interval, does.

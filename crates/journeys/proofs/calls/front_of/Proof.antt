@@ -35,7 +35,7 @@ same-length : tie.Need-same-length
 same-length c = search needs
 
 returns : tie.Need-returns
-returns c = 
+returns c =
     let q = c .before .before .before .before .before .search in
     let s = sheetIn (c .before .before .before .before .before .before .before .before .before .before .before .before .args .lines .now) (c .before .before .before .before .before .before .before .before .before .before .before .before .args .all .now) in
     let f = search-full s (c .before .before .before .before .before .before .before .before .before .before .before .before .args .table .now) (q .ensures) (not-true (q .result .served) (c .before .if1 .taken)) in
@@ -60,7 +60,7 @@ same-length-2 : tie.Need-same-length-2
 same-length-2 c = search needs
 
 returns-2 : tie.Need-returns-2
-returns-2 c = 
+returns-2 c =
     let k = c .before .before .before .before .before .before .before .before .count-front in
     front-nine (ready (c .before .before .before .before .before .before .before .before .before .before .before .before)) (head-number (c .before .before .before .before .before .before .before .before .before .before .before .before .before .before .before .before .before .before .before .before .before .before .before .pre .store) 3 (omega arith)) (head-number (c .before .before .before .before .before .before .before .before .before .before .before .before .before .before .before .before .before .before .before .before .before .before .before .pre .store) 1 (omega arith)) (c .before .before .before .before .before .before .before .before .before .before .before .before .before .before .before .before .before .before .before .before .before .before .before .args .list .now) (k .ensures .counted)
     (c .refuse-front2 .ensures) (c .before .before .before .clear-from .ensures ∙ ap (λ (xs : List ℕ). take 0 xs ++ replicate (length xs - 0) 0) (k .ensures .kept)) (c .before .before .before .before .before .if2 .taken)
@@ -72,7 +72,7 @@ shared-slice-read-t18-2 : tie.Need-shared-slice-read-t18-2
 shared-slice-read-t18-2 c = omega (arith, store-length (c .before .before .before .before .before .before .before .before .before .before .before .before .before .before .before .before .before .before .before .before .before .pre .store))
 
 list-front-requires : tie.Need-list-front-requires
-list-front-requires c κs = 
+list-front-requires c κs =
     let k = c .before .before .before .before .before .before .before .count-front in
     rw (k .ensures .kept)
     (record { room = ready (c .before .before .before .before .before .before .before .before .before .before .before) .holds .room; list-room = omega (arith, c .before .before .before .before .if2 .left, k .ensures .counted, div-add-mod' (length (c .before .before .before .before .before .before .before .before .before .before .before .before .before .before .before .before .before .before .before .before .before .before .args .list .now)) 4) })
@@ -84,7 +84,7 @@ same-length-4 : tie.Need-same-length-4
 same-length-4 c = search needs
 
 returns-3 : tie.Need-returns-3
-returns-3 c = 
+returns-3 c =
     let q = c .before .before .before .before .before .before .before .before .before .before .before .before .before .before .before .before .before .before .before .before .search in
     let k = c .before .before .before .before .before .before .before .before .before .before .before .before .count-front in
     let l = c .before .before .before .before .list-front in

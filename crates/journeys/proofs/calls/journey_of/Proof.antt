@@ -33,7 +33,7 @@ same-length : tie.Need-same-length
 same-length c = search needs
 
 returns : tie.Need-returns
-returns c = 
+returns c =
     let q = c .before .before .before .before .before .search in
     let s = sheetIn (c .before .before .before .before .before .before .before .before .before .before .before .before .args .lines .now) (c .before .before .before .before .before .before .before .before .before .before .before .before .args .all .now) in
     let f = search-full s (c .before .before .before .before .before .before .before .before .before .before .before .before .args .table .now) (q .ensures) (not-true (q .result .served) (c .before .if1 .taken)) in
@@ -55,7 +55,7 @@ same-length-2 : tie.Need-same-length-2
 same-length-2 c = search needs
 
 returns-2 : tie.Need-returns-2
-returns-2 c = 
+returns-2 c =
     let k = c .before .before .before .before .before .before .before .before .nth-front in
     let r = c .before .before .refuse-searched in
     journey-ten (ready (c .before .before .before .before .before .before .before .before .before .before .before .before)) (head-number (c .before .before .before .before .before .before .before .before .before .before .before .before .before .before .before .before .before .before .before .before .before .before .before .pre .store) 3 (omega arith)) (head-number (c .before .before .before .before .before .before .before .before .before .before .before .before .before .before .before .before .before .before .before .before .before .before .before .pre .store) 1 (omega arith)) (k .ensures .numbered) (c .before .before .before .before .before .before .before .before .before .before .before .before .before .before .before .before .before .before .before .before .before .before .before .args .path .now)
@@ -71,14 +71,14 @@ same-length-3 : tie.Need-same-length-3
 same-length-3 c = search needs
 
 returns-3 : tie.Need-returns-3
-returns-3 c = 
+returns-3 c =
     let k = c .before .before .before .before .before .before .before .before .before .before .before .nth-front in
     let r = c .before .before .refuse-searched2 in
     journey-eleven (ready (c .before .before .before .before .before .before .before .before .before .before .before .before .before .before .before)) (head-number (c .before .before .before .before .before .before .before .before .before .before .before .before .before .before .before .before .before .before .before .before .before .before .before .before .before .before .pre .store) 3 (omega arith)) (head-number (c .before .before .before .before .before .before .before .before .before .before .before .before .before .before .before .before .before .before .before .before .before .before .before .before .before .before .pre .store) 1 (omega arith)) (k .ensures .numbered) (c .before .before .before .before .before .before .before .before .before .before .before .before .before .before .before .before .before .before .before .before .before .before .before .before .before .before .args .path .now)
     (r .ensures .0) (r .ensures .1 ∙ ap (λ (xs : List ℕ). filled (length xs) []) (k .ensures .kept)) (not-false (k .result .found) (c .before .before .before .before .before .before .before .if2 .left)) (c .before .before .before .before .if3 .taken)
 
 lay-path-requires : tie.Need-lay-path-requires
-lay-path-requires c κs = 
+lay-path-requires c κs =
     let k = c .before .before .before .before .before .before .before .before .before .before .nth-front in
     rw (k .ensures .kept)
     (layable (c .before .before .before .before .before .before .before .before .before .before .before .before .before .before .before .before .before .before .before .before .before .before .before .before .before .pre) (ready (c .before .before .before .before .before .before .before .before .before .before .before .before .before .before)) (head-number (c .before .before .before .before .before .before .before .before .before .before .before .before .before .before .before .before .before .before .before .before .before .before .before .before .before .pre .store) 3 (omega arith)) (head-number (c .before .before .before .before .before .before .before .before .before .before .before .before .before .before .before .before .before .before .before .before .before .before .before .before .before .pre .store) 1 (omega arith)) (k .ensures .numbered) (c .before .before .before .before .before .before .before .before .before .before .before .before .before .before .before .before .before .before .before .before .before .before .before .before .before .args .path .now) (not-false (k .result .found) (c .before .before .before .before .before .before .if2 .left)) (c .before .before .before .if3 .left))
@@ -90,7 +90,7 @@ same-length-5 : tie.Need-same-length-5
 same-length-5 c = search needs
 
 returns-4 : tie.Need-returns-4
-returns-4 c = 
+returns-4 c =
     let k = c .before .before .before .before .before .before .before .before .before .before .before .before .before .nth-front in
     let l = c .before .before .lay-path in
     ap (λ (xs : List ℕ). journeyEnd (record { refusal = 0; line = 0; cost = k .result .cost; arrival = k .result .step .0 }) xs (l .last .1 .1 .1 .1 .1 .1 .1 .0)) (k .ensures .kept)

@@ -11,7 +11,7 @@ use Rattle.journeys.proofs.walk.becomes.Statement.{statement}
 use Rattle.journeys.proofs.walk.becomes.Tie as tie
 
 abbrev Inv-loop : tie.InvT-loop
-Inv-loop table n here h first s₀ s = 
+Inv-loop table n here h first s₀ s =
     (s ≤ here .step .0 + 1) × (first ≡ here .since .0) × ((t : ℕ) → s ≤ t → t ≤ here .step .0 → BecomesAt n table here h t → ⊥)
 
 abbrev μ-loop : tie.MeasureT-loop
@@ -30,7 +30,7 @@ becomes-at-requires : tie.Need-becomes-at-requires Inv-loop μ-loop
 becomes-at-requires c κs = (c .before .before .before .before .pre .0, omega arith, c .before .before .before .before .pre .1, c .before .before .before .before .pre .2)
 
 returns : tie.Need-returns Inv-loop μ-loop
-returns c = 
+returns c =
     let l = c .before .before .before .loop in
     holds (record { from = l .s - 1; since = omega (arith, l .inv .1); until = omega arith; becomes = yes-of (c .before .becomes-at .ensures) (c .if1 .taken) })
 
@@ -38,7 +38,7 @@ loop-less : tie.Need-loop-less Inv-loop μ-loop
 loop-less c = search needs
 
 loop-again : tie.Need-loop-again Inv-loop μ-loop
-loop-again c = 
+loop-again c =
     let l = c .before .before .before .loop in
     (omega arith, l .inv .1, none-sooner (l .s) _ (l .inv .2) (omega arith) (no-of (c .before .becomes-at .ensures) (c .if1 .left)))
 

@@ -18,7 +18,7 @@ use Rattle.journeys.proofs.walk.place_before.Statement.{statement}
 use Rattle.journeys.proofs.walk.place_before.Tie as tie
 
 abbrev Inv-loop : tie.InvT-loop
-Inv-loop lines all since table n next places u₀ u = 
+Inv-loop lines all since table n next places u₀ u =
     (u ≤ places) × (places ≡ number all 0) × ((x : ℕ) → x < u → (g : Cost) → Precedes (sheetIn lines all) (arrival x (next .step .0 - 1) g) (standing next) → ⊥)
 
 abbrev μ-loop : tie.MeasureT-loop

@@ -36,7 +36,7 @@ becomes-requires : tie.Need-becomes-requires
 becomes-requires c κs = (holds-sorted (c .before .before .before .before .before .before .before .before .before .before .before .before .before .before .pre .0 .holds), omega (arith, walk-day (c .before .before .before .before .before .before .before .before .before .before .before .before .before .before .pre .0)), walk-wait (c .before .before .before .before .before .before .before .before .before .before .before .before .before .before .pre .0) (c .before .before .before .before .before .before .before .before .before .before .before .before .before .before .args .u) (c .before .wait-at .ensures))
 
 returns-2 : tie.Need-returns-2
-returns-2 c = 
+returns-2 c =
     let m = c .before .before .before .before .before .before .before .before .move-cost in
     step-left (c .before .before .before .before .before .before .before .before .before .before .before .before .before .before .before .pre .0) (c .before .before .before .before .before .before .before .before .before .before .before .before .before .before .before .args .u) (m .result) (m .ensures) (and-true _ _ (not-false _ (c .before .before .before .before .if1 .left)) .0) (c .before .before .before .first-step .result) (c .before .before .before .before .before .before .before .before .before .before .before .before .before .before .before .pre .1) (c .before .before .before .first-step .ensures) _ (c .before .before .wait-at .ensures) _ (c .before .less .ensures) (c .becomes .ensures)
 

@@ -14,7 +14,7 @@ use Rattle.journeys.proofs.walk.walk_back.Statement.{statement}
 use Rattle.journeys.proofs.walk.walk_back.Tie as tie
 
 abbrev Inv-loop : tie.InvT-loop
-Inv-loop lines all since table n path₀ at₀ path at = 
+Inv-loop lines all since table n path₀ at₀ path at =
     (at .step .0 ≤ at₀ .step .0) × (at₀ .step .0 < length path) × (length path ≡ length path₀) × CameTo (sheetIn lines all) (at₀ .step .0) (at₀ .cost) (standing at) path₀ path
 
 abbrev μ-loop : tie.MeasureT-loop
@@ -42,7 +42,7 @@ loop-less : tie.Need-loop-less Inv-loop μ-loop
 loop-less c = omega (arith, c .place-before .ensures .precedes .later)
 
 loop-again : tie.Need-loop-again Inv-loop μ-loop
-loop-again c = 
+loop-again c =
     let w = c .before .before .before .loop in (
       omega (arith, c .place-before .ensures .precedes .later),
       omega (arith, length-set (w .path) (w .at .step .0) (w .at .place .0)),
@@ -54,7 +54,7 @@ slice-write-path-2 : tie.Need-slice-write-path-2 Inv-loop μ-loop
 slice-write-path-2 c = search needs
 
 same-length : tie.Need-same-length Inv-loop μ-loop
-same-length c = 
+same-length c =
     let w = c .before .before .loop in
     length-set (w .path) 0 (w .at .place .0) ∙ w .inv .2
 
