@@ -7,7 +7,7 @@ use mathlib.Core.Bool.{Bool, true, false, not}
 use mathlib.Core.List.{List, [], _∷_}
 use Prim.Native.Nat.{ℕ, _+_, _≤_, _<_}
 use native.Mathlib.Omega.{arith}
-use lib.Dec.{ltb, eqb}
+use lib.Dec.{ltb}
 use lib.ListN.{getD, length-map}
 use borrow.Author.Tests.{eq-eqb, ne-eqb, le-ltb}
 use Rattle.sheet.specs.Lists.{_∈_, rows, Lex, after, lexb}

@@ -3,44 +3,39 @@
 -- Assumes nothing.
 use mathlib.Core.Path.{_≡_, refl, sym, _∙_, ap, subst}
 use mathlib.Core.Logic.{_≢_, ⊎-elim}
-use mathlib.Core.Bool.{Bool, true, false, _&&_, true≢false}
+use mathlib.Core.Bool.{Bool, true, false, _&&_}
 use mathlib.Core.List.{List}
 use mathlib.Core.Option.{Option, some, none}
 use Prim.Native.Nat.{ℕ, suc, _+_, _*_, _-_, _≤_, _<_}
 use native.Mathlib.Omega.{arith}
 use lib.ListN.{length}
-use Rattle.sheet.specs.Lists.{_∈_, pick, number}
+use Rattle.sheet.specs.Lists.{pick, number}
 use Rattle.sheet.specs.Sheet.{Sheet, places}
 use Rattle.sheet.specs.Store.{sheetIn}
-use Rattle.sheet.specs.Sorting.{Ascending}
 use Rattle.sheet.specs.Valid.{Valid}
-use Rattle.sheet.specs.Laws.Decided.{Decided, holds, fails, decided-as, false-not-true, lt-or-le, from-length}
+use Rattle.sheet.specs.Laws.Decided.{Decided, holds, fails, false-not-true, lt-or-le}
 use Rattle.sheet.specs.Laws.Store.{store-valid, head-number}
 use Rattle.sheet.specs.declared.Place.{Place}
 use Rattle.sheet.specs.declared.Step.{Step}
-use Rattle.costs.specs.Costs.{Cost, figures, fig, add, times, AtMost}
+use Rattle.costs.specs.Costs.{Cost, figures, add}
 use Rattle.costs.specs.Priced.{Within, asCrossing}
 use Rattle.costs.specs.Computed.{atMostb, waitAt, crossingAt}
 use Rattle.costs.specs.Moves.{waitOf}
 use Rattle.costs.specs.declared.Crossing as crossing
-use Rattle.costs.specs.Laws.Figures.{fig-add, cancel-right, at-most-atMostb}
+use Rattle.costs.specs.Laws.Figures.{cancel-right}
 use Rattle.costs.specs.Laws.Moves.{wait-bounded, crossing-at, at-crossing}
 use Rattle.intervals.specs.Computed.{sinceOf}
 use Rattle.intervals.specs.Intervals.{Free}
-use Rattle.intervals.specs.Laws.Runs.{since-run}
 use Rattle.arrivals.specs.Ways.{Move, waits, crosses}
-use Rattle.arrivals.specs.Arrivals.{Arrival, arrival, keyOf, Arrives}
+use Rattle.arrivals.specs.Arrivals.{Arrival, arrival, Arrives}
 use Rattle.arrivals.specs.declared.network.Here.{Here}
-use Rattle.arrivals.specs.Computed.{leading}
-use Rattle.arrivals.specs.Laws.Leading.{arrival-path, leading-is, is-leading, leading-ascending, arrives-free, arrives-three}
+use Rattle.arrivals.specs.Laws.Leading.{arrival-path, arrives-free, arrives-three}
 use Rattle.arrivals.specs.Laws.Steps.{arrives-back}
 use Rattle.arrivals.specs.Laws.Bounds.{move-once}
-use Rattle.journeys.specs.Held.{tableRows, Holds}
-use Rattle.journeys.specs.Inner.Lookup.{Sorted}
-use Rattle.journeys.specs.Inner.Walk.{BecomesAt, Becomes, MoveFound, OnWay, Walkable, Precedes, asBack, StepFound, Lowest}
+use Rattle.journeys.specs.Inner.Walk.{Becomes, MoveFound, OnWay, Walkable, Precedes, asBack, StepFound, Lowest}
 use Rattle.journeys.specs.declared.walk.Back.{Back}
 use Rattle.journeys.specs.Laws.Exact.{Towards, towards-back, Exact, exact-arrives, arrives-exact}
-use Rattle.journeys.specs.Laws.Rows.{table-at}
+use Rattle.journeys.proofs.Waiting.{part-under, becomes-exact, exact-becomes}
 
 abbrev Crossed : Type 0
 Crossed = crossing.Crossing
@@ -51,70 +46,9 @@ some-not-none e = let z : _≡_ {A = ℕ} 0 1 = cc in omega arith
 some-same : {c d : Cost} → some c ≡ some d → c ≡ d
 some-same e = cc
 
--- a part of a sum is nowhere above it
-part-under : (g c h : Cost) → add g c ≡ h → atMostb c h ≡ true
-part-under g c h e = at-most-atMostb c h (record { every = λ i. omega (arith, fig-add g c i, ap (λ (y : Cost). fig y i) e) })
-
--- the rows of the leading arrivals ascend
-pub holds-sorted : {s : Sheet} {n : ℕ} {xs : List ℕ} → Holds s n xs → Sorted n xs
-holds-sorted {s} k = record { room = k .room; ascends = subst (Ascending keyOf) (sym (k .rows-are)) (leading-ascending s) }
-
--- the cost of the arrival that becomes h by waiting can only be what is left of h, as a row's cost has three figures
-module _ {n : ℕ} {xs : List ℕ} {here : Here} {h : Cost} {t : ℕ} {w : Cost} (e : w ≡ times (here .step .0 - t) (here .wait)) where
-  pub waited-more : {b : Bool} → b ≡ atMostb w h → b ≡ false → Decided (BecomesAt n xs here h t) false
-  waited-more q d = fails (λ x. false-not-true (sym q ∙ d) (part-under (x .cost) w h (ap (add (x .cost)) e ∙ x .sum)))
-
-  pub waited-left : (g : Cost) → (length g ≡ figures) × (add g w ≡ h) → {b : Bool} → Decided (arrival (here .place .0) t g ∈ tableRows n xs) b → Decided (BecomesAt n xs here h t) b
-  waited-left g q =
-      decided-as
-      (λ m. record { cost = g; listed = m; sum = ap (add g) (sym e) ∙ q .1 })
-      (λ x. subst (λ (c : Cost). arrival (here .place .0) t c ∈ tableRows n xs) (only x) (x .listed))
-    where
-      three : (x : BecomesAt n xs here h t) → length (x .cost) ≡ figures
-      three x = let k = table-at n xs (arrival (here .place .0) t (x .cost)) (x .listed) in ap (λ (a : Arrival). length (a .cost)) (k .2) ∙ from-length figures (k .0 * 5 + 2) xs
-
-      only : (x : BecomesAt n xs here h t) → x .cost ≡ g
-      only x = cancel-right (x .cost) g w (three x ∙ sym (q .0)) (ap (add (x .cost)) e ∙ x .sum ∙ sym (q .1))
-
--- none from step s on, and none at the step before
-pub none-sooner : {P : ℕ → Type 0} (s last : ℕ) → ((t : ℕ) → s ≤ t → t ≤ last → P t → ⊥) → 0 < s → (P (s - 1) → ⊥) → (t : ℕ) → s - 1 ≤ t → t ≤ last → P t → ⊥
-none-sooner {P} s last f h g t l m p = ⊎-elim (λ i. let z : t ≡ s - 1 = omega arith in g (subst P z p)) (λ i. f t i m p) (lt-or-le t s)
-
 -- where the code looks for rows
 abbrev hereAt : Place → ℕ → Step → Cost → Here
 hereAt u t first w = record { place = u; step = record { 0 = t }; since = first; wait = w }
-
--- by waiting in the safe interval, the rows tell what is reached exactly
-module _ {s : Sheet} {n : ℕ} {xs : List ℕ} (k : Holds s n xs) (here : Here) (since-is : here .since .0 ≡ sinceOf s (here .place .0) (here .step .0))
-    (wait-is : here .wait ≡ waitOf s (here .place .0)) (day : here .step .0 ≤ 255) (g : Cost) where
-  becomes-exact : Becomes n xs here g → Exact s (here .place .0) (here .step .0) g
-  becomes-exact x =
-      let a = arrival (here .place .0) (x .from) (x .becomes .cost) in
-      record {
-        from = a;
-        leads = leading-is s a (subst (λ (l : List Arrival). a ∈ l) (k .rows-are) (x .becomes .listed));
-        place = refl;
-        soon = x .until;
-        run = since-run s (here .place .0) (x .from) (here .step .0) day (x .until) .0 (omega (arith, since-is, x .since));
-        sum = subst (λ (w : Cost). add (x .becomes .cost) (times (here .step .0 - x .from) w) ≡ g) wait-is (x .becomes .sum);
-      }
-
-  exact-becomes : Exact s (here .place .0) (here .step .0) g → Becomes n xs here g
-  exact-becomes x =
-      let a = x .from in
-      record {
-        from = a .step;
-        since = omega (arith, since-is, since-run s (here .place .0) (a .step) (here .step .0) day (x .soon) .1 (x .run));
-        until = x .soon;
-        becomes =
-            record {
-              cost = a .cost;
-              listed =
-                  subst (λ (y : Arrival). y ∈ tableRows n xs) (arrival-path a (arrival (here .place .0) (a .step) (a .cost)) (x .place) refl refl)
-                  (subst (λ (l : List Arrival). a ∈ l) (sym (k .rows-are)) (is-leading s a (x .leads)));
-              sum = subst (λ (w : Cost). add (a .cost) (times (here .step .0 - a .step) w) ≡ g) (sym wait-is) (x .sum);
-            };
-      }
 
 -- the cost of a move
 module _ {s : Sheet} (h : Valid s) where
@@ -167,36 +101,46 @@ module _ {s : Sheet} (valid : Valid s) {b : Arrival} (o : OnWay s b) where
       let x = arrives-back s (b .place) (b .step - 1) (b .cost) (subst (Arrives s) (arrival-path b (arrival (b .place) (suc (b .step - 1)) (b .cost)) refl e refl) (o .arrives)) in
       (arrival (x .place) (b .step - 1) (x .cost), record { arrives = x .there; price = x .move; move = x .moves; later = e; sum = sym (x .sum) })
 
-  same-step : (c : Arrival) → Precedes s c b → Precedes s (arrival (c .place) (b .step - 1) (c .cost)) b
-  same-step c x =
-      let e : c .step ≡ b .step - 1 = omega (arith, x .later) in
-      subst (λ (y : Arrival). Precedes s y b) (arrival-path c (arrival (c .place) (b .step - 1) (c .cost)) refl e refl) x
+-- none of the places below u can stand before b
+pub record NoneBelow (s : Sheet) (b : Arrival) (u : ℕ) : Type 0 where
+  pub of : (a : Arrival) → Precedes s a b → u ≤ a .place
 
-  pub not-before : {u : ℕ} (r : Back) → StepFound s u b (asBack r) → r .found ≡ false → (g : Cost) → Precedes s (arrival u (b .step - 1) g) b → ⊥
-  not-before r f e g x = some-not-none (sym (ap (λ (p : Bool). pick p (some (r .cost)) none) e) ∙ f .is g x)
+pub none-below : {s : Sheet} {b : Arrival} → NoneBelow s b 0
+none-below = record { of = λ a x. omega arith }
 
-  -- none of the places below u can stand before b
-  module _ {u : ℕ} (low : (x : ℕ) → x < u → (g : Cost) → Precedes s (arrival x (b .step - 1) g) b → ⊥) where
-    pub first-lowest : (r : Back) → StepFound s u b (asBack r) → r .found ≡ true → Lowest s (arrival u (b .step - 1) (r .cost)) b
-    first-lowest r f e =
-        record {
-          precedes = f .there (r .cost) (ap (λ (p : Bool). pick p (some (r .cost)) none) e);
-          least = λ c x. ⊎-elim (λ i. absurd (low (c .place) i (c .cost) (same-step c x))) (λ i. i) (lt-or-le (c .place) u);
-        }
+module _ {s : Sheet} {b : Arrival} {u : ℕ} (p : NoneBelow s b u) (r : Back) (f : StepFound s u b (asBack r)) where
+  -- what precedes b stands one step before
+  step-before : (a : Arrival) → Precedes s a b → a .place ≡ u → Precedes s (arrival u (b .step - 1) (a .cost)) b
+  step-before a x e =
+      let t : a .step ≡ b .step - 1 = omega (arith, x .later) in
+      subst (λ (y : Arrival). Precedes s y b) (arrival-path a (arrival u (b .step - 1) (a .cost)) e t refl) x
 
-    pub not-all : 0 < b .step → places s ≤ u → ⊥
-    not-all moved l = let x = some-before moved in low (x .0 .place) (omega (arith, precedes-place (x .0) (x .1))) (x .0 .cost) (same-step (x .0) (x .1))
+  pub none-more : r .found ≡ false → NoneBelow s b (u + 1)
+  none-more e = record { of = λ a x. ⊎-elim (λ l. absurd (here a x (omega (arith, p .of a x)))) (λ l. l) (lt-or-le (a .place) (u + 1)) }
+    where
+      here : (a : Arrival) → Precedes s a b → a .place ≡ u → ⊥
+      here a x q = some-not-none (sym (ap (λ (c : Bool). pick c (some (r .cost)) none) e) ∙ f .is (a .cost) (step-before a x q))
+
+  pub first-lowest : r .found ≡ true → Lowest s (arrival u (b .step - 1) (r .cost)) b
+  first-lowest e = record { precedes = f .there (r .cost) (ap (λ (c : Bool). pick c (some (r .cost)) none) e); least = p .of }
 
 -- what the code tells of one place
 module _ {lines all since : List ℕ} {n : ℕ} {table : List ℕ} {b : Arrival} (k : Walkable lines all since n table b) where
-  pub walk-valid : Valid (sheetIn lines all)
+  walk-valid : Valid (sheetIn lines all)
   walk-valid = store-valid (k .derived .store)
 
   pub walk-day : b .step ≤ 255
   walk-day = omega (arith, k .on-way .arrives .in-time, walk-valid .most-steps)
 
-  pub walk-places : (number all 0 ≡ places (sheetIn lines all)) × (places (sheetIn lines all) ≤ 64)
-  walk-places = (head-number (k .derived .store) 0 (omega arith), walk-valid .most-places)
+  walk-places : number all 0 ≡ places (sheetIn lines all)
+  walk-places = head-number (k .derived .store) 0 (omega arith)
+
+  pub few-places : number all 0 ≤ 64
+  few-places = omega (arith, walk-places, walk-valid .most-places)
+
+  -- one place can stand before
+  pub not-all : {u : ℕ} → NoneBelow (sheetIn lines all) b u → u < number all 0
+  not-all p = let x = some-before walk-valid (k .on-way) (k .moved) in omega (arith, walk-places, p .of (x .0) (x .1), precedes-place walk-valid (k .on-way) (x .0) (x .1))
 
   pub walk-wait : (u : Place) {w : Cost} → w ≡ waitAt (sheetIn lines all) u → Within 60000 w
   unfolding waitAt

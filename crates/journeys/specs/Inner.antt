@@ -2,22 +2,15 @@
 use mathlib.Core.Path.{_≡_}
 use mathlib.Core.Bool.{Bool, true, false, _&&_}
 use mathlib.Core.List.{List, [], _∷_, _++_, map}
-use Prim.Native.Nat.{ℕ, suc, _*_, _+_, _≤_, _<_, _%_}
+use Prim.Native.Nat.{ℕ, _*_, _+_, _≤_, _<_}
 use lib.Dec.{eqb, leb}
 use lib.ListN.{length, getD}
-use lib.Seq.{sets}
 use Rattle.sheet.specs.Lists.{pick, number, filter, bind}
-use Rattle.sheet.specs.Sheet.{Sheet}
-use Rattle.sheet.specs.Valid.{Valid}
-use Rattle.sheet.specs.Kinds.{kindC}
-use Rattle.sheet.specs.Calls.{groupRows}
 use Rattle.costs.specs.Costs.{Cost, figures}
 use Rattle.costs.specs.Computed.{sameb}
-use Rattle.intervals.specs.Computed.{sinceOf}
 use Rattle.arrivals.specs.Arrivals.{Arrival}
-use Rattle.journeys.specs.Computed.{journeyOf, arrivalOf, frontOf}
-use Rattle.journeys.specs.Front.{OnFront}
-use Rattle.journeys.specs.Held.{tableRows, Holds}
+use Rattle.journeys.specs.Computed.{frontOf}
+use Rattle.journeys.specs.Held.{tableRows}
 use Rattle.journeys.specs.declared.front.Offered.{Offered}
 pub mod Lookup
 pub mod Walk

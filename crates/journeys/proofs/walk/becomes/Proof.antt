@@ -5,7 +5,7 @@ use Prim.Native.Nat.{ℕ, _+_, _-_, _≤_}
 use native.Mathlib.Omega.{arith}
 use Rattle.sheet.specs.Laws.Decided.{holds, fails, yes-of, no-of}
 use Rattle.journeys.specs.Inner.Walk.{BecomesAt}
-use Rattle.journeys.proofs.Stepping.{none-sooner}
+use Rattle.journeys.proofs.Waiting.{none-sooner}
 use borrow.Author.Needs.{needs}
 use Rattle.journeys.proofs.walk.becomes.Statement.{statement}
 use Rattle.journeys.proofs.walk.becomes.Tie as tie

@@ -3,7 +3,7 @@
 use mathlib.Core.Path.{sym, _∙_}
 use borrow.Author.Tests.{not-true, not-false}
 use Rattle.costs.specs.Laws.Figures.{atMostb-true}
-use Rattle.journeys.proofs.Stepping.{waited-more, waited-left}
+use Rattle.journeys.proofs.Waiting.{waited-more, waited-left}
 use borrow.Author.Needs.{needs}
 use Rattle.journeys.proofs.walk.becomes_at.Statement.{statement}
 use Rattle.journeys.proofs.walk.becomes_at.Tie as tie

@@ -6,7 +6,8 @@ use borrow.Author.Tests.{not-true, not-false}
 use Rattle.sheet.specs.Laws.Order.{and-true}
 use Rattle.costs.specs.Laws.Figures.{atMostb-true}
 use Rattle.intervals.specs.FirstSteps.{some-derived}
-use Rattle.journeys.proofs.Stepping.{holds-sorted, walk-day, walk-wait, no-step, step-left}
+use Rattle.journeys.proofs.Waiting.{holds-sorted}
+use Rattle.journeys.proofs.Stepping.{walk-day, walk-wait, no-step, step-left}
 use borrow.Author.Needs.{needs}
 use Rattle.journeys.proofs.walk.step_from.Statement.{statement}
 use Rattle.journeys.proofs.walk.step_from.Tie as tie
