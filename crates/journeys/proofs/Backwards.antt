@@ -55,9 +55,6 @@ module _ {lines all since : List ℕ} {n : ℕ} {table : List ℕ} {A : ℕ} {f 
   earliest : Earliest (sheetIn lines all) f A
   earliest = subst (Earliest (sheetIn lines all) f) (sym (k .arrives-at)) (arrivalOf-earliest (sheetIn lines all) f (k .on-front .has))
 
-  pub in-day : A ≤ 255
-  in-day = omega (arith, earliest .there .arrives .in-time, valid .most-steps)
-
   pub walkable : {a : Arrival} {path′ : List ℕ} → CameTo (sheetIn lines all) A f a path path′ → 0 < a .step → Walkable lines all since n table a
   walkable x h = record { derived = k .derived; holds = k .holds; on-way = x .on-way; moved = h }
 

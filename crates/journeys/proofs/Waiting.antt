@@ -15,7 +15,6 @@ use Rattle.sheet.specs.Laws.Decided.{Decided, fails, decided-as, false-not-true
 use Rattle.costs.specs.Costs.{Cost, figures, fig, add, times}
 use Rattle.costs.specs.Computed.{atMostb}
 use Rattle.costs.specs.Moves.{waitOf}
-use Rattle.costs.specs.declared.Crossing as crossing
 use Rattle.costs.specs.Laws.Figures.{fig-add, cancel-right, at-most-atMostb}
 use Rattle.intervals.specs.Computed.{sinceOf}
 use Rattle.intervals.specs.Laws.Runs.{since-run}

@@ -133,6 +133,7 @@ fn place_before(
         }
         u += 1;
     }
+    // not reached: an arrival past step 0 has one before it
     next
 }
 
