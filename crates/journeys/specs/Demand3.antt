@@ -6,7 +6,7 @@ use mathlib.Core.Bool.{Bool, true}
 use mathlib.Core.List.{List, [], _∷_}
 use Prim.Native.Nat.{ℕ, _+_, _*_, _<_}
 use Rattle.sheet.specs.Lists.{number}
-use Rattle.sheet.specs.Sheet.{Outcome, refused, loaded, readOf}
+use Rattle.sheet.specs.Sheet.{told, readOf}
 use Rattle.costs.specs.Costs.{figures}
 use Rattle.journeys.specs.Journeys.{Meets}
 use Rattle.journeys.specs.Calls.{FrontEnd, frontCall}
@@ -20,14 +20,9 @@ pub record SameLists (e f : FrontEnd) : Type 0 where
   pub counts : e .answer .costs ≡ f .answer .costs
   pub figures-same : (i j : ℕ) → i < e .answer .costs → j < figures → figureAt e i j ≡ figureAt f i j
 
--- a sheet that reads can meet (x, y, z) where a lawful journey does; bytes that do not read can meet nothing
-abbrev pub MeetsRead : Outcome → ℕ → ℕ → ℕ → Type 0
-MeetsRead (refused k n) x y z = ⊥
-MeetsRead (loaded s) x y z = Meets s (x ∷ y ∷ z ∷ [])
-
--- the sheet with the bytes b can meet the allowance (x, y, z)
+-- the sheet with the bytes b can meet the allowance (x, y, z): a lawful journey on it does; bytes that do not read can meet nothing
 abbrev pub CanMeet : List ℕ → ℕ → ℕ → ℕ → Type 0
-CanMeet b x y z = MeetsRead (readOf b) x y z
+CanMeet b x y z = told (λ k n. ⊥) (λ s. Meets s (x ∷ y ∷ z ∷ [])) (readOf b)
 
 -- neither call was refused, and the lists of costs are equal
 pub record BothSame (e f : FrontEnd) : Type 0 where

@@ -10,7 +10,8 @@ use lib.Dec.{ltb, leb, eqb}
 use lib.ListN.{length, set, length-set, List·getD-eq-default}
 use lib.Seq.{ext-getD, getD-set-same, getD-set-other}
 use borrow.Author.Tests.{ltb-true, ltb-false, leb-true, leb-false, eqb-true, eqb-false, le-leb, eq-eqb, not-true}
-use Rattle.sheet.specs.Lists.{number, numbersFrom, Lex, lexb}
+use Rattle.sheet.specs.Lists.{number, numbersFrom, Lex}
+use Rattle.sheet.specs.Computed.{lexb}
 use Rattle.sheet.specs.Laws.Decided.{from-length, from-at}
 use Rattle.sheet.specs.Laws.Order.{and-true, true-and, decided, Lex-irrefl, Lex-trans, lexb-true, lexb-false}
 use Rattle.costs.specs.Costs.{Cost, figures, fig, zeroCost, add, times, AtMost, Dominates}

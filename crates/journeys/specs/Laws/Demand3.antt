@@ -8,12 +8,12 @@ use native.Mathlib.Omega.{arith}
 use lib.ListN.{length, getD}
 use lib.Seq.{ext-getD}
 use Rattle.sheet.specs.Lists.{_∈_}
-use Rattle.sheet.specs.Sheet.{Sheet, Outcome, loaded, readOf}
+use Rattle.sheet.specs.Sheet.{Sheet, Outcome, loaded, told, readOf}
 use Rattle.costs.specs.Costs.{Cost, figures, fig}
 use Rattle.journeys.specs.Journeys.{Meets}
 use Rattle.journeys.specs.Computed.{front}
 use Rattle.journeys.specs.Calls.{FrontEnd, frontServed, frontCall}
-use Rattle.journeys.specs.Demand3.{figureAt, SameLists, MeetsRead, CanMeet}
+use Rattle.journeys.specs.Demand3.{figureAt, SameLists, CanMeet}
 use Rattle.journeys.specs.Laws.Journeys.{has-three}
 use Rattle.journeys.specs.Laws.Front.{front-on, same-front}
 use Rattle.journeys.specs.Laws.Served.{Served, served, member, listed}
@@ -60,6 +60,9 @@ allowances s r h (x ∷ []) l = absurd (omega (arith, l))
 allowances s r h (x ∷ y ∷ []) l = absurd (omega (arith, l))
 allowances s r h (x ∷ y ∷ z ∷ []) l = h x y z
 allowances s r h (x ∷ y ∷ z ∷ t ∷ a) l = absurd (omega (arith, l))
+
+abbrev MeetsRead : Outcome → ℕ → ℕ → ℕ → Type 0
+MeetsRead o x y z = told (λ k n. ⊥) (λ s. Meets s (x ∷ y ∷ z ∷ [])) o
 
 meets-as : (o : Outcome) (s : Sheet) → o ≡ loaded s → (x y z : ℕ) → MeetsRead o x y z ↔ Meets s (x ∷ y ∷ z ∷ [])
 meets-as o s e x y z = (λ m. subst (λ (o : Outcome). MeetsRead o x y z) e m, λ m. subst (λ (o : Outcome). MeetsRead o x y z) (sym e) m)
