@@ -263,7 +263,7 @@ module _ (v last n : ℕ) (xs : List ℕ) where
   unfolding c
   before-row i h = counted-rows false (costAt xs (getD (frontList v last n xs) i 0)) ∙ position (costAt xs) (frontList v last n xs) i rows-ascend h
 
-  pub slow-on : (i k : ℕ) (o : Offered) → k < n → hasNumber v last n xs i k ≡ true → o .found ≡ true → o .cost ≡ costAt xs k → o .step ≡ rowAt xs k .step → NumberIs (goalRows v last n xs) i o
+  pub slow-on : (i k : ℕ) (o : Offered) → k < n → hasNumber v last n xs i k ≡ true → o .found ≡ true → o .cost ≡ costAt xs k → o .step .0 ≡ rowAt xs k .step → NumberIs (goalRows v last n xs) i o
   slow-on i k o h b t g s =
       let f = and-true (isFrontRow v last n xs k) (eqb (countTo v last n xs false (costAt xs k) n) i) b in
       let p = at-position (frontList v last n xs) k (front-in k h (f .0)) in

@@ -47,7 +47,7 @@ module _ {A : Type 0} (d : A) where
   position g (x ∷ l) (inl e) = (0, omega arith, sym e)
   position g (x ∷ l) (inr m) = let r = position g l m in (suc (r .0), omega (arith, r .1), r .2)
 
-  keys-ascend : (key : A → List ℕ) (l : List A) → Ascending key l → (i j : ℕ) → i < j → j < length l → Lex (key (getD l i d)) (key (getD l j d))
+  pub keys-ascend : (key : A → List ℕ) (l : List A) → Ascending key l → (i j : ℕ) → i < j → j < length l → Lex (key (getD l i d)) (key (getD l j d))
   keys-ascend key [] a i j h k = absurd (omega arith)
   keys-ascend key (x ∷ l) a i zero h k = absurd (omega arith)
   keys-ascend key (x ∷ l) a zero (suc j) h k = before-all key x l (a .0) (a .1) (getD l j d) (mem-at d l j (omega arith))
