@@ -11,7 +11,7 @@ use Rattle.sheet.specs.Lists.{pick, number, any, lexb, rows, bind}
 use Rattle.sheet.specs.Bytes.{kindOf, comma, split}
 use Rattle.sheet.specs.Decimal.{digitsFrom, numberOf, mostDigits}
 use Rattle.sheet.specs.Kinds.{Limit, between, place, step, cost, Pair, alone, different, ordered, Kind, width, kindS, kinds}
-use Rattle.sheet.specs.Lines.{Line, line, lineOf, textLines}
+use Rattle.sheet.specs.Lines.{Line, line, lineOf}
 use Rattle.sheet.specs.Sheet.{Sheet, group, fault, lacking, Outcome, refused, loaded, judge}
 use Rattle.sheet.specs.Text.{lineText, sheetText}
 use Rattle.sheet.specs.Calls.{readAnswer, groupRows}
@@ -23,7 +23,6 @@ use Rattle.sheet.specs.declared.kinds.Row.{Row}
 use Rattle.sheet.specs.declared.lines.Field.{Field}
 use Rattle.sheet.specs.declared.lines.Numbers.{Numbers}
 use Rattle.sheet.specs.declared.lines.Parsed.{Parsed}
-use Rattle.sheet.specs.declared.lines.Next.{Next}
 use Rattle.sheet.specs.declared.reader.Verdict.{Verdict}
 
 -- the limit and the pair that the numbers in a row stand for
@@ -178,15 +177,6 @@ asParsed ks r = pick (r .ok) (some (lineOfKinds ks (r .kind) (r .values))) none
 pub record LineIs (most : ℕ) (letters widths p : List ℕ) (r : Parsed) : Type 0 where
   pub known : r .ok ≡ true → r .kind < length letters
   pub of : (ks : List Kind) → Forms ks letters widths → asParsed ks r ≡ lineOf most ks p
-
--- r is the next line of the text from `at` on, where something is left: up to its line feed, or refused by test 2
-pub record NextIs (most : ℕ) (letters widths src : List ℕ) (at : ℕ) (r : Next) : Type 0 where
-  pub ahead : at ≤ r .end
-  pub within : r .ok ≡ true → r .end < length src
-  pub known : r .ok ≡ true → r .kind < length letters
-  pub bad : (ks : List Kind) → Forms ks letters widths → r .ok ≡ false → (ls : List (Option Line)) × (textLines most ks (drop at src) ≡ none ∷ ls)
-  pub good : (ks : List Kind) → Forms ks letters widths → r .ok ≡ true
-      → textLines most ks (drop at src) ≡ some (lineOfKinds ks (r .kind) (r .values)) ∷ textLines most ks (drop (r .end + 1) src)
 
 -- the bytes from a position on up to the first comma
 abbrev pub fieldFrom : List ℕ → ℕ → List ℕ
