@@ -138,7 +138,7 @@ module _ (head corridors : List ℕ) (n : ℕ) (table since : List ℕ) (s : She
 -- what the code reads
 module _ {head corridors : List ℕ} {n : ℕ} {table since : List ℕ} where
   pub head-seven : Readable head corridors n table since → length head ≡ 7
-  head-seven k = sym (ap length (k .head-is)) ∙ k .valid .seven
+  head-seven k = sym (ap length (k .head-is)) ∙ k .valid .wide
 
   pub head-places : Readable head corridors n table since → number head 0 ≤ 64
   head-places k = omega (arith, ap (λ (l : List ℕ). number l 0) (k .head-is), k .valid .most-places)

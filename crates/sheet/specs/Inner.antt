@@ -198,6 +198,10 @@ pub record GroupFits (k n : ℕ) (all : List ℕ) : Type 0 where
   pub few : n ≤ 256
   pub inside : baseOf k + n * width (kindAt k) ≤ length all
 
+-- the most bytes of a group: 256 lines of a letter, a line feed, and at most eight numbers with their commas
+abbrev pub groupBytes : ℕ
+groupBytes = 256 * (2 + 8 * suc mostDigits)
+
 -- the text of n lines of the kind with number k, whose numbers stand in the array
 unfoldable pub groupText : ℕ → ℕ → List ℕ → List ℕ
 unfolding lineText

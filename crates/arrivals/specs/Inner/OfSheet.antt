@@ -58,7 +58,7 @@ module _ (head cs os : List ℕ) (valid : Valid (sheetOfGroups (groups head cs o
   pub layable : (net : List ℕ) → length cs % 5 ≡ 0 → 2436 ≤ length net → ((i : ℕ) → getD net i 0 ≡ 0) → Layable head cs net
   layable net whole size blank =
       record {
-        line = valid .seven;
+        line = valid .wide;
         places = valid .most-places;
         few = omega (arith, few);
         whole = whole;

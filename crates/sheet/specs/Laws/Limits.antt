@@ -1,18 +1,19 @@
 -- Numbers within their limits: test 4 as a statement about each number, and what it gives for a number of any line. On at most 64 places
 -- no number is above the highest that its limit allows, and no limit of any kind allows a number of more than five digits.
-use mathlib.Core.Path.{_≡_, refl, subst}
+use mathlib.Core.Path.{_≡_, refl, sym, subst}
 use mathlib.Core.Logic.{inl, inr}
-use mathlib.Core.Bool.{false}
+use mathlib.Core.Bool.{Bool, true, false, true≢false}
 use mathlib.Core.List.{List, [], _∷_}
 use Prim.Native.Nat.{ℕ, zero, suc, _+_, _-_, _≤_, _<_}
 use native.Mathlib.Omega.{arith}
-use lib.Dec.{ltb}
+use lib.Dec.{ltb, leb}
 use lib.ListN.{length, drop, replicate}
 use lib.Seq.{getD-drop}
-use borrow.Author.Tests.{ltb-true, ltb-false, leb-false, le-ltb, lt-leb}
-use Rattle.sheet.specs.Lists.{number, _∈_, bind}
+use borrow.Author.Tests.{ltb-true, ltb-false, leb-true, leb-false, le-ltb, lt-leb}
+use Rattle.sheet.specs.Lists.{number, _∈_, all, bind}
 use Rattle.sheet.specs.Kinds.{Limit, between, place, Kind, cost, kinds}
 use Rattle.sheet.specs.Sheet.{beyond, outside}
+use Rattle.sheet.specs.Laws.Order.{and-true}
 use Rattle.sheet.specs.Laws.Passed.{or-false, false-or}
 use Rattle.sheet.specs.Laws.Members.{all-true, mem-bind}
 
@@ -47,13 +48,19 @@ within-inside p [] ns h = refl
 within-inside p (x ∷ xs) [] h = refl
 within-inside p (x ∷ xs) (n ∷ ns) h = false-or (beyond p x n) (outside p xs ns) (limit-inside p x n (h .0)) (within-inside p xs ns (h .1))
 
--- figures of a cost, at any position
-pub within-costs : (w p : ℕ) (ns : List ℕ) → length ns ≡ w → Within p (replicate w cost) ns → (i : ℕ) → number ns i ≤ 60000
-within-costs w p [] e h i = omega arith
-within-costs zero p (n ∷ ns) e h i = absurd (omega arith)
-within-costs (suc w) p (n ∷ ns) e h zero = h .0 .1
-within-costs (suc w) p (n ∷ ns) e h (suc i) = within-costs w p ns (omega arith) (h .1) i
+-- no limit of these allows a number above m, so none is, at any position
+abbrev atMost : ℕ → Limit → Bool
+atMost m (between a b) = leb b m
+atMost m place = false
 
+pub within-most : (m p : ℕ) (xs : List Limit) (ns : List ℕ) → length ns ≡ length xs → Within p xs ns → all (atMost m) xs ≡ true → (i : ℕ) → number ns i ≤ m
+within-most m p xs [] e h t i = omega arith
+within-most m p [] (n ∷ ns) e h t i = absurd (omega arith)
+within-most m p (between a b ∷ xs) (n ∷ ns) e h t zero = omega (arith, leb-true b m (and-true (leb b m) (all (atMost m) xs) t .0))
+within-most m p (place ∷ xs) (n ∷ ns) e h t zero = absurd (true≢false (sym t))
+within-most m p (x ∷ xs) (n ∷ ns) e h t (suc i) = within-most m p xs ns (omega arith) (h .1) (and-true (atMost m x) (all (atMost m) xs) t .1) i
+
+-- figures of a cost
 pub costs-within : (w p : ℕ) (ns : List ℕ) → ((i : ℕ) → number ns i ≤ 60000) → Within p (replicate w cost) ns
 costs-within zero p ns f = tt
 costs-within (suc w) p [] f = tt

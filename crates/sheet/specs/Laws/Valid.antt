@@ -7,10 +7,10 @@ use mathlib.Core.Bool.{false}
 use mathlib.Core.List.{List, [], _∷_}
 use Prim.Native.Nat.{ℕ, _≤_, _<_}
 use native.Mathlib.Omega.{arith}
-use lib.ListN.{length}
+use lib.ListN.{length, drop}
 use borrow.Author.Tests.{ltb-false, eqb-false, le-ltb, ne-eqb}
 use Rattle.sheet.specs.Lists.{number, _∈_}
-use Rattle.sheet.specs.Kinds.{Kind, kindS, kindC, kindO, kinds}
+use Rattle.sheet.specs.Kinds.{Kind, width, kindS, kindC, kindO, kinds}
 use Rattle.sheet.specs.Lines.{Line, line}
 use Rattle.sheet.specs.Sheet.{Sheet, places, sheetOf, groupsOf, sheetLines, placesIn, unpaired}
 use Rattle.sheet.specs.Valid.{ValidCorridor, ValidOccupancy, Valid}
@@ -18,7 +18,7 @@ use Rattle.sheet.specs.Laws.Kinds.{kinds-ascend}
 use Rattle.sheet.specs.Laws.Judge.{Passes}
 use Rattle.sheet.specs.Laws.Shape.{AllShaped}
 use Rattle.sheet.specs.Laws.Passed.{passes-inside, passed-fault}
-use Rattle.sheet.specs.Laws.Limits.{Within, inside-within, within-inside, within-costs, costs-within, from-position, to-position, five-digits, within-below}
+use Rattle.sheet.specs.Laws.Limits.{Within, inside-within, within-inside, within-most, costs-within, from-position, to-position, five-digits, within-below}
 use Rattle.sheet.specs.Laws.Groups.{later-kinds, lines-sheet}
 use Rattle.sheet.specs.Laws.Runs.{AllRuns, passes-runs, runs-shaped, runs-pass}
 
@@ -28,7 +28,7 @@ Runs s = AllRuns (places s) kinds (groupsOf s)
 
 -- what a valid sheet says of its S line
 record ValidHead (h : List ℕ) : Type 0 where
-  seven : length h ≡ 7
+  wide : length h ≡ width kindS
   some-place : 1 ≤ number h 0
   most-places : number h 0 ≤ 64
   most-steps : number h 1 ≤ 255
@@ -37,45 +37,45 @@ record ValidHead (h : List ℕ) : Type 0 where
   wait : (i : ℕ) → 4 ≤ i → number h i ≤ 60000
 
 -- each line: what its run says of it is what a valid sheet says
-head-valid : (h : List ℕ) → length h ≡ 7 → Within (number h 0) (kindS .limits) h → ValidHead h
+head-valid : (h : List ℕ) → length h ≡ width kindS → Within (number h 0) (kindS .limits) h → ValidHead h
 head-valid [] e w = absurd (omega arith)
 head-valid (a ∷ []) e w = absurd (omega arith)
 head-valid (a ∷ b ∷ []) e w = absurd (omega arith)
 head-valid (a ∷ b ∷ c ∷ []) e w = absurd (omega arith)
 head-valid (a ∷ b ∷ c ∷ d ∷ r) e w =
     record {
-      seven = e;
+      wide = e;
       some-place = w .0 .0;
       most-places = w .0 .1;
       most-steps = w .1 .0 .1;
       start-place = w .1 .1 .0;
       goal-place = w .1 .1 .1 .0;
-      wait = from-position 4 (a ∷ b ∷ c ∷ d ∷ r) (within-costs 3 a r (omega arith) (w .1 .1 .1 .1));
+      wait = from-position 4 (a ∷ b ∷ c ∷ d ∷ r) (within-most 60000 a (drop 4 (kindS .limits)) r (omega arith) (w .1 .1 .1 .1) refl);
     }
 
-corridor-valid : (s : Sheet) (k : List ℕ) → length k ≡ 5 → Within (places s) (kindC .limits) k → unpaired (kindC .pair) k ≡ false → ValidCorridor s k
+corridor-valid : (s : Sheet) (k : List ℕ) → length k ≡ width kindC → Within (places s) (kindC .limits) k → unpaired (kindC .pair) k ≡ false → ValidCorridor s k
 corridor-valid s [] e w u = absurd (omega arith)
 corridor-valid s (a ∷ []) e w u = absurd (omega arith)
 corridor-valid s (a ∷ b ∷ r) e w u =
     record {
-      five = e;
+      wide = e;
       from-place = w .0;
       to-place = w .1 .0;
-      cost = from-position 2 (a ∷ b ∷ r) (within-costs 3 (places s) r (omega arith) (w .1 .1));
+      cost = from-position 2 (a ∷ b ∷ r) (within-most 60000 (places s) (drop 2 (kindC .limits)) r (omega arith) (w .1 .1) refl);
       apart = eqb-false a b u;
     }
 
-occupancy-valid : (s : Sheet) (o : List ℕ) → length o ≡ 3 → Within (places s) (kindO .limits) o → unpaired (kindO .pair) o ≡ false → ValidOccupancy s o
+occupancy-valid : (s : Sheet) (o : List ℕ) → length o ≡ width kindO → Within (places s) (kindO .limits) o → unpaired (kindO .pair) o ≡ false → ValidOccupancy s o
 occupancy-valid s [] e w u = absurd (omega arith)
 occupancy-valid s (a ∷ []) e w u = absurd (omega arith)
 occupancy-valid s (a ∷ b ∷ []) e w u = absurd (omega arith)
-occupancy-valid s (a ∷ b ∷ c ∷ r) e w u = record { three = e; place = w .0; in-day = w .1 .1 .0 .1; ordered = ltb-false c b u }
+occupancy-valid s (a ∷ b ∷ c ∷ r) e w u = record { wide = e; place = w .0; in-day = w .1 .1 .0 .1; ordered = ltb-false c b u }
 
 pub runs-valid : (s : Sheet) → Runs s → Valid s
 runs-valid s (rs, (rc, (ro, u))) =
     let h = head-valid (s .head) (rs .count (s .head) (inl refl)) (rs .within (s .head) (inl refl)) in
     record {
-      seven = h .seven;
+      wide = h .wide;
       some-place = h .some-place;
       most-places = h .most-places;
       most-steps = h .most-steps;
@@ -139,7 +139,7 @@ valid-runs s g = (
   record { count = count; within = within; paired = λ n m. refl; few = omega arith; ascend = (tt, tt) },
   (
     record {
-      count = λ k m. g .corridors k m .five;
+      count = λ k m. g .corridors k m .wide;
       within = λ k m. valid-corridor s k (g .corridors k m) .0;
       paired = λ k m. valid-corridor s k (g .corridors k m) .1;
       few = g .most-corridors;
@@ -147,7 +147,7 @@ valid-runs s g = (
     },
     (
       record {
-        count = λ o m. g .occupancies o m .three;
+        count = λ o m. g .occupancies o m .wide;
         within = λ o m. valid-occupancy s o (g .occupancies o m) .0;
         paired = λ o m. valid-occupancy s o (g .occupancies o m) .1;
         few = g .most-occupancies;
@@ -161,7 +161,7 @@ valid-runs s g = (
     head : ValidHead (s .head)
     head =
         record {
-          seven = g .seven;
+          wide = g .wide;
           some-place = g .some-place;
           most-places = g .most-places;
           most-steps = g .most-steps;
@@ -170,8 +170,8 @@ valid-runs s g = (
           wait = g .wait;
         }
 
-    count : (h : List ℕ) → h ∈ (s .head ∷ []) → length h ≡ 7
-    count h (inl e) = ap length e ∙ g .seven
+    count : (h : List ℕ) → h ∈ (s .head ∷ []) → length h ≡ width kindS
+    count h (inl e) = ap length e ∙ g .wide
 
     within : (h : List ℕ) → h ∈ (s .head ∷ []) → Within (places s) (kindS .limits) h
     within h (inl e) = rw e (valid-head (s .head) head)

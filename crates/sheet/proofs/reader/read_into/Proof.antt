@@ -12,6 +12,7 @@ use borrow.Author.Needs.{needs}
 use borrow.Author.Tests.{not-true, not-false}
 use Rattle.sheet.specs.Kinds.{kinds}
 use Rattle.sheet.specs.Sheet.{readOf}
+use Rattle.sheet.specs.Store.{kindCount}
 use Rattle.sheet.specs.Inner.{kindTable, lineAt, Reached, Forms}
 use Rattle.sheet.specs.declared.line_reader.LineEnd.the-variants.{At}
 use Rattle.sheet.proofs.LineEnding.{end-inside}
@@ -28,8 +29,8 @@ Inv-loop src lines₀ all₀ bytes letters widths n₀ at₀ lines all n at =
     × (n ≤ at + 1)
     × (bytes ≡ kindTable)
     × Forms kinds letters widths
-    × (length letters ≡ 3)
-    × (length widths ≡ 3)
+    × (length letters ≡ kindCount)
+    × (length widths ≡ kindCount)
     × (length lines ≡ length lines₀)
     × (length all ≡ length all₀)
 
