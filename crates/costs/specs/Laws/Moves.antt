@@ -70,7 +70,7 @@ pub crossing-once : (s : Sheet) → Valid s → (u v t : ℕ) (c d : Cost) → C
 crossing-once s h u v t c d x y =
     let e : x .line ≡ y .line =
     ascending-once (take 2) (s .corridors) (h .corridors-ascend) (x .line) (y .line) (x .listed) (y .listed)
-    (ends-key (x .line) (y .line) (h .corridors (x .line) (x .listed) .five) (h .corridors (y .line) (y .listed) .five) (x .leaves ∙ sym (y .leaves)) (x .enters ∙ sym (y .enters))) in
+    (ends-key (x .line) (y .line) (h .corridors (x .line) (x .listed) .wide) (h .corridors (y .line) (y .listed) .wide) (x .leaves ∙ sym (y .leaves)) (x .enters ∙ sym (y .enters))) in
     x .price ∙ ap costOf e ∙ sym (y .price)
 
 pub crossing-apart : (s : Sheet) → Valid s → (u v t : ℕ) (c : Cost) → Crossing s u v t c → u ≡ v → ⊥
