@@ -2,7 +2,8 @@
 ghost use mathlib.Core.Path.{_≡_};
 ghost use Prim.Native.Nat.{_+_, _≤_};
 ghost use lib.ListN.{length};
-ghost use Rattle.sheet.specs.Lists.{lexb, numbersFrom};
+ghost use Rattle.sheet.specs.Lists.{numbersFrom};
+ghost use Rattle.sheet.specs.Computed.{lexb};
 ghost use Rattle.sheet.specs.Store.{SomeStore, sheetIn};
 ghost use Rattle.costs.specs.Costs.{figures, add, times, AtMost};
 ghost use Rattle.costs.specs.Priced.{Within, asCrossing};

@@ -15,7 +15,8 @@ use Rattle.sheet.specs.Laws.Store.{store-valid}
 use Rattle.costs.specs.Costs.{Cost, zeroCost}
 use Rattle.costs.specs.Laws.Figures.{zero-right}
 use Rattle.intervals.specs.Intervals.{Free}
-use Rattle.arrivals.specs.Arrivals.{Arrival, arrival, Arrives}
+use Rattle.arrivals.specs.Arrivals.{Arrival, Arrives}
+use Rattle.arrivals.specs.Computed.{arrival}
 use Rattle.arrivals.specs.Laws.Trails.{Begins, Trail}
 use Rattle.arrivals.specs.Laws.Leading.{arrives-free, arrives-came}
 use Rattle.arrivals.specs.Laws.Bounds.{move-once}

@@ -11,7 +11,8 @@ use native.Mathlib.Numerals.{add-one}
 use lib.Dec.{eqb, ltb}
 use lib.ListN.{length, getD}
 use borrow.Author.Tests.{eqb-true, eqb-false, eq-eqb, ltb-true, lt-ltb, not-true}
-use Rattle.sheet.specs.Lists.{_∈_, keep, all, filter, Lex, lexb}
+use Rattle.sheet.specs.Lists.{_∈_, keep, all, filter, Lex}
+use Rattle.sheet.specs.Computed.{lexb}
 use Rattle.sheet.specs.Sorting.{Ascending, sortUnique}
 use Rattle.sheet.specs.Laws.Order.{and-true, true-and, Lex-irrefl, lexb-true, Lex-lexb}
 use Rattle.sheet.specs.Laws.Members.{filter-mem, mem-filter, map-mem, all-true, true-all}

@@ -10,11 +10,13 @@ use native.Mathlib.Omega.{arith}
 use lib.Dec.{ltb}
 use lib.ListN.{getD, length-map}
 use borrow.Author.Tests.{eq-eqb, ne-eqb, le-ltb}
-use Rattle.sheet.specs.Lists.{_∈_, rows, Lex, after, lexb}
+use Rattle.sheet.specs.Lists.{_∈_, rows, Lex}
+use Rattle.sheet.specs.Computed.{after, lexb}
 use Rattle.sheet.specs.Laws.Order.{Lex-irrefl, Lex-trans, lexb-true, lexb-false, Lex-lexb}
 use Rattle.sheet.specs.Laws.Rows.{rows-count}
 use Rattle.sheet.specs.Laws.Decided.{Decided, holds, fails, false-not-true, lt-or-le}
-use Rattle.arrivals.specs.Arrivals.{Arrival, arrival, keyOf}
+use Rattle.arrivals.specs.Arrivals.{Arrival, keyOf}
+use Rattle.arrivals.specs.Computed.{arrival}
 use Rattle.arrivals.specs.Laws.Leading.{key-inj}
 use Rattle.arrivals.specs.Rows.{rowAt}
 use Rattle.journeys.specs.Held.{rowOf, tableRows}

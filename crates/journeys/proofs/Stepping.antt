@@ -27,7 +27,8 @@ use Rattle.costs.specs.Laws.Moves.{wait-bounded, crossing-at, at-crossing}
 use Rattle.intervals.specs.Computed.{sinceOf}
 use Rattle.intervals.specs.Intervals.{Free}
 use Rattle.arrivals.specs.Ways.{Move, waits, crosses}
-use Rattle.arrivals.specs.Arrivals.{Arrival, arrival, Arrives}
+use Rattle.arrivals.specs.Arrivals.{Arrival, Arrives}
+use Rattle.arrivals.specs.Computed.{arrival}
 use Rattle.arrivals.specs.declared.network.Here.{Here}
 use Rattle.arrivals.specs.Laws.Leading.{arrival-path, arrives-free, arrives-three}
 use Rattle.arrivals.specs.Laws.Steps.{arrives-back}

@@ -18,7 +18,8 @@ use Rattle.costs.specs.Moves.{waitOf}
 use Rattle.costs.specs.Laws.Figures.{fig-add, cancel-right, at-most-atMostb}
 use Rattle.intervals.specs.Computed.{sinceOf}
 use Rattle.intervals.specs.Laws.Runs.{since-run}
-use Rattle.arrivals.specs.Arrivals.{Arrival, arrival, keyOf}
+use Rattle.arrivals.specs.Arrivals.{Arrival, keyOf}
+use Rattle.arrivals.specs.Computed.{arrival}
 use Rattle.arrivals.specs.declared.network.Here.{Here}
 use Rattle.arrivals.specs.Laws.Leading.{arrival-path, leading-is, is-leading, leading-ascending}
 use Rattle.journeys.specs.Held.{tableRows, Holds}

@@ -9,7 +9,7 @@ use Rattle.sheet.specs.Lists.{number, numbersFrom, Lex}
 use Rattle.sheet.specs.Sheet.{Sheet, loaded, readOf}
 use Rattle.sheet.specs.Calls.{readCall, Groups, groupsRead, writeGroups}
 use Rattle.costs.specs.Costs.{Cost, figures}
-use Rattle.arrivals.specs.Arrivals.{Arrival, arrival, keyOf, Leading}
+use Rattle.arrivals.specs.Arrivals.{Arrival, keyOf, Leading}
 use Rattle.journeys.specs.Journeys.{Journey, Selected}
 use Rattle.journeys.specs.Front.{OnFront}
 use Rattle.journeys.specs.Calls.{FrontEnd, frontCall, JourneyEnd, journeyCall}
@@ -33,7 +33,7 @@ pub record ListsFront (s : Sheet) (e : FrontEnd) : Type 0 where
 
 -- row i of the table as the call returned it
 abbrev pub arrivalAt : FrontEnd → ℕ → Arrival
-arrivalAt e i = arrival (number (e .table) (i * 5)) (number (e .table) (i * 5 + 1)) (numbersFrom figures (i * 5 + 2) (e .table))
+arrivalAt e i = record { place = number (e .table) (i * 5); step = number (e .table) (i * 5 + 1); cost = numbersFrom figures (i * 5 + 2) (e .table) }
 
 -- the table holds exactly the leading arrivals of s, ascending, each once, then zeros
 pub record ListsLeading (s : Sheet) (e : FrontEnd) : Type 0 where

@@ -10,6 +10,8 @@ use Rattle.costs.specs.Costs.{Cost, figures}
 use Rattle.costs.specs.Computed.{sameb}
 use Rattle.arrivals.specs.Arrivals.{Arrival}
 use Rattle.journeys.specs.Computed.{frontOf}
+use Rattle.journeys.specs.Calls.{FrontEnd}
+use Rattle.journeys.specs.Demand3.{SameLists}
 use Rattle.journeys.specs.Held.{tableRows}
 use Rattle.journeys.specs.declared.front.Offered.{Offered}
 pub mod Lookup
@@ -53,3 +55,7 @@ pub record SameFigures (n : ℕ) (a b : List ℕ) (at : ℕ) : Type 0 where
 -- the first n costs of two front lists are equal
 pub record SameRows (n : ℕ) (a b : List ℕ) : Type 0 where
   pub every : (i : ℕ) → i < n → SameFigures figures a b (i * 4)
+
+-- neither call was refused, and the lists of costs are equal
+abbrev pub BothSame : FrontEnd → FrontEnd → Type 0
+BothSame e f = (e .answer .refusal ≡ 0) × (f .answer .refusal ≡ 0) × SameLists e f

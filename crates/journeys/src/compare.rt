@@ -6,8 +6,8 @@ ghost use lib.ListN.{length};
 ghost use Rattle.costs.specs.Costs.{figures};
 ghost use Rattle.sheet.specs.Laws.Decided.{Decided};
 ghost use Rattle.journeys.specs.Calls.{frontEnd};
-ghost use Rattle.journeys.specs.Demand3.{BothSame, ComparedIs};
-ghost use Rattle.journeys.specs.Inner.{SameFigures, SameRows};
+ghost use Rattle.journeys.specs.Demand3.{ComparedIs};
+ghost use Rattle.journeys.specs.Inner.{SameFigures, SameRows, BothSame};
 use crate::FrontAnswer;
 use crate::calls::front;
 

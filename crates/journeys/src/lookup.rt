@@ -2,7 +2,8 @@
 ghost use mathlib.Core.Path.{_≡_};
 ghost use Prim.Native.Nat.{_+_, _*_, _≤_};
 ghost use lib.ListN.{length};
-ghost use Rattle.sheet.specs.Lists.{_∈_, lexb};
+ghost use Rattle.sheet.specs.Lists.{_∈_};
+ghost use Rattle.sheet.specs.Computed.{lexb};
 ghost use Rattle.sheet.specs.Laws.Decided.{Decided};
 ghost use Rattle.arrivals.specs.Arrivals.{keyOf};
 ghost use Rattle.arrivals.specs.Rows.{rowAt};

@@ -1,32 +1,35 @@
 -- Where the line from a position on ends: the lines of what is left of a text go by what the search for the line feed finds, and the next line is
 -- what its bytes stand for.
 -- Assumes nothing.
-use mathlib.Core.Path.{_≡_, refl, sym, _∙_, ap}
+use mathlib.Core.Path.{_≡_, refl, sym, _∙_, ap, subst}
 use mathlib.Core.Logic.{_≢_, ⊎-elim}
-use mathlib.Core.Bool.{false, true≢false}
+use mathlib.Core.Bool.{Bool, true, false, true≢false}
 use mathlib.Core.List.{List, [], _∷_}
 use mathlib.Core.Option.{Option, none}
 use Prim.Native.Nat.{ℕ, suc, _+_, _-_, _≤_, _<_}
 use native.Mathlib.Omega.{arith}
+use lib.Dec.{leb, eqb}
 use lib.ListN.{length, take, drop, length-drop, drop-of-length-le}
 use lib.Seq.{take-all, drop-drop}
 use types.Run.{OneOf}
 use denote.Enum.Declared.{tagOf}
-use borrow.Author.Tests.{le-leb, lt-leb, eq-eqb, ne-eqb}
+use borrow.Author.Tests.{leb-true, leb-false, eqb-false, le-leb, lt-leb, eq-eqb, ne-eqb}
+use Rattle.sheet.specs.Lists.{pick}
 use Rattle.sheet.specs.Bytes.{lineFeed, split}
 use Rattle.sheet.specs.Kinds.{Kind}
-use Rattle.sheet.specs.Lines.{Line, unended, lineOf, linesOf, textLines}
-use Rattle.sheet.specs.Inner.{spanOf, LineIs, NextIs}
-use Rattle.sheet.specs.LineEnds.{feedFrom, EndIs}
+use Rattle.sheet.specs.Lines.{Line, lineOf, linesOf, textLines}
+use Rattle.sheet.specs.Inner.{spanOf, LineIs}
+use Rattle.sheet.specs.LineEnds.{feedFrom, lineEndAt, EndIs, NextIs}
 use Rattle.sheet.specs.declared.lines.Parsed.{Parsed}
 use Rattle.sheet.specs.declared.line_reader.LineEnd.{LineEnd}
 use Rattle.sheet.specs.declared.line_reader.LineEnd.the-variants.{At, Missing, Over}
 use Rattle.sheet.proofs.line_reader.LineEnd as row
 use Rattle.sheet.proofs.Parts.{span-le, parts-none, parts-here, split-step}
 
-unended-some : (s : List ℕ) → 1 ≤ length s → unended s ≡ none ∷ []
-unended-some [] h = absurd (omega arith)
-unended-some (b ∷ s) h = refl
+unended : (most : ℕ) (ks : List Kind) (s : List ℕ) → 1 ≤ length s → linesOf most ks (s ∷ []) ≡ none ∷ []
+unfolding linesOf
+unended most ks [] h = absurd (omega arith)
+unended most ks (b ∷ s) h = refl
 
 module _ (most : ℕ) (ks : List Kind) where
   -- the first line of a text, up to its line feed, and the lines after it
@@ -44,24 +47,40 @@ module _ (most : ℕ) (ks : List Kind) where
   unfolding textLines linesOf
   text-cut s h e =
       let l : length s ≤ spanOf lineFeed s = omega arith in
-      rw (split-step lineFeed s, parts-none lineFeed (suc (spanOf lineFeed s)) s (omega arith), take-all (spanOf lineFeed s) s l) (unended-some s h)
+      rw (split-step lineFeed s, parts-none lineFeed (suc (spanOf lineFeed s)) s (omega arith), take-all (spanOf lineFeed s) s l) (unended most ks s h)
 
   -- nothing is left of a text
   pub text-over : (src : List ℕ) (at : ℕ) → length src ≤ at → textLines most ks (drop at src) ≡ []
   unfolding textLines linesOf split
   text-over src at h = rw drop-of-length-le
 
+-- what an answer says of the position
+abbrev inside : List ℕ → ℕ → LineEnd → Type 0
+inside src at (At e) = (at ≤ e) × (e < length src)
+inside src at Missing = at < length src
+inside src at Over = length src ≤ at
+
+pub end-inside : (src : List ℕ) (at : ℕ) (r : LineEnd) → r ≡ lineEndAt src at → inside src at r
+end-inside src at r e = subst (inside src at) (sym e) (go (leb (length src) at) refl (eqb (feedFrom src at) (length src)) refl)
+  where
+    go : (o : Bool) → leb (length src) at ≡ o → (m : Bool) → eqb (feedFrom src at) (length src) ≡ m → inside src at (pick o Over (pick m Missing (At (feedFrom src at))))
+    go true o m n = leb-true (length src) at o
+    go false o true n = leb-false (length src) at o
+    go false o false n =
+        let h = leb-false (length src) at o in
+        let f = eqb-false (feedFrom src at) (length src) n in
+        (omega arith, omega (arith, h, f, span-le lineFeed (drop at src), length-drop at src))
+
 -- the three answers, by what is found
 module _ (src : List ℕ) (at : ℕ) where
   pub finds-over : length src ≤ at → EndIs src at Over
-  finds-over h = record { found = rw (le-leb (length src) at h); within = h; lines = λ most ks. text-over most ks src at h }
+  finds-over h = record { found = rw (le-leb (length src) at h); lines = λ most ks. text-over most ks src at h }
 
   module _ (h : at < length src) (e : ℕ) (d : e ≡ feedFrom src at) where
     pub finds-missing : e ≡ length src → EndIs src at Missing
     finds-missing q =
         record {
           found = rw (lt-leb (length src) at h, eq-eqb (feedFrom src at) (length src) (sym d ∙ q));
-          within = h;
           lines = λ most ks. text-cut most ks (drop at src) (omega (arith, length-drop at src)) (omega (arith, length-drop at src));
         }
 
@@ -72,7 +91,6 @@ module _ (src : List ℕ) (at : ℕ) where
         let l : spanOf lineFeed (drop at src) < length (drop at src) = omega (arith, span-le lineFeed (drop at src), length-drop at src) in
         record {
           found = rw (lt-leb (length src) at h, ne-eqb (feedFrom src at) (length src) (λ z. q (d ∙ z))) (ap At d);
-          within = omega (arith, length-drop at src);
           lines = λ most ks. text-line most ks (drop at src) l ∙ rw (drop-drop (suc (spanOf lineFeed (drop at src))) at src, m, n);
         }
 
@@ -84,21 +102,19 @@ module _ (most : ℕ) (letters widths src : List ℕ) (at : ℕ) where
   next-cut h (At e) k E v = absurd (⊎-elim (λ (z : _≡_ {A = ℕ} 0 1). omega (arith, z)) (λ (z : _≡_ {A = ℕ} 0 2). omega (arith, z)) k)
   next-cut h Missing k E v =
       record {
-        ahead = omega arith;
-        within = λ t. absurd (true≢false (sym t));
+        ended = λ t. absurd (true≢false (sym t));
         known = λ t. absurd (true≢false (sym t));
         bad = λ ks F b. ([], E .lines most ks);
         good = λ ks F t. absurd (true≢false (sym t));
       }
-  next-cut h Over k E v = absurd (omega (arith, E .within))
+  next-cut h Over k E v = absurd (omega (arith, end-inside src at Over (E .found)))
 
   pub next-line : (e : ℕ) → EndIs src at (At e) → (r : Parsed) → LineIs most letters widths (take (e - at) (drop at src)) r
       → NextIs most letters widths src at (record { ok = r .ok; end = e; kind = r .kind; values = r .values })
   next-line e E r L =
       let rest : List Kind → List (Option Line) = λ ks. textLines most ks (drop (e + 1) src) in
       record {
-        ahead = E .within .0;
-        within = λ t. E .within .1;
+        ended = λ t. E .found;
         known = L .known;
         bad = λ ks F b. (rest ks, E .lines most ks ∙ ap (λ (o : Option Line). o ∷ rest ks) (sym (L .of ks F) ∙ rw b));
         good = λ ks F t. E .lines most ks ∙ ap (λ (o : Option Line). o ∷ rest ks) (sym (L .of ks F) ∙ rw t);

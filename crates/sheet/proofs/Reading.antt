@@ -15,7 +15,8 @@ use Rattle.sheet.specs.Lines.{Line, line, textLines}
 use Rattle.sheet.specs.Sheet.{places, sheetOf, groupsOf, linesFrom, lacking, Outcome, refused, loaded, judge, readOf}
 use Rattle.sheet.specs.Calls.{readAnswer, readCall}
 use Rattle.sheet.specs.Store.{spread, StoreOf, VerdictIs, Blank}
-use Rattle.sheet.specs.Inner.{lineAt, Stored, Reached, LacksIs, Forms, NextIs}
+use Rattle.sheet.specs.Inner.{lineAt, Stored, Reached, LacksIs, Forms}
+use Rattle.sheet.specs.LineEnds.{NextIs}
 use Rattle.sheet.specs.Laws.Groups.{passes-groups, lines-sheet}
 use Rattle.sheet.specs.Laws.Runs.{AllRuns}
 use Rattle.sheet.specs.Laws.Valid.{passes-valid, lines-runs}

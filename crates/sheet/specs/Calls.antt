@@ -13,7 +13,7 @@ use Rattle.sheet.specs.Text.{sheetText}
 use Rattle.sheet.specs.declared.SheetRead.{SheetRead}
 use Rattle.sheet.specs.declared.SheetWritten.{SheetWritten}
 
--- an answer of the reader: the groups by value, at full length (7, 1,280 and 768 numbers), zeros past the last line
+-- an answer of the reader: the groups by value, each as long as the most lines of its kind, zeros past the last line
 abbrev pub readEnd : ℕ → ℕ → List ℕ → List ℕ → List ℕ → List ℕ → SheetRead
 readEnd k n ls h cs os =
     record { refusal = k; line = n; lines = filled (length kinds) ls; head = filled (room kindS) h; corridors = filled (room kindC) cs; occupancies = filled (room kindO) os }

@@ -7,11 +7,12 @@ use Prim.Native.Nat.{ℕ, zero, suc, _+_, _*_, _-_, _≤_, _<_}
 use lib.Dec.{leb, eqb}
 use lib.ListN.{length, getD, take, drop}
 use lib.Seq.{sets}
-use Rattle.sheet.specs.Lists.{pick, number, any, lexb, rows, bind}
+use Rattle.sheet.specs.Lists.{pick, number, any, rows, bind}
+use Rattle.sheet.specs.Computed.{lexb}
 use Rattle.sheet.specs.Bytes.{kindOf, comma, split}
 use Rattle.sheet.specs.Decimal.{digitsFrom, numberOf, mostDigits}
 use Rattle.sheet.specs.Kinds.{Limit, between, place, step, cost, Pair, alone, different, ordered, Kind, width, kindS, kinds}
-use Rattle.sheet.specs.Lines.{Line, line, lineOf, textLines}
+use Rattle.sheet.specs.Lines.{Line, line, lineOf}
 use Rattle.sheet.specs.Sheet.{Sheet, group, fault, lacking, Outcome, refused, loaded, judge}
 use Rattle.sheet.specs.Text.{lineText, sheetText}
 use Rattle.sheet.specs.Calls.{readAnswer, groupRows}
@@ -23,7 +24,6 @@ use Rattle.sheet.specs.declared.kinds.Row.{Row}
 use Rattle.sheet.specs.declared.lines.Field.{Field}
 use Rattle.sheet.specs.declared.lines.Numbers.{Numbers}
 use Rattle.sheet.specs.declared.lines.Parsed.{Parsed}
-use Rattle.sheet.specs.declared.lines.Next.{Next}
 use Rattle.sheet.specs.declared.reader.Verdict.{Verdict}
 
 -- the limit and the pair that the numbers in a row stand for
@@ -179,15 +179,6 @@ pub record LineIs (most : ℕ) (letters widths p : List ℕ) (r : Parsed) : Type
   pub known : r .ok ≡ true → r .kind < length letters
   pub of : (ks : List Kind) → Forms ks letters widths → asParsed ks r ≡ lineOf most ks p
 
--- r is the next line of the text from `at` on, where something is left: up to its line feed, or refused by test 2
-pub record NextIs (most : ℕ) (letters widths src : List ℕ) (at : ℕ) (r : Next) : Type 0 where
-  pub ahead : at ≤ r .end
-  pub within : r .ok ≡ true → r .end < length src
-  pub known : r .ok ≡ true → r .kind < length letters
-  pub bad : (ks : List Kind) → Forms ks letters widths → r .ok ≡ false → (ls : List (Option Line)) × (textLines most ks (drop at src) ≡ none ∷ ls)
-  pub good : (ks : List Kind) → Forms ks letters widths → r .ok ≡ true
-      → textLines most ks (drop at src) ≡ some (lineOfKinds ks (r .kind) (r .values)) ∷ textLines most ks (drop (r .end + 1) src)
-
 -- the bytes from a position on up to the first comma
 abbrev pub fieldFrom : List ℕ → ℕ → List ℕ
 fieldFrom l at = take (spanOf comma (drop at l)) (drop at l)
@@ -207,6 +198,10 @@ pub record FieldIs (most : ℕ) (l : List ℕ) (at : ℕ) (r : Field) : Type 0 w
 pub record GroupFits (k n : ℕ) (all : List ℕ) : Type 0 where
   pub few : n ≤ 256
   pub inside : baseOf k + n * width (kindAt k) ≤ length all
+
+-- the most bytes of a group: 256 lines of a letter, a line feed, and at most eight numbers with their commas
+abbrev pub groupBytes : ℕ
+groupBytes = 256 * (2 + 8 * suc mostDigits)
 
 -- the text of n lines of the kind with number k, whose numbers stand in the array
 unfoldable pub groupText : ℕ → ℕ → List ℕ → List ℕ

@@ -2,9 +2,10 @@
 -- where the line from a position on ends, what such an answer stands for, and where the reader stands.
 -- The contracts of `read` and `write` cite nothing of this file.
 use mathlib.Core.Path.{_≡_}
+use mathlib.Core.Bool.{true, false}
 use mathlib.Core.List.{List, [], _∷_}
-use mathlib.Core.Option.{Option, none}
-use Prim.Native.Nat.{ℕ, _+_, _-_, _≤_, _<_}
+use mathlib.Core.Option.{Option, some, none}
+use Prim.Native.Nat.{ℕ, _+_, _-_, _<_}
 use lib.Dec.{leb, eqb}
 use lib.ListN.{length, take, drop}
 use denote.Ref.{RefT}
@@ -12,7 +13,8 @@ use Rattle.sheet.specs.Lists.{pick}
 use Rattle.sheet.specs.Bytes.{lineFeed}
 use Rattle.sheet.specs.Kinds.{Kind}
 use Rattle.sheet.specs.Lines.{Line, lineOf, textLines}
-use Rattle.sheet.specs.Inner.{spanOf}
+use Rattle.sheet.specs.Inner.{spanOf, Forms, lineOfKinds}
+use Rattle.sheet.specs.declared.lines.Next.{Next}
 use Rattle.sheet.specs.declared.line_reader.LineReader.{LineReader}
 use Rattle.sheet.specs.declared.line_reader.LineEnd.{LineEnd}
 use Rattle.sheet.specs.declared.line_reader.LineEnd.the-variants.{At, Missing, Over}
@@ -25,12 +27,11 @@ feedFrom src at = at + spanOf lineFeed (drop at src)
 abbrev pub lineEndAt : List ℕ → ℕ → LineEnd
 lineEndAt src at = pick (leb (length src) at) Over (pick (eqb (feedFrom src at) (length src)) Missing (At (feedFrom src at)))
 
--- what such an answer says of the position, and what it stands for: the lines of the text from `at` on; test 2 refuses the one whose line feed is missing
-abbrev pub inside : List ℕ → ℕ → LineEnd → Type 0
-inside src at (At e) = (at ≤ e) × (e < length src)
-inside src at Missing = at < length src
-inside src at Over = length src ≤ at
+-- the line from `at` on ends at the line feed at e
+abbrev pub EndsAt : List ℕ → ℕ → ℕ → Type 0
+EndsAt src at e = At e ≡ lineEndAt src at
 
+-- what an answer stands for: the lines of the text from `at` on; test 2 refuses the one whose line feed is missing
 abbrev pub linesBy : ℕ → List Kind → List ℕ → ℕ → LineEnd → List (Option Line)
 linesBy most ks src at (At e) = lineOf most ks (take (e - at) (drop at src)) ∷ textLines most ks (drop (e + 1) src)
 linesBy most ks src at Missing = none ∷ []
@@ -39,8 +40,15 @@ linesBy most ks src at Over = []
 -- r is where the line from `at` on ends, and the text from there on has the lines that r stands for
 pub record EndIs (src : List ℕ) (at : ℕ) (r : LineEnd) : Type 0 where
   pub found : r ≡ lineEndAt src at
-  pub within : inside src at r
   pub lines : (most : ℕ) (ks : List Kind) → textLines most ks (drop at src) ≡ linesBy most ks src at r
+
+-- r is the next line of the text from `at` on, where something is left: up to its line feed, or refused by test 2
+pub record NextIs (most : ℕ) (letters widths src : List ℕ) (at : ℕ) (r : Next) : Type 0 where
+  pub ended : r .ok ≡ true → EndsAt src at (r .end)
+  pub known : r .ok ≡ true → r .kind < length letters
+  pub bad : (ks : List Kind) → Forms ks letters widths → r .ok ≡ false → (ls : List (Option Line)) × (textLines most ks (drop at src) ≡ none ∷ ls)
+  pub good : (ks : List Kind) → Forms ks letters widths → r .ok ≡ true
+      → textLines most ks (drop at src) ≡ some (lineOfKinds ks (r .kind) (r .values)) ∷ textLines most ks (drop (r .end + 1) src)
 
 -- the reader of a sheet's bytes, and the same bytes after the line feed at e
 abbrev pub opened : RefT (List ℕ) → LineReader

@@ -6,12 +6,12 @@ use Prim.Native.Nat.{ℕ, _≤_, _<_}
 use lib.ListN.{length, take}
 use Rattle.sheet.specs.Lists.{number, _∈_}
 use Rattle.sheet.specs.Sorting.{Ascending}
-use Rattle.sheet.specs.Kinds.{kindC, kindO}
+use Rattle.sheet.specs.Kinds.{width, kindS, kindC, kindO}
 use Rattle.sheet.specs.Sheet.{Sheet, places, steps, start, goal, from, to, placeOf, first, last}
 
 -- a corridor between two places, no figure above 60,000
 pub record ValidCorridor (s : Sheet) (k : List ℕ) : Type 0 where
-  pub five : length k ≡ 5
+  pub wide : length k ≡ width kindC
   pub from-place : from k < places s
   pub to-place : to k < places s
   pub cost : (i : ℕ) → 2 ≤ i → number k i ≤ 60000
@@ -19,13 +19,13 @@ pub record ValidCorridor (s : Sheet) (k : List ℕ) : Type 0 where
 
 -- an occupancy of a place, from its first step to its last
 pub record ValidOccupancy (s : Sheet) (o : List ℕ) : Type 0 where
-  pub three : length o ≡ 3
+  pub wide : length o ≡ width kindO
   pub place : placeOf o < places s
   pub in-day : last o ≤ 255
   pub ordered : first o ≤ last o
 
 pub record Valid (s : Sheet) : Type 0 where
-  pub seven : length (s .head) ≡ 7
+  pub wide : length (s .head) ≡ width kindS
   pub some-place : 1 ≤ places s
   pub most-places : places s ≤ 64
   pub most-steps : steps s ≤ 255
@@ -33,8 +33,8 @@ pub record Valid (s : Sheet) : Type 0 where
   pub goal-place : goal s < places s
   pub wait : (i : ℕ) → 4 ≤ i → number (s .head) i ≤ 60000
   pub corridors : (k : List ℕ) → k ∈ s .corridors → ValidCorridor s k
-  pub most-corridors : length (s .corridors) ≤ 256
+  pub most-corridors : length (s .corridors) ≤ kindC .most
   pub corridors-ascend : Ascending (take (kindC .key)) (s .corridors)
   pub occupancies : (o : List ℕ) → o ∈ s .occupancies → ValidOccupancy s o
-  pub most-occupancies : length (s .occupancies) ≤ 256
+  pub most-occupancies : length (s .occupancies) ≤ kindO .most
   pub occupancies-ascend : Ascending (take (kindO .key)) (s .occupancies)

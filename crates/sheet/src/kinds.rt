@@ -25,6 +25,9 @@ pub const FIRST_OCCUPANCY: usize = FIRST_CORRIDOR + CORRIDORS;
 
 pub const STORE: usize = FIRST_OCCUPANCY + OCCUPANCIES;
 
+// The most digits of a number.
+pub const DIGITS: usize = 5;
+
 // The limits of numbers: a place of the sheet; 0 to 255; 0 to 60,000; 1 to 64.
 pub const PLACE: u8 = 0;
 

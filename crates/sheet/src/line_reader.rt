@@ -2,9 +2,8 @@
 // The functions over the struct are thin, and the work is done on slices and numbers. Other files call `begin`, `line_from` and `go_on`.
 ghost use mathlib.Core.Path.{_≡_};
 ghost use Prim.Native.Nat.{_+_, _<_, _^_};
-ghost use lib.ListN.{length};
 ghost use Rattle.sheet.specs.Inner.{kindTable};
-ghost use Rattle.sheet.specs.LineEnds.{EndIs, opened, goneOn};
+ghost use Rattle.sheet.specs.LineEnds.{EndIs, EndsAt, opened, goneOn};
 use crate::bytes::LINE_FEED;
 use crate::bytes::until;
 
@@ -58,9 +57,9 @@ pub fn next_line<'k, 'a>(kinds: &'k [u8; 256], r: LineReader<'a>) -> LineEnd
     end_at(kinds, r.src, r.at)
 }
 
-// The reader after the line that ends at `end`.
+// The reader after its next line, which ends at `end`.
 pub fn after_line<'a>(r: LineReader<'a>, end: usize) -> LineReader<'a>
-    requires { ⌜ end < length (now (r .src)) ⌝ }
+    requires { ⌜ EndsAt (now (r .src)) (r .at) end ⌝ }
     ensures { λ q. ⌜ q ≡ goneOn (r .entry) end ⌝ }
 {
     let at = after_feed(end);
@@ -85,7 +84,7 @@ pub fn line_from(kinds: &[u8; 256], src: &[u8], at: usize) -> LineEnd
 
 // The position at which reading goes on after the line from `at` to the line feed at `end`: that of the reader after it.
 pub fn go_on(src: &[u8], at: usize, end: usize) -> usize
-    requires { ⌜ end < length (now src) ⌝ }
+    requires { ⌜ EndsAt (now src) at end ⌝ }
     ensures { λ r. ⌜ r ≡ end + 1 ⌝ }
 {
     let r = after_line(LineReader { src, at }, end);

@@ -10,6 +10,7 @@ use crate::SheetRead;
 use crate::bytes::table;
 use crate::judge::lacks;
 use crate::kinds::CORRIDORS;
+use crate::kinds::DIGITS;
 use crate::kinds::FIRST_CORRIDOR;
 use crate::kinds::FIRST_OCCUPANCY;
 use crate::kinds::HEAD;
@@ -67,7 +68,7 @@ pub fn read_into(src: &[u8], lines: &mut [u32], all: &mut [u32]) -> Verdict
     let mut n: u32 = 1;
     let mut at = begin(src);
     while at < src.len() {
-        let l = parsed_line(&bytes, src, at, &letters, &widths, 5);
+        let l = parsed_line(&bytes, src, at, &letters, &widths, DIGITS);
         if !l.ok {
             return Verdict {
                 refusal: 2,

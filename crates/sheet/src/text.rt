@@ -6,8 +6,9 @@ ghost use lib.Seq.{sets};
 ghost use Rattle.sheet.specs.Decimal.{digitsOf};
 ghost use Rattle.sheet.specs.Text.{numberText, printed};
 ghost use Rattle.sheet.specs.Store.{kindCount, SomeStore};
-ghost use Rattle.sheet.specs.Inner.{GroupFits, groupText, BytesAre, PutsSheet, SheetFits};
+ghost use Rattle.sheet.specs.Inner.{GroupFits, groupBytes, groupText, BytesAre, PutsSheet, SheetFits};
 ghost use Rattle.sheet.specs.Laws.Puts.{Puts};
+use crate::kinds::DIGITS;
 use crate::kinds::KINDS;
 use crate::kinds::row_of;
 
@@ -93,7 +94,7 @@ fn put_group(out: &mut [u8], at: usize, k: usize, all: &[u32], n: usize) -> usiz
         let from = base + i * w;
         let to = from + w;
         widen(&all[from..to], &mut numbers);
-        next = put_line(out, next, row.letter, &numbers[..w], 5);
+        next = put_line(out, next, row.letter, &numbers[..w], DIGITS);
         i += 1;
     }
     next
@@ -102,7 +103,7 @@ fn put_group(out: &mut [u8], at: usize, k: usize, all: &[u32], n: usize) -> usiz
 // The count of bytes of the first n lines of kind k in the array.
 fn group_bytes(k: usize, all: &[u32], n: usize) -> usize
     requires { ⌜ (k < kindCount) × GroupFits k n (now all) ⌝ }
-    ensures { λ r. ⌜ (r ≡ length (groupText k n (now (all .entry)))) × (r ≤ 12800) ⌝ }
+    ensures { λ r. ⌜ (r ≡ length (groupText k n (now (all .entry)))) × (r ≤ groupBytes) ⌝ }
 {
     let row = row_of(k);
     let base = row.base;
@@ -110,7 +111,7 @@ fn group_bytes(k: usize, all: &[u32], n: usize) -> usize
     let mut bytes = 2 * n;
     let mut i = 0;
     while i < m {
-        bytes += 1 + digits_in(all[base + i] as u64, 5);
+        bytes += 1 + digits_in(all[base + i] as u64, DIGITS);
         i += 1;
     }
     bytes

@@ -4,7 +4,8 @@ use Prim.Native.Nat.{ℕ, _*_, _≤_, _<_}
 use lib.ListN.{length}
 use Rattle.sheet.specs.Lists.{Lex}
 use Rattle.sheet.specs.Sorting.{Ascending}
-use Rattle.arrivals.specs.Arrivals.{Arrival, arrival, keyOf}
+use Rattle.arrivals.specs.Arrivals.{Arrival, keyOf}
+use Rattle.arrivals.specs.Computed.{arrival}
 use Rattle.arrivals.specs.Rows.{rowAt}
 use Rattle.journeys.specs.Held.{tableRows}
 use Rattle.journeys.specs.declared.lookup.Stand.{Stand}

@@ -9,7 +9,8 @@ use Rattle.sheet.specs.Store.{sheetIn}
 use Rattle.costs.specs.Costs.{Cost, add, times}
 use Rattle.intervals.specs.FirstSteps.{Derived}
 use Rattle.arrivals.specs.Ways.{Move}
-use Rattle.arrivals.specs.Arrivals.{Arrival, arrival, Arrives}
+use Rattle.arrivals.specs.Arrivals.{Arrival, Arrives}
+use Rattle.arrivals.specs.Computed.{arrival}
 use Rattle.arrivals.specs.declared.network.Here.{Here}
 use Rattle.journeys.specs.Front.{OnFront}
 use Rattle.journeys.specs.Held.{tableRows, Holds}

@@ -24,8 +24,8 @@ use Rattle.sheet.specs.Laws.Judge.{loaded-inj}
 use Rattle.sheet.specs.Laws.RoundTrip.{write-read-calls, write-read-groups, read-write-calls}
 use Rattle.costs.specs.Costs.{Cost, figures}
 use Rattle.costs.specs.Laws.Figures.{is-from}
-use Rattle.arrivals.specs.Arrivals.{Arrival, arrival, keyOf, Leading}
-use Rattle.arrivals.specs.Computed.{leading}
+use Rattle.arrivals.specs.Arrivals.{Arrival, keyOf, Leading}
+use Rattle.arrivals.specs.Computed.{arrival, leading}
 use Rattle.arrivals.specs.Table.{arrivalRow, crowded, arrivalTable}
 use Rattle.arrivals.specs.Search.{arrivalRoom}
 use Rattle.journeys.specs.Journeys.{Journey, HasCost, Selected}

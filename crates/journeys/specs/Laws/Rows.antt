@@ -18,7 +18,8 @@ use Rattle.costs.specs.Costs.{Cost, figures}
 use Rattle.costs.specs.Computed.{sameb}
 use Rattle.costs.specs.Laws.Figures.{sameb-true, sameb-refl}
 use Rattle.costs.specs.Laws.Rows.{row, row-number, row-later, mem-rows, rows-mem}
-use Rattle.arrivals.specs.Arrivals.{Arrival, arrival}
+use Rattle.arrivals.specs.Arrivals.{Arrival}
+use Rattle.arrivals.specs.Computed.{arrival}
 use Rattle.arrivals.specs.Laws.Leading.{arrival-path}
 use Rattle.arrivals.specs.Rows.{costAt, rowAt}
 use Rattle.journeys.specs.Held.{rowOf, tableRows}

@@ -1,18 +1,18 @@
 -- Numbers within their limits: test 4 as a statement about each number, and what it gives for a number of any line. On at most 64 places
 -- no number is above the highest that its limit allows, and no limit of any kind allows a number of more than five digits.
-use mathlib.Core.Path.{_≡_, refl, subst}
+use mathlib.Core.Path.{_≡_, refl, sym}
 use mathlib.Core.Logic.{inl, inr}
-use mathlib.Core.Bool.{false}
+use mathlib.Core.Bool.{Bool, true, false, true≢false}
 use mathlib.Core.List.{List, [], _∷_}
-use Prim.Native.Nat.{ℕ, zero, suc, _+_, _-_, _≤_, _<_}
+use Prim.Native.Nat.{ℕ, zero, suc, _≤_, _<_}
 use native.Mathlib.Omega.{arith}
-use lib.Dec.{ltb}
-use lib.ListN.{length, drop, replicate}
-use lib.Seq.{getD-drop}
-use borrow.Author.Tests.{ltb-true, ltb-false, leb-false, le-ltb, lt-leb}
-use Rattle.sheet.specs.Lists.{number, _∈_, bind}
-use Rattle.sheet.specs.Kinds.{Limit, between, place, Kind, cost, kinds}
+use lib.Dec.{ltb, leb}
+use lib.ListN.{length, getD, drop}
+use borrow.Author.Tests.{ltb-true, ltb-false, leb-true, leb-false, le-ltb, lt-leb}
+use Rattle.sheet.specs.Lists.{number, _∈_, all, bind}
+use Rattle.sheet.specs.Kinds.{Limit, between, place, Kind, kinds}
 use Rattle.sheet.specs.Sheet.{beyond, outside}
+use Rattle.sheet.specs.Laws.Order.{and-true}
 use Rattle.sheet.specs.Laws.Passed.{or-false, false-or}
 use Rattle.sheet.specs.Laws.Members.{all-true, mem-bind}
 
@@ -47,26 +47,31 @@ within-inside p [] ns h = refl
 within-inside p (x ∷ xs) [] h = refl
 within-inside p (x ∷ xs) (n ∷ ns) h = false-or (beyond p x n) (outside p xs ns) (limit-inside p x n (h .0)) (within-inside p xs ns (h .1))
 
--- figures of a cost, at any position
-pub within-costs : (w p : ℕ) (ns : List ℕ) → length ns ≡ w → Within p (replicate w cost) ns → (i : ℕ) → number ns i ≤ 60000
-within-costs w p [] e h i = omega arith
-within-costs zero p (n ∷ ns) e h i = absurd (omega arith)
-within-costs (suc w) p (n ∷ ns) e h zero = h .0 .1
-within-costs (suc w) p (n ∷ ns) e h (suc i) = within-costs w p ns (omega arith) (h .1) i
+-- number by number
+pub within-at : (p : ℕ) (xs : List Limit) (ns : List ℕ) → length ns ≡ length xs → Within p xs ns → (i : ℕ) → i < length xs → In p (getD xs i place) (number ns i)
+within-at p [] ns e w i h = absurd (omega arith)
+within-at p (x ∷ xs) [] e w i h = absurd (omega arith)
+within-at p (x ∷ xs) (n ∷ ns) e w zero h = w .0
+within-at p (x ∷ xs) (n ∷ ns) e w (suc i) h = within-at p xs ns (omega arith) (w .1) i (omega arith)
 
-pub costs-within : (w p : ℕ) (ns : List ℕ) → ((i : ℕ) → number ns i ≤ 60000) → Within p (replicate w cost) ns
-costs-within zero p ns f = tt
-costs-within (suc w) p [] f = tt
-costs-within (suc w) p (n ∷ ns) f = ((omega arith, f 0), costs-within w p ns (λ i. f (suc i)))
+pub at-within : (p : ℕ) (xs : List Limit) (ns : List ℕ) → ((i : ℕ) → i < length xs → In p (getD xs i place) (number ns i)) → Within p xs ns
+at-within p [] ns f = tt
+at-within p (x ∷ xs) [] f = tt
+at-within p (x ∷ xs) (n ∷ ns) f = (f 0 (omega arith), at-within p xs ns (λ i h. f (suc i) (omega arith)))
 
--- the same from position j on
-pub from-position : (j : ℕ) (ns : List ℕ) → ((i : ℕ) → number (drop j ns) i ≤ 60000) → (i : ℕ) → j ≤ i → number ns i ≤ 60000
-from-position j ns f i h =
-    let e : j + (i - j) ≡ i = omega arith in
-    subst (λ (n : ℕ). number ns n ≤ 60000) e (rw (getD-drop j ns (i - j) 0) at (f (i - j)))
+-- no number from position j on is above m, where no limit there allows one
+abbrev atMost : ℕ → Limit → Bool
+atMost m (between a b) = leb b m
+atMost m place = false
 
-pub to-position : (j : ℕ) (ns : List ℕ) → ((i : ℕ) → j ≤ i → number ns i ≤ 60000) → (i : ℕ) → number (drop j ns) i ≤ 60000
-to-position j ns f i = rw (getD-drop j ns i 0) (f (j + i) (omega arith))
+pub most-from : (m p j : ℕ) (xs : List Limit) (ns : List ℕ) → length ns ≡ length xs → Within p xs ns → all (atMost m) (drop j xs) ≡ true → (i : ℕ) → j ≤ i → number ns i ≤ m
+most-from m p j xs [] e w t i h = omega arith
+most-from m p j [] (n ∷ ns) e w t i h = absurd (omega arith)
+most-from m p zero (between a b ∷ xs) (n ∷ ns) e w t zero h = omega (arith, leb-true b m (and-true (leb b m) (all (atMost m) xs) t .0))
+most-from m p zero (place ∷ xs) (n ∷ ns) e w t zero h = absurd (true≢false (sym t))
+most-from m p zero (x ∷ xs) (n ∷ ns) e w t (suc i) h = most-from m p zero xs ns (omega arith) (w .1) (and-true (atMost m x) (all (atMost m) xs) t .1) i (omega arith)
+most-from m p (suc j) (x ∷ xs) (n ∷ ns) e w t zero h = absurd (omega arith)
+most-from m p (suc j) (x ∷ xs) (n ∷ ns) e w t (suc i) h = most-from m p j xs ns (omega arith) (w .1) t i (omega arith)
 
 -- the highest number within a limit, where there are at most 64 places
 abbrev pub highest : Limit → ℕ

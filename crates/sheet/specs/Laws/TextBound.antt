@@ -1,5 +1,5 @@
 -- The text of lines that pass is no longer than a sheet may be. A line's text is at most as long as its kind's description allows: a number
--- has at most as many digits as the highest within its limit. Longest S line 33 bytes, C line 26, O line 13: 33 + 256 * 26 + 256 * 13 = 10,017.
+-- has at most as many digits as the highest within its limit. The most lines of each kind, each as long as that, are short enough (`text-room`).
 use mathlib.Core.Path.{_≡_, refl, ap}
 use mathlib.Core.Logic.{inl}
 use mathlib.Core.Bool.{Bool, true, false}
@@ -9,7 +9,7 @@ use native.Mathlib.Omega.{arith}
 use native.Mathlib.Nat.{mul-le-mul-right}
 use lib.Dec.{ltb}
 use lib.ListN.{length, length-append}
-use borrow.Author.Tests.{ltb-true, ltb-false}
+use borrow.Author.Tests.{ltb-true, ltb-false, leb-true}
 use Rattle.sheet.specs.Lists.{pick, bind}
 use Rattle.sheet.specs.Decimal.{digitsOf, mostDigits}
 use Rattle.sheet.specs.Kinds.{Limit, Kind, kinds}
@@ -92,10 +92,10 @@ runs-text p h (k ∷ ks) (g ∷ gs) r =
     let b = length-append (bind (map (line k) g) (lineText mostDigits)) (bind (linesFrom ks gs) (lineText mostDigits)) in
     omega (arith, a, b, run-text p h k g (r .0), runs-text p h ks gs (r .1), mul-le-mul-right (lineRoom k) (r .0 .few))
 
--- the longest sheet
-text-room : textRoom kinds ≡ 10017
+-- the longest sheet is short enough
+text-room : textRoom kinds ≤ mostBytes
 unfolding textRoom
-text-room = refl
+text-room = leb-true (textRoom kinds) mostBytes refl
 
 pub text-bound : (ls : List Line) → AllShaped ls → Passes [] ls → 1 ≤ length ls → length (bind ls (lineText mostDigits)) ≤ mostBytes
 text-bound ls f p h =

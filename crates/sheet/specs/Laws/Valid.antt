@@ -5,20 +5,20 @@ use mathlib.Core.Path.{_≡_, refl, sym, _∙_, ap, subst}
 use mathlib.Core.Logic.{inl}
 use mathlib.Core.Bool.{false}
 use mathlib.Core.List.{List, [], _∷_}
-use Prim.Native.Nat.{ℕ, _≤_, _<_}
+use Prim.Native.Nat.{ℕ, zero, suc, _≤_, _<_}
 use native.Mathlib.Omega.{arith}
-use lib.ListN.{length}
+use lib.ListN.{length, getD}
 use borrow.Author.Tests.{ltb-false, eqb-false, le-ltb, ne-eqb}
 use Rattle.sheet.specs.Lists.{number, _∈_}
-use Rattle.sheet.specs.Kinds.{Kind, kindS, kindC, kindO, kinds}
+use Rattle.sheet.specs.Kinds.{place, Kind, width, kindS, kindC, kindO, kinds}
 use Rattle.sheet.specs.Lines.{Line, line}
-use Rattle.sheet.specs.Sheet.{Sheet, places, sheetOf, groupsOf, sheetLines, placesIn, unpaired}
+use Rattle.sheet.specs.Sheet.{Sheet, places, from, to, first, last, sheetOf, groupsOf, sheetLines, placesIn, unpaired}
 use Rattle.sheet.specs.Valid.{ValidCorridor, ValidOccupancy, Valid}
 use Rattle.sheet.specs.Laws.Kinds.{kinds-ascend}
 use Rattle.sheet.specs.Laws.Judge.{Passes}
 use Rattle.sheet.specs.Laws.Shape.{AllShaped}
 use Rattle.sheet.specs.Laws.Passed.{passes-inside, passed-fault}
-use Rattle.sheet.specs.Laws.Limits.{Within, inside-within, within-inside, within-costs, costs-within, from-position, to-position, five-digits, within-below}
+use Rattle.sheet.specs.Laws.Limits.{In, Within, inside-within, within-inside, within-at, at-within, most-from, five-digits, within-below}
 use Rattle.sheet.specs.Laws.Groups.{later-kinds, lines-sheet}
 use Rattle.sheet.specs.Laws.Runs.{AllRuns, passes-runs, runs-shaped, runs-pass}
 
@@ -26,62 +26,36 @@ use Rattle.sheet.specs.Laws.Runs.{AllRuns, passes-runs, runs-shaped, run
 abbrev pub Runs : Sheet → Type 0
 Runs s = AllRuns (places s) kinds (groupsOf s)
 
--- what a valid sheet says of its S line
-record ValidHead (h : List ℕ) : Type 0 where
-  seven : length h ≡ 7
-  some-place : 1 ≤ number h 0
-  most-places : number h 0 ≤ 64
-  most-steps : number h 1 ≤ 255
-  start-place : number h 2 < number h 0
-  goal-place : number h 3 < number h 0
-  wait : (i : ℕ) → 4 ≤ i → number h i ≤ 60000
-
 -- each line: what its run says of it is what a valid sheet says
-head-valid : (h : List ℕ) → length h ≡ 7 → Within (number h 0) (kindS .limits) h → ValidHead h
-head-valid [] e w = absurd (omega arith)
-head-valid (a ∷ []) e w = absurd (omega arith)
-head-valid (a ∷ b ∷ []) e w = absurd (omega arith)
-head-valid (a ∷ b ∷ c ∷ []) e w = absurd (omega arith)
-head-valid (a ∷ b ∷ c ∷ d ∷ r) e w =
+corridor-valid : (s : Sheet) (k : List ℕ) → length k ≡ width kindC → Within (places s) (kindC .limits) k → unpaired (kindC .pair) k ≡ false → ValidCorridor s k
+corridor-valid s k e w u =
+    let at = within-at (places s) (kindC .limits) k e w in
     record {
-      seven = e;
-      some-place = w .0 .0;
-      most-places = w .0 .1;
-      most-steps = w .1 .0 .1;
-      start-place = w .1 .1 .0;
-      goal-place = w .1 .1 .1 .0;
-      wait = from-position 4 (a ∷ b ∷ c ∷ d ∷ r) (within-costs 3 a r (omega arith) (w .1 .1 .1 .1));
+      wide = e;
+      from-place = at 0 (omega arith);
+      to-place = at 1 (omega arith);
+      cost = most-from 60000 (places s) 2 (kindC .limits) k e w refl;
+      apart = eqb-false (from k) (to k) u;
     }
 
-corridor-valid : (s : Sheet) (k : List ℕ) → length k ≡ 5 → Within (places s) (kindC .limits) k → unpaired (kindC .pair) k ≡ false → ValidCorridor s k
-corridor-valid s [] e w u = absurd (omega arith)
-corridor-valid s (a ∷ []) e w u = absurd (omega arith)
-corridor-valid s (a ∷ b ∷ r) e w u =
-    record {
-      five = e;
-      from-place = w .0;
-      to-place = w .1 .0;
-      cost = from-position 2 (a ∷ b ∷ r) (within-costs 3 (places s) r (omega arith) (w .1 .1));
-      apart = eqb-false a b u;
-    }
-
-occupancy-valid : (s : Sheet) (o : List ℕ) → length o ≡ 3 → Within (places s) (kindO .limits) o → unpaired (kindO .pair) o ≡ false → ValidOccupancy s o
-occupancy-valid s [] e w u = absurd (omega arith)
-occupancy-valid s (a ∷ []) e w u = absurd (omega arith)
-occupancy-valid s (a ∷ b ∷ []) e w u = absurd (omega arith)
-occupancy-valid s (a ∷ b ∷ c ∷ r) e w u = record { three = e; place = w .0; in-day = w .1 .1 .0 .1; ordered = ltb-false c b u }
+occupancy-valid : (s : Sheet) (o : List ℕ) → length o ≡ width kindO → Within (places s) (kindO .limits) o → unpaired (kindO .pair) o ≡ false → ValidOccupancy s o
+occupancy-valid s o e w u =
+    let at = within-at (places s) (kindO .limits) o e w in
+    record { wide = e; place = at 0 (omega arith); in-day = at 2 (omega arith) .1; ordered = ltb-false (last o) (first o) u }
 
 pub runs-valid : (s : Sheet) → Runs s → Valid s
 runs-valid s (rs, (rc, (ro, u))) =
-    let h = head-valid (s .head) (rs .count (s .head) (inl refl)) (rs .within (s .head) (inl refl)) in
+    let e = rs .count (s .head) (inl refl) in
+    let w = rs .within (s .head) (inl refl) in
+    let at = within-at (places s) (kindS .limits) (s .head) e w in
     record {
-      seven = h .seven;
-      some-place = h .some-place;
-      most-places = h .most-places;
-      most-steps = h .most-steps;
-      start-place = h .start-place;
-      goal-place = h .goal-place;
-      wait = h .wait;
+      wide = e;
+      some-place = at 0 (omega arith) .0;
+      most-places = at 0 (omega arith) .1;
+      most-steps = at 1 (omega arith) .1;
+      start-place = at 2 (omega arith);
+      goal-place = at 3 (omega arith);
+      wait = most-from 60000 (places s) 4 (kindS .limits) (s .head) e w refl;
       corridors = λ k m. corridor-valid s k (rc .count k m) (rc .within k m) (rc .paired k m);
       most-corridors = rc .few;
       corridors-ascend = rc .ascend;
@@ -111,45 +85,47 @@ numbers-below (x ∷ ls) f p l m n i =
     n
     i
 
--- each line, the other way
-valid-head : (h : List ℕ) → ValidHead h → Within (number h 0) (kindS .limits) h
-valid-head [] g = absurd (omega arith)
-valid-head (a ∷ []) g = absurd (omega arith)
-valid-head (a ∷ b ∷ []) g = absurd (omega arith)
-valid-head (a ∷ b ∷ c ∷ []) g = absurd (omega arith)
-valid-head (a ∷ b ∷ c ∷ d ∷ r) g = (
-  (g .some-place, g .most-places),
-  ((omega arith, g .most-steps), (g .start-place, (g .goal-place, costs-within 3 a r (to-position 4 (a ∷ b ∷ c ∷ d ∷ r) (g .wait))))),
-)
+-- each line, the other way: number by number
+valid-head : (s : Sheet) → Valid s → (i : ℕ) → i < width kindS → In (places s) (getD (kindS .limits) i place) (number (s .head) i)
+valid-head s g zero h = (g .some-place, g .most-places)
+valid-head s g (suc zero) h = (omega arith, g .most-steps)
+valid-head s g (suc (suc zero)) h = g .start-place
+valid-head s g (suc (suc (suc zero))) h = g .goal-place
+valid-head s g (suc (suc (suc (suc zero)))) h = (omega arith, g .wait 4 (omega arith))
+valid-head s g (suc (suc (suc (suc (suc zero))))) h = (omega arith, g .wait 5 (omega arith))
+valid-head s g (suc (suc (suc (suc (suc (suc zero)))))) h = (omega arith, g .wait 6 (omega arith))
+valid-head s g (suc (suc (suc (suc (suc (suc (suc i))))))) h = absurd (omega arith)
 
-valid-corridor : (s : Sheet) (k : List ℕ) → ValidCorridor s k → Within (places s) (kindC .limits) k × (unpaired (kindC .pair) k ≡ false)
-valid-corridor s [] g = absurd (omega arith)
-valid-corridor s (a ∷ []) g = absurd (omega arith)
-valid-corridor s (a ∷ b ∷ r) g =
-    ((g .from-place, (g .to-place, costs-within 3 (places s) r (to-position 2 (a ∷ b ∷ r) (g .cost)))), ne-eqb a b (g .apart))
+valid-corridor : (s : Sheet) (k : List ℕ) → ValidCorridor s k → (i : ℕ) → i < width kindC → In (places s) (getD (kindC .limits) i place) (number k i)
+valid-corridor s k g zero h = g .from-place
+valid-corridor s k g (suc zero) h = g .to-place
+valid-corridor s k g (suc (suc zero)) h = (omega arith, g .cost 2 (omega arith))
+valid-corridor s k g (suc (suc (suc zero))) h = (omega arith, g .cost 3 (omega arith))
+valid-corridor s k g (suc (suc (suc (suc zero)))) h = (omega arith, g .cost 4 (omega arith))
+valid-corridor s k g (suc (suc (suc (suc (suc i))))) h = absurd (omega arith)
 
-valid-occupancy : (s : Sheet) (o : List ℕ) → ValidOccupancy s o → Within (places s) (kindO .limits) o × (unpaired (kindO .pair) o ≡ false)
-valid-occupancy s [] g = absurd (omega arith)
-valid-occupancy s (a ∷ []) g = absurd (omega arith)
-valid-occupancy s (a ∷ b ∷ []) g = absurd (omega arith)
-valid-occupancy s (a ∷ b ∷ c ∷ r) g = ((omega arith, (omega arith, (omega arith, tt))), le-ltb c b (g .ordered))
+valid-occupancy : (s : Sheet) (o : List ℕ) → ValidOccupancy s o → (i : ℕ) → i < width kindO → In (places s) (getD (kindO .limits) i place) (number o i)
+valid-occupancy s o g zero h = g .place
+valid-occupancy s o g (suc zero) h = (omega arith, omega (arith, g .ordered, g .in-day))
+valid-occupancy s o g (suc (suc zero)) h = (omega arith, g .in-day)
+valid-occupancy s o g (suc (suc (suc i))) h = absurd (omega arith)
 
 pub valid-runs : (s : Sheet) → Valid s → Runs s
 valid-runs s g = (
-  record { count = count; within = within; paired = λ n m. refl; few = omega arith; ascend = (tt, tt) },
+  record { count = λ h m. sole (λ x. length x ≡ width kindS) m (g .wide); within = λ h m. sole (Within (places s) (kindS .limits)) m (at-within (places s) (kindS .limits) (s .head) (valid-head s g)); paired = λ n m. refl; few = omega arith; ascend = (tt, tt) },
   (
     record {
-      count = λ k m. g .corridors k m .five;
-      within = λ k m. valid-corridor s k (g .corridors k m) .0;
-      paired = λ k m. valid-corridor s k (g .corridors k m) .1;
+      count = λ k m. g .corridors k m .wide;
+      within = λ k m. at-within (places s) (kindC .limits) k (valid-corridor s k (g .corridors k m));
+      paired = λ k m. ne-eqb (from k) (to k) (g .corridors k m .apart);
       few = g .most-corridors;
       ascend = g .corridors-ascend;
     },
     (
       record {
-        count = λ o m. g .occupancies o m .three;
-        within = λ o m. valid-occupancy s o (g .occupancies o m) .0;
-        paired = λ o m. valid-occupancy s o (g .occupancies o m) .1;
+        count = λ o m. g .occupancies o m .wide;
+        within = λ o m. at-within (places s) (kindO .limits) o (valid-occupancy s o (g .occupancies o m));
+        paired = λ o m. le-ltb (last o) (first o) (g .occupancies o m .ordered);
         few = g .most-occupancies;
         ascend = g .occupancies-ascend;
       },
@@ -158,23 +134,9 @@ valid-runs s g = (
   ),
 )
   where
-    head : ValidHead (s .head)
-    head =
-        record {
-          seven = g .seven;
-          some-place = g .some-place;
-          most-places = g .most-places;
-          most-steps = g .most-steps;
-          start-place = g .start-place;
-          goal-place = g .goal-place;
-          wait = g .wait;
-        }
-
-    count : (h : List ℕ) → h ∈ (s .head ∷ []) → length h ≡ 7
-    count h (inl e) = ap length e ∙ g .seven
-
-    within : (h : List ℕ) → h ∈ (s .head ∷ []) → Within (places s) (kindS .limits) h
-    within h (inl e) = rw e (valid-head (s .head) head)
+    -- the one line of a group
+    sole : {h k : List ℕ} (P : List ℕ → Type 0) → h ∈ (k ∷ []) → P k → P h
+    sole P (inl e) p = subst P (sym e) p
 
 pub valid-shaped : (s : Sheet) → Valid s → AllShaped (sheetLines s)
 valid-shaped s g = runs-shaped (places s) kinds (groupsOf s) (λ k m. m) (valid-runs s g)

@@ -41,7 +41,7 @@ use denote.Triple.Table.{entered, cited}
 use denote.Triple.Walked.{says, needs, Stays, stay-none, stay-none-slice, walkOf, goes-none, goes-none-slice, Walks, ends-at, walked, walk-meets}
 use denote.Exit.{yes}
 use denote.Triple.Clauses.{ensured, lasts}
-use Rattle.sheet.specs.LineEnds.{goneOn}
+use Rattle.sheet.specs.LineEnds.{EndsAt, goneOn}
 use Rattle.sheet.specs.declared.line_reader.LineReader.{LineReader}
 use Rattle.sheet.proofs.line_reader.LineReader as T
 use Rattle.sheet.proofs.line_reader.LineReader.Laws as T′
@@ -103,18 +103,18 @@ module _ {M : Type 1} (𝓤 : URA M) (H : Heap 𝓤) (A : Atoms 𝓤) (W : Given
   abbrev to : Callee 𝓤 H A mem run .Ghost
   to = (((κ, tt), (q, tt), tt, (made, (n, tt)), passed), tt)
 
-  asked : n < length (now s) → ent 𝓤 (onEntry 𝓤 H A callee.signature (κ, tt) (q, tt) (made, (n, tt)) passed) (Callee 𝓤 H A mem run .pre to)
-  asked there = qed W ((‵ (flft κ q) ⊛ ‵ ftrue) ∷ ‵ (owns (B (κ, tt) ∷ usize ∷ []) (made, (n, tt)) passed) ∷ []) ∵ says ! there $ frame ! $ done !
+  asked : EndsAt (now s) m n → ent 𝓤 (onEntry 𝓤 H A callee.signature (κ, tt) (q, tt) (made, (n, tt)) passed) (Callee 𝓤 H A mem run .pre to)
+  asked ends = qed W ((‵ (flft κ q) ⊛ ‵ ftrue) ∷ ‵ (owns (B (κ, tt) ∷ usize ∷ []) (made, (n, tt)) passed) ∷ []) ∵ says ! ends $ frame ! $ done !
 
   -- what the parameters own gives what the callee asks, and what the slice owns is kept
-  goes : n < length (now s) → ent 𝓤 (onEntry 𝓤 H A this.signature (κ, tt) (q, tt) (s, (m, (n, tt))) at) (sep 𝓤 (Callee 𝓤 H A mem run .pre to) (sem 𝓤 H A Own))
-  goes there =
+  goes : EndsAt (now s) m n → ent 𝓤 (onEntry 𝓤 H A this.signature (κ, tt) (q, tt) (s, (m, (n, tt))) at) (sep 𝓤 (Callee 𝓤 H A mem run .pre to) (sem 𝓤 H A Own))
+  goes ends =
       qed W ((‵ (flft κ q) ⊛ ‵ ftrue) ∷ ‵ (owns (ShrSlice (named 0) κ u8 ∷ usize ∷ usize ∷ []) (s, (m, (n, tt))) at) ∷ []) ∵
       move ! (1 ∷ []) $ fsplit ! $ use1 W (‵ Own ⊛ ‵ Own) (shr-slice-copy 𝓤 H A W (named 0) κ u8 .twice s (v ∷ [])) $ split ! $
       move ! (2 ∷ []) $ fsplit ! $ nothing ! $ move ! (1 ∷ 0 ∷ []) $ fjoin ! $ move ! (2 ∷ 0 ∷ []) $ fjoin ! $
       -- [what the slice and the first number own; what the second owns; what the slice owns; the token]
       use1 W (‵ (B (κ, tt) .own made (T′.lowered made ∷ []))) (own-shut 𝓤 H A W (D (κ, tt)) (L (κ, tt)) (s, (m, tt))) $ fjoin ! $
-      move ! (2 ∷ 0 ∷ []) $ use2 W (raw (Callee 𝓤 H A mem run .pre to)) (asked there) $ frame ! $ done !
+      move ! (2 ∷ 0 ∷ []) $ use2 W (raw (Callee 𝓤 H A mem run .pre to)) (asked ends) $ frame ! $ done !
 
   -- of the callee's `ensured`, the clause alone: it has no `&mut`, so what is said of last values is dropped
   said : (r : LineReader) → ent 𝓤 (ensured 𝓤 H A callee.ended (callee.clauses 𝓤 H A mem run) (κ, tt) (made, (n, tt)) tt r) (fact 𝓤 (r ≡ goneOn made n))
@@ -128,14 +128,14 @@ module _ {M : Type 1} (𝓤 : URA M) (H : Heap 𝓤) (A : Atoms 𝓤) (W : Given
       move ! (1 ∷ 0 ∷ []) $ fjoin ! $ frame ! $ owned ! usize (Is usize) (uint-makes 𝓤 H A W w64) r _ (refl, fits) $ done !
 
   module _ (C : Calls 𝓤 H) (Λ : Loops 𝓤 H) (fm : FmC 𝓤 H (W .laws) C) (known : Triple 𝓤 (C #after-line) (Callee 𝓤 H A mem run)) where
-    walk : Is (ShrSlice (named 0) κ u8) s (v ∷ []) → n < length (now s) → ent 𝓤 (onEntry 𝓤 H A this.signature (κ, tt) (q, tt) (s, (m, (n, tt))) at) (WpFn 𝓤 H C Λ code.function (v ∷ vint w64 m ∷ vint w64 n ∷ []) Post)
-    walk p there =
+    walk : Is (ShrSlice (named 0) κ u8) s (v ∷ []) → EndsAt (now s) m n → ent 𝓤 (onEntry 𝓤 H A this.signature (κ, tt) (q, tt) (s, (m, (n, tt))) at) (WpFn 𝓤 H C Λ code.function (v ∷ vint w64 m ∷ vint w64 n ∷ []) Post)
+    walk p ends =
         let typed = shr-slice-lawful 𝓤 H A W (named 0) κ u8 .typed s (v ∷ []) p .0 in
         qed W (raw (onEntry 𝓤 H A this.signature (κ, tt) (q, tt) (s, (m, (n, tt))) at) ∷ []) ∵ enter ! C Λ code.function (v ∷ vint w64 m ∷ vint w64 n ∷ []) _ $
         alloc1 ! (λ l₀. alloc1 ! (λ l₁. alloc1 ! (λ l₂. alloc1 ! (λ l₃. alloc1 ! (λ l₄. alloc1 ! (λ l₅. alloc0 ! $ params1 ! $ pass1 ! (init ! 8 refl typed) $ pass1 ! (init ! 6 refl (tt, record { fits = okm })) $ pass1 ! (init ! 4 refl (tt, record { fits = okn })) $ pass0 ! $
         -- [_5; …; _4; …; _3; …; _2; …; _1; …; _0; …; what there is on entry]
         assigns ! (agg ! (and-then ! (load ! (from ! (stop !)) (look ! 8 refl)) (and-then ! (load ! (from ! (stop !)) (look ! 6 refl)) (no-more !)))) (from ! (stop !)) (init ! 0 refl (tt, (typed .1, (record { fits = okm }, tt)))) $
-        move ! (12 ∷ []) $ use1 W (raw (Callee 𝓤 H A mem run .pre to) ⊛ ‵ Own) (goes there) $ split ! $
+        move ! (12 ∷ []) $ use1 W (raw (Callee 𝓤 H A mem run .pre to) ⊛ ‵ Own) (goes ends) $ split ! $
         -- [what the callee asks; what s owns; _5; …; _4; …; _3; …; _2; …; _1; …; _0; …]
         calls-at ! fm (Callee 𝓤 H A mem run) known to (and-then ! (load ! (from ! (stop !)) (look ! 2 refl)) (and-then ! (load ! (from ! (stop !)) (look ! 6 refl)) (no-more !))) (λ u.
         use1 W (later (some (λ (r : LineReader). ((‵ (flft κ q) ⊛ ‵ ftrue) ⊛ ‵ (B (κ, tt) .own r (u ∷ []))) ⊛ raw (ensured 𝓤 H A callee.ended (callee.clauses 𝓤 H A mem run) (κ, tt) (made, (n, tt)) tt r)))) (id⊢ 𝓤 _) $ await ! tt $ pick ! (λ r.

@@ -9,7 +9,7 @@ use lib.Seq.{take-all}
 use borrow.Author.Needs.{needs}
 use Rattle.sheet.specs.Lists.{number}
 use Rattle.sheet.specs.Kinds.{Kind, width, kinds}
-use Rattle.sheet.specs.Store.{kindAt}
+use Rattle.sheet.specs.Store.{kindCount, kindAt}
 use Rattle.sheet.specs.Laws.Kinds.{column-at, widths-small}
 use Rattle.sheet.specs.Laws.Stores.{prefix-more}
 use Rattle.sheet.proofs.reader.forms.Statement.{statement}
@@ -17,18 +17,18 @@ use Rattle.sheet.proofs.reader.forms.Tie as tie
 
 abbrev Inv-loop : tie.InvT-loop
 Inv-loop letters₀ widths₀ k₀ letters widths k =
-    (k ≤ 3) × (length letters ≡ 3) × (length widths ≡ 3) × (take k letters ≡ take k (map (λ j. j .letter) kinds)) × (take k widths ≡ take k (map width kinds))
+    (k ≤ kindCount) × (length letters ≡ kindCount) × (length widths ≡ kindCount) × (take k letters ≡ take k (map (λ j. j .letter) kinds)) × (take k widths ≡ take k (map width kinds))
 
 abbrev μ-loop : tie.MeasureT-loop
-μ-loop letters₀ widths₀ k₀ letters widths k = 3 - k
+μ-loop letters₀ widths₀ k₀ letters widths k = kindCount - k
 
 -- a column of the table of kinds, one entry more; and whole
 module _ (f : Kind → ℕ) where
-  more : (l : List ℕ) (k v : ℕ) → k < 3 → length l ≡ 3 → v ≡ f (kindAt k) → take k l ≡ take k (map f kinds) → take (k + 1) (set l k v) ≡ take (k + 1) (map f kinds)
+  more : (l : List ℕ) (k v : ℕ) → k < kindCount → length l ≡ kindCount → v ≡ f (kindAt k) → take k l ≡ take k (map f kinds) → take (k + 1) (set l k v) ≡ take (k + 1) (map f kinds)
   more l k v h n e p =
       ap (λ (x : ℕ). take (k + 1) (set l k x)) (e ∙ sym (column-at f k h)) ∙ prefix-more l (map f kinds) k (omega (arith, h, n)) h p
 
-  whole : (l : List ℕ) (k : ℕ) → k ≡ 3 → length l ≡ 3 → take k l ≡ take k (map f kinds) → l ≡ map f kinds
+  whole : (l : List ℕ) (k : ℕ) → k ≡ kindCount → length l ≡ kindCount → take k l ≡ take k (map f kinds) → l ≡ map f kinds
   whole l k e n p = sym (take-all k l (omega (arith, e, n))) ∙ p ∙ take-all k (map f kinds) (omega (arith, e))
 
 loop-holds : tie.Need-loop-holds Inv-loop μ-loop
@@ -57,7 +57,7 @@ loop-again c =
     let h = c .before .before in
     let i = h .loop .inv in
     let k = h .loop .k in
-    let l : k < 3 = search needs in
+    let l : k < kindCount = search needs in
     let r = c .row-of .ensures in (
       omega (arith, l),
       simp length-set (i .1),
@@ -70,7 +70,7 @@ returns : tie.Need-returns Inv-loop μ-loop
 returns c =
     let h = c .before in
     let i = h .loop .inv in
-    let e : h .loop .k ≡ 3 = omega (arith, i .0, c .loop-test .left) in
+    let e : h .loop .k ≡ kindCount = omega (arith, i .0, c .loop-test .left) in
     let w = whole width (h .loop .widths) (h .loop .k) e (i .2) (i .4) in
     record { letters-are = whole (λ j. j .letter) (h .loop .letters) (h .loop .k) e (i .1) (i .3); widths-are = w; narrow = λ j. subst (λ (l : List ℕ). number l j ≤ 8) (sym w) (widths-small j) }
 

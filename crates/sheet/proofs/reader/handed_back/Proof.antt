@@ -1,31 +1,31 @@
 -- `sheet::reader::handed_back` meets its contract: each group stands at its base, at full length.
 -- Assumes nothing.
-use mathlib.Core.Path.{sym, _∙_, ap}
+use mathlib.Core.Path.{_≡_, sym, _∙_, ap}
 use mathlib.Core.List.{List, append-nil}
-use Prim.Native.Nat.{ℕ, _≤_}
+use Prim.Native.Nat.{ℕ}
 use native.Mathlib.Omega.{arith}
 use lib.ListN.{length, drop, length-drop}
 use lib.Seq.{length-take-le}
 use borrow.Author.Needs.{needs}
 use Rattle.sheet.specs.Lists.{filled}
-use Rattle.sheet.specs.Kinds.{room, kindS}
+use Rattle.sheet.specs.Kinds.{room, kindS, kindO}
 use Rattle.sheet.specs.Calls.{readAnswer}
-use Rattle.sheet.specs.Store.{SomeStore}
+use Rattle.sheet.specs.Store.{baseOf, storeRoom, SomeStore}
 use Rattle.sheet.specs.Laws.Store.{store-length, store-full}
 use Rattle.sheet.proofs.reader.handed_back.Statement.{statement}
 use Rattle.sheet.proofs.reader.handed_back.Tie as tie
 
-long : {lines all : List ℕ} (n : ℕ) → SomeStore lines all → n ≤ 2055 → n ≤ length all
-long n s h = omega (arith, store-length (s .store), h)
+long : {lines all : List ℕ} → SomeStore lines all → length all ≡ storeRoom
+long s = store-length (s .store)
 
 slice-aggregate-copy : tie.Need-slice-aggregate-copy
-slice-aggregate-copy c = sym (length-take-le 7 (c .before .before .args .all .now) (long 7 (c .before .before .pre) (omega arith)))
+slice-aggregate-copy c = sym (length-take-le (room kindS) (c .before .before .args .all .now) (omega (arith, long (c .before .before .pre))))
 
 slice-aggregate-copy-2 : tie.Need-slice-aggregate-copy-2
 slice-aggregate-copy-2 c = search needs
 
 copy-requires : tie.Need-copy-requires
-copy-requires c κs = length-take-le 7 (c .before .before .before .args .all .now) (long 7 (c .before .before .before .pre) (omega arith))
+copy-requires c κs = length-take-le (room kindS) (c .before .before .before .args .all .now) (omega (arith, long (c .before .before .before .pre)))
 
 sub-copy : tie.Need-sub-copy
 sub-copy c = search needs
@@ -34,7 +34,7 @@ part-copy-start : tie.Need-part-copy-start
 part-copy-start c = search needs
 
 part-copy-end : tie.Need-part-copy-end
-part-copy-end c = long 1287 (c .before .before .before .before .before .pre) (omega arith)
+part-copy-end c = omega (arith, long (c .before .before .before .before .before .pre))
 
 slice-aggregate-copy-3 : tie.Need-slice-aggregate-copy-3
 slice-aggregate-copy-3 c = search needs
@@ -49,7 +49,7 @@ part-copy-start-2 : tie.Need-part-copy-start-2
 part-copy-start-2 c = omega arith
 
 part-copy-end-2 : tie.Need-part-copy-end-2
-part-copy-end-2 c = long 2055 (c .before .before .before .before .before .before .before .before .before .pre) (omega arith)
+part-copy-end-2 c = omega (arith, long (c .before .before .before .before .before .before .before .before .before .pre))
 
 slice-aggregate-copy-4 : tie.Need-slice-aggregate-copy-4
 slice-aggregate-copy-4 c = search needs
@@ -57,7 +57,7 @@ slice-aggregate-copy-4 c = search needs
 copy-requires-3 : tie.Need-copy-requires-3
 copy-requires-3 c κs =
     let all = c .before .before .before .before .before .before .before .before .before .before .before .args .all .now in
-    length-take-le 768 (drop 1287 all) (omega (arith, length-drop 1287 all, long 2055 (c .before .before .before .before .before .before .before .before .before .before .before .pre) (omega arith)))
+    length-take-le (room kindO) (drop (baseOf 2) all) (omega (arith, length-drop (baseOf 2) all, long (c .before .before .before .before .before .before .before .before .before .before .before .pre)))
 
 returns : tie.Need-returns
 unfolding readAnswer

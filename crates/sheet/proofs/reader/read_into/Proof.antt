@@ -12,7 +12,10 @@ use borrow.Author.Needs.{needs}
 use borrow.Author.Tests.{not-true, not-false}
 use Rattle.sheet.specs.Kinds.{kinds}
 use Rattle.sheet.specs.Sheet.{readOf}
+use Rattle.sheet.specs.Store.{kindCount}
 use Rattle.sheet.specs.Inner.{kindTable, lineAt, Reached, Forms}
+use Rattle.sheet.specs.declared.line_reader.LineEnd.the-variants.{At}
+use Rattle.sheet.proofs.LineEnding.{end-inside}
 use Rattle.sheet.proofs.Reached.{reached-next, reached-fault, reached-short}
 use Rattle.sheet.proofs.Reading.{verdict-refused, verdict-holds, read-long, left, text-start, text-bad, text-line, text-end, text-on}
 use Rattle.sheet.proofs.reader.read_into.Statement.{statement}
@@ -26,8 +29,8 @@ Inv-loop src lines₀ all₀ bytes letters widths n₀ at₀ lines all n at =
     × (n ≤ at + 1)
     × (bytes ≡ kindTable)
     × Forms kinds letters widths
-    × (length letters ≡ 3)
-    × (length widths ≡ 3)
+    × (length letters ≡ kindCount)
+    × (length widths ≡ kindCount)
     × (length lines ≡ length lines₀)
     × (length all ≡ length all₀)
 
@@ -39,7 +42,10 @@ passed t = not-false (t .before .before .before .before .before .before .parsed-
 
 ahead : (t : tie.After-take-line Inv-loop μ-loop) → let p = t .before .before .before .before .before .before in let h = p .before .before .before .before .before in
     (h .loop .at ≤ p .parsed-line .result .end) × (p .parsed-line .result .end < length (h .before .before .before .before .before .before .before .before .before .before .args .src .now))
-ahead t = let N = t .before .before .before .before .before .before .parsed-line .ensures in (N .ahead, N .within (passed t))
+ahead t =
+    let p = t .before .before .before .before .before .before in
+    let h = p .before .before .before .before .before in
+    end-inside (h .before .before .before .before .before .before .before .before .before .before .args .src .now) (h .loop .at) (At (p .parsed-line .result .end)) (p .parsed-line .ensures .ended (passed t))
 
 -- the line that was read, and that it ends within the text, at or after the position before
 next : (t : tie.After-take-line Inv-loop μ-loop) → let p = t .before .before .before .before .before .before in let h = p .before .before .before .before .before in let r = p .parsed-line .result in
@@ -123,7 +129,9 @@ returns-3 c =
     verdict-refused (t .take-line .result) (h .loop .n) (omega (arith, c .if3 .taken)) (reached-fault (next t) (t .take-line .ensures .fault-is) (c .if3 .taken))
 
 go-on-requires : tie.Need-go-on-requires Inv-loop μ-loop
-go-on-requires c κs = ahead (c .before .before .before .before .before) .1
+go-on-requires c κs =
+    let t = c .before .before .before .before .before in
+    t .before .before .before .before .before .before .parsed-line .ensures .ended (passed t)
 
 add-n : tie.Need-add-n Inv-loop μ-loop
 add-n c =

@@ -9,6 +9,7 @@ use lib.Seq.{take-all}
 use Rattle.sheet.specs.Lists.{flat}
 use Rattle.sheet.specs.Sheet.{Sheet}
 use Rattle.sheet.specs.Store.{kindCount, StoreOf}
+use Rattle.sheet.specs.Inner.{groupBytes}
 use Rattle.sheet.specs.Laws.Binds.{bind-more}
 use Rattle.sheet.proofs.PutText.{sheetTexts, sheet-texts, sheet-texts-count, store-lines, store-fits, store-text}
 use Rattle.sheet.proofs.text.sheet_bytes.Statement.{statement}
@@ -17,7 +18,7 @@ use Rattle.sheet.proofs.text.sheet_bytes.Tie as tie
 abbrev Inv-loop : tie.InvT-loop
 Inv-loop lines all bytes₀ k₀ bytes k =
     (k ≤ kindCount)
-    × (bytes ≤ 12800 * k)
+    × (bytes ≤ groupBytes * k)
     × ((s : Sheet) → StoreOf s lines all → bytes ≡ length (flat (take k (sheetTexts s))))
 
 abbrev μ-loop : tie.MeasureT-loop
