@@ -1,7 +1,7 @@
 -- Every sheet of lines that pass is valid, and the lines of every valid sheet are in shape and pass. Both go by the three runs of lines of a
 -- sheet, of one kind each (Laws.Runs): what remains is that a run of C lines, say, says of its numbers what a valid sheet says of corridors.
 -- Also: no number of lines that pass has more than five digits.
-use mathlib.Core.Path.{_≡_, refl, sym, _∙_, ap, subst}
+use mathlib.Core.Path.{_≡_, refl, sym, subst}
 use mathlib.Core.Logic.{inl}
 use mathlib.Core.Bool.{false}
 use mathlib.Core.List.{List, [], _∷_}
