@@ -4,8 +4,8 @@ ghost use lib.ListN.{length};
 ghost use Rattle.sheet.specs.Kinds.{kinds};
 ghost use Rattle.sheet.specs.Sheet.{refused, readOf};
 ghost use Rattle.sheet.specs.Calls.{readAnswer, readCall};
-ghost use Rattle.sheet.specs.Store.{Blank, SomeStore, VerdictIs};
-ghost use Rattle.sheet.specs.Inner.{Forms, AnswerIs};
+ghost use Rattle.sheet.specs.Store.{kindCount, Blank, SomeStore, VerdictIs};
+ghost use Rattle.sheet.specs.Inner.{Forms, AnswerIs, NoneSoFar, EndedIs};
 use crate::SheetRead;
 use crate::bytes::table;
 use crate::judge::lacks;
@@ -33,6 +33,36 @@ pub struct Verdict {
 pub struct FormsOfLines {
     pub letters: [u8; KINDS],
     pub widths: [usize; KINDS],
+}
+
+// No refusal so far; the next line has the number n.
+pub fn passed(n: u32) -> Verdict
+    ensures { λ r. ⌜ NoneSoFar r n ⌝ }
+{
+    Verdict {
+        refusal: 0,
+        line: n,
+    }
+}
+
+// How the input is judged that ends after the lines judged so far: refused as they are, or with 3 where something is missing; or 0, and no line.
+pub fn ended(lines: &[u32], judged: Verdict) -> Verdict
+    requires { ⌜ length (now lines) ≡ kindCount ⌝ }
+    ensures { λ r. ⌜ EndedIs (now (lines .entry)) judged r ⌝ }
+{
+    if judged.refusal != 0 {
+        return judged;
+    }
+    if lacks(lines) {
+        return Verdict {
+            refusal: 3,
+            line: judged.line,
+        };
+    }
+    Verdict {
+        refusal: 0,
+        line: 0,
+    }
 }
 
 // The letters of the kinds and the counts of their numbers.
@@ -86,16 +116,7 @@ pub fn read_into(src: &[u8], lines: &mut [u32], all: &mut [u32]) -> Verdict
         at = go_on(src, at, l.end);
         n += 1;
     }
-    if lacks(lines) {
-        return Verdict {
-            refusal: 3,
-            line: n,
-        };
-    }
-    Verdict {
-        refusal: 0,
-        line: 0,
-    }
+    ended(lines, passed(n))
 }
 
 // A refusal: its number, its line, and zeros.

@@ -16,8 +16,8 @@ use Rattle.sheet.specs.Store.{kindCount}
 use Rattle.sheet.specs.Inner.{kindTable, lineAt, Reached, Forms}
 use Rattle.sheet.specs.declared.line_reader.LineEnd.the-variants.{At}
 use Rattle.sheet.proofs.LineEnding.{end-inside}
-use Rattle.sheet.proofs.Reached.{reached-next, reached-fault, reached-short}
-use Rattle.sheet.proofs.Reading.{verdict-refused, verdict-holds, read-long, left, text-start, text-bad, text-line, text-end, text-on}
+use Rattle.sheet.proofs.Reached.{reached-next, reached-fault, so-far}
+use Rattle.sheet.proofs.Reading.{verdict-refused, read-long, left, text-start, text-bad, text-line, text-end, text-on}
 use Rattle.sheet.proofs.reader.read_into.Statement.{statement}
 use Rattle.sheet.proofs.reader.read_into.Tie as tie
 
@@ -162,8 +162,11 @@ loop-again c =
       k .1 .0 ∙ i .9,
     )
 
-lacks-requires : tie.Need-lacks-requires Inv-loop μ-loop
-lacks-requires c κs = ap length (c .before .before .loop .inv .0 .stored .counts)
+passed-requires : tie.Need-passed-requires Inv-loop μ-loop
+passed-requires c κs = search needs
+
+ended-requires : tie.Need-ended-requires Inv-loop μ-loop
+ended-requires c κs = ap length (c .before .before .before .loop .inv .0 .stored .counts)
 
 same-length-5 : tie.Need-same-length-5 Inv-loop μ-loop
 same-length-5 c = c .before .before .before .before .loop .inv .8
@@ -174,19 +177,8 @@ same-length-6 c = c .before .before .before .before .loop .inv .9
 returns-4 : tie.Need-returns-4 Inv-loop μ-loop
 returns-4 c =
     let h = c .before .before .before .before in
-    verdict-refused 3 (h .loop .n) (omega arith)
-    (reached-short (text-end (h .before .before .before .before .before .before .before .before .before .before .args .src .now) (h .loop .at) (c .before .before .before .loop-test .left) (h .loop .inv .0)) (c .before .lacks .ensures) (c .if4 .taken))
-
-same-length-7 : tie.Need-same-length-7 Inv-loop μ-loop
-same-length-7 c = c .before .before .before .before .loop .inv .8
-
-same-length-8 : tie.Need-same-length-8 Inv-loop μ-loop
-same-length-8 c = c .before .before .before .before .loop .inv .9
-
-returns-5 : tie.Need-returns-5 Inv-loop μ-loop
-returns-5 c =
-    let h = c .before .before .before .before in
-    verdict-holds (text-end (h .before .before .before .before .before .before .before .before .before .before .args .src .now) (h .loop .at) (c .before .before .before .loop-test .left) (h .loop .inv .0)) (c .before .lacks .result) (c .before .lacks .ensures) (c .if4 .left)
+    let src = h .before .before .before .before .before .before .before .before .before .before .args .src .now in
+    c .ended .ensures .of (readOf src) (h .loop .all) (so-far (text-end src (h .loop .at) (c .before .before .before .loop-test .left) (h .loop .inv .0)) (c .before .passed .ensures))
 
 pub read-into-spec : {M : Type 1} → statement M
 read-into-spec =
@@ -213,10 +205,8 @@ read-into-spec =
     add-n
     loop-less
     loop-again
-    lacks-requires
+    passed-requires
+    ended-requires
     same-length-5
     same-length-6
-    returns-4
-    same-length-7
-    same-length-8
-    returns-5)
+    returns-4)
