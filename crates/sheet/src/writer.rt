@@ -73,7 +73,8 @@ fn take_groups(
     all: &mut [u32],
 ) -> Verdict
     requires { ⌜ (length (now head) ≡ width kindS) × (Blank (now lines) (now all)) ⌝ }
-    ensures { λ r. ⌜ VerdictIs (judgedGroups (groups (now (head .entry)) (now (corridors .entry)) (now (occupancies .entry)))) (now (lines .exit)) (now (all .exit)) r ⌝ }
+    ensures { λ r. ⌜ VerdictIs (judgedGroups (groups (now (head .entry)) (now (corridors .entry)) (now (occupancies .entry))))
+        (now (lines .exit)) (now (all .exit)) r ⌝ }
 {
     let s = take_group(lines, all, 0, head, passed(1));
     let c = take_group(lines, all, 1, corridors, s);

@@ -1,6 +1,6 @@
 -- `sheet::writer::take_groups` meets its contract: each group's promise carries what was judged so far past its lines, and `ended` past the last.
 -- Assumes nothing.
-use mathlib.Core.Path.{_∙_, ap}
+use mathlib.Core.Path.{ap}
 use native.Mathlib.Omega.{arith}
 use lib.ListN.{length}
 use borrow.Author.Needs.{needs}
@@ -26,11 +26,8 @@ take-group-requires-3 c κs = search needs
 
 ended-requires : tie.Need-ended-requires
 ended-requires c κs =
-    let o = c .before .before .before .before .before in
-    let t = o .before .before .before .before .before .before .before in
-    let s = t .before .before .before .before .before .before .before in
-    let z = s .before .before .before .before .before .before .before .before .before in
-    o .take-group3 .kept .0 ∙ t .take-group2 .kept .0 ∙ s .take-group .kept .0 ∙ ap length (z .pre .1 .no-lines)
+    let z = c .before .before .before .before .before .before .before .before .before .before .before .before .before .before .before .before .before .before .before .before .before .before .before .before .before .before .before .before in
+    omega (arith, ap length (z .pre .1 .no-lines))
 
 same-length : tie.Need-same-length
 same-length c = search needs
