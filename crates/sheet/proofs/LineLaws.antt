@@ -1,7 +1,7 @@
 -- Laws of a line: its first field is the letter of its kind, found by its position among the letters, and the fields after it are the kind's numbers.
 -- Assumes nothing.
 use mathlib.Core.Bool.{Bool, true, false, true≢false}
-use mathlib.Core.Path.{_≡_, refl, sym, _∙_, ap}
+use mathlib.Core.Path.{_≡_, refl, sym, _∙_, ap, subst}
 use mathlib.Core.Logic.{_⊎_, inl, inr, ⊎-elim, _≢_}
 use mathlib.Core.List.{List, [], _∷_, map}
 use mathlib.Core.Option.{Option, some, none}
@@ -15,7 +15,6 @@ use Rattle.sheet.specs.Bytes.{comma}
 use Rattle.sheet.specs.Kinds.{Kind, width, kindS}
 use Rattle.sheet.specs.Lines.{line, withLetter, numbersOf, ofFields, lineOf}
 use Rattle.sheet.specs.Inner.{spanOf, partsFrom, asNumbers, Forms, SomeForms, positionOf, lineOfKinds, LineIs}
-use Rattle.sheet.specs.declared.lines.Numbers.{Numbers}
 use Rattle.sheet.specs.declared.lines.Parsed.{Parsed}
 use Rattle.sheet.proofs.Parts.{span-le, split-step}
 
@@ -95,10 +94,11 @@ module _ (most : ℕ) (letters widths l : List ℕ) where
         (stands letters widths (getD l 0 0) k d ks F))
 
     -- the letter is known, and the reader of its numbers handed back n
-    pub line-known : SomeForms letters widths → k ≢ length letters → (n : Numbers)
+    pub line-known : SomeForms letters widths → k ≢ length letters → (n : Parsed) → n .kind ≡ k
         → asNumbers (number widths k) n ≡ numbersOf most (number widths k) (partsFrom comma 2 l)
-        → LineIs most letters widths l (record { ok = n .ok; kind = k; values = n .values })
-    line-known S h n q = record { known = λ _. letter-below letters widths (getD l 0 0) k d S h; of = of }
+        → LineIs most letters widths l n
+    line-known S h n z q =
+        subst (λ (j : ℕ). LineIs most letters widths l (record { ok = n .ok; kind = j; values = n .values })) (sym z) (record { known = λ _. letter-below letters widths (getD l 0 0) k d S h; of = of })
       where
         made : (b : Bool) (j : Kind) (w : ℕ) → w ≡ width j → pick b (some (line j (take (width j) (n .values)))) none ≡ pick b (some (take w (n .values))) none then λ ns. some (line j ns)
         made true j w e = rw e

@@ -22,7 +22,6 @@ use Rattle.sheet.specs.Laws.Shape.{AllShaped}
 use Rattle.sheet.specs.declared.SheetRead.{SheetRead}
 use Rattle.sheet.specs.declared.kinds.Row.{Row}
 use Rattle.sheet.specs.declared.lines.Field.{Field}
-use Rattle.sheet.specs.declared.lines.Numbers.{Numbers}
 use Rattle.sheet.specs.declared.lines.Parsed.{Parsed}
 use Rattle.sheet.specs.declared.reader.Verdict.{Verdict}
 
@@ -162,7 +161,7 @@ partsFrom k at l = pick (leb at (length l)) (split k (drop at l)) []
 abbrev pub asField : Field → Option ℕ
 asField r = pick (r .ok) (some (r .value)) none
 
-abbrev pub asNumbers : ℕ → Numbers → Option (List ℕ)
+abbrev pub asNumbers : ℕ → Parsed → Option (List ℕ)
 asNumbers w r = pick (r .ok) (some (take w (r .values))) none
 
 -- the letters and the counts of numbers of these kinds of lines, of at most eight numbers each

@@ -80,43 +80,43 @@ fn field_at(kinds: &[u8; 256], line: &[u8], at: usize, most: usize) -> Field
     f
 }
 
-// The numbers of a line; ok where each of the fields is there and is a number.
-pub struct Numbers {
-    pub ok: bool,
-    pub values: [u32; 8],
-}
-
-// The numbers of exactly `width` fields from `start` on, of at most `most` digits each.
-fn numbers_in(kinds: &[u8; 256], line: &[u8], start: usize, width: usize, most: usize) -> Numbers
-    requires { ⌜ (now kinds ≡ kindTable) × (width ≤ 8) × (most ≤ 8) ⌝ }
-    ensures { λ r. ⌜ asNumbers width r ≡ numbersOf most width (partsFrom comma start (now (line .entry))) ⌝ }
-{
-    let mut values = [0u32; 8];
-    let mut at = start;
-    let mut k = 0;
-    while k < width {
-        if line.len() < at {
-            return Numbers { ok: false, values };
-        }
-        let f = field_at(kinds, line, at, most);
-        if !f.ok {
-            return Numbers { ok: false, values };
-        }
-        values[k] = f.value;
-        at = f.end + 1;
-        k += 1;
-    }
-    if at <= line.len() {
-        return Numbers { ok: false, values };
-    }
-    Numbers { ok: true, values }
-}
-
 // A line: the position of its kind among the letters, and its numbers, where test 2 passed it.
 pub struct Parsed {
     pub ok: bool,
     pub kind: usize,
     pub values: [u32; 8],
+}
+
+// The line of this kind whose numbers are exactly `width` fields from position 2 on, of at most `most` digits each. It is handed back as it was made:
+// a copy of the numbers waits for each of them to be stored.
+fn numbers_in(kinds: &[u8; 256], line: &[u8], kind: usize, width: usize, most: usize) -> Parsed
+    requires { ⌜ (now kinds ≡ kindTable) × (width ≤ 8) × (most ≤ 8) ⌝ }
+    ensures { λ r. ⌜ (r .kind ≡ kind) × (asNumbers width r ≡ numbersOf most width (partsFrom comma 2 (now (line .entry)))) ⌝ }
+{
+    let mut r = Parsed {
+        ok: false,
+        kind,
+        values: [0u32; 8],
+    };
+    let mut at = 2;
+    let mut k = 0;
+    while k < width {
+        if line.len() < at {
+            return r;
+        }
+        let f = field_at(kinds, line, at, most);
+        if !f.ok {
+            return r;
+        }
+        r.values[k] = f.value;
+        at = f.end + 1;
+        k += 1;
+    }
+    if at <= line.len() {
+        return r;
+    }
+    r.ok = true;
+    r
 }
 
 fn bad_line() -> Parsed
@@ -155,13 +155,7 @@ pub fn line_in(kinds: &[u8; 256], l: &[u8], letters: &[u8], widths: &[usize], mo
     if k == letters.len() {
         return bad_line();
     }
-    let n = numbers_in(kinds, l, 2, widths[k], most);
-    let values = n.values;
-    Parsed {
-        ok: n.ok,
-        kind: k,
-        values,
-    }
+    numbers_in(kinds, l, k, widths[k], most)
 }
 
 // The next line of a text: its end, its kind and its numbers, where test 2 passed it.

@@ -8,15 +8,16 @@ ghost use Rattle.sheet.specs.Inner.{lineAt, Kept, Takes};
 use crate::judge::fault_of;
 use crate::kinds::row_of;
 
-// Writes the first w numbers of v from `at` on.
+// Writes the first w numbers of v from `at` on. The loop is over all of v, since one to w becomes a call of memcpy for a dozen bytes.
 fn store(all: &mut [u32], at: usize, v: [u32; 8], w: usize)
     requires { ⌜ (w ≤ 8) × (at + w ≤ length (now all)) ⌝ }
     ensures { λ r. ⌜ now (all .exit) ≡ sets (now (all .entry)) at (take w v) ⌝ }
 {
-    let mut i = 0;
-    while i < w {
+    for i in 0..8 {
+        if w <= i {
+            return;
+        }
         all[at + i] = v[i];
-        i += 1;
     }
 }
 

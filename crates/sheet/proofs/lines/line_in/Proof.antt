@@ -60,11 +60,10 @@ numbers-in-requires c κs =
 
 returns-3 : tie.Need-returns-3
 returns-3 c =
-    let n = c .before in
-    let x = n .before .before in
+    let x = c .before .before in
     let k = x .before in
     line-known _ _ _ _ (one (k .before .before)) _ (k .position .ensures) (k .before .before .before .before .before .before .before .pre .1) (x .if2 .left)
-    _ (n .numbers-in .ensures)
+    _ (c .numbers-in .ensures .0) (c .numbers-in .ensures .1)
 
 pub line-in-spec : {M : Type 1} → statement M
 line-in-spec =

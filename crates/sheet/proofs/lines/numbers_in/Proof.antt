@@ -1,7 +1,7 @@
 -- `sheet::lines::numbers_in` meets its contract. Invariant: the numbers so far, in front of what is left to read, are what the whole reads
 -- as.
 -- Assumes nothing.
-use mathlib.Core.Bool.{Bool, true}
+use mathlib.Core.Bool.{Bool, true, false}
 use mathlib.Core.Path.{_≡_, refl, sym, _∙_, ap}
 use mathlib.Core.Option.{some, none}
 use Prim.Native.Nat.{ℕ, _≤_, _<_, _-_}
@@ -12,51 +12,55 @@ use borrow.Author.Tests.{not-true, not-false}
 use Rattle.sheet.specs.Lists.{pick}
 use Rattle.sheet.specs.Bytes.{comma}
 use Rattle.sheet.specs.Lines.{numbersOf}
-use Rattle.sheet.specs.Inner.{partsFrom}
+use Rattle.sheet.specs.Inner.{partsFrom, asNumbers}
+use Rattle.sheet.specs.declared.lines.Parsed.{Parsed}
 use Rattle.sheet.proofs.Parts.{span-le}
 use Rattle.sheet.proofs.Fields.{soFar, so-missing, so-bad, so-more, so-extra, so-all, onto-none}
 use Rattle.sheet.proofs.lines.numbers_in.Statement.{statement}
 use Rattle.sheet.proofs.lines.numbers_in.Tie as tie
 
+-- what is not ok stands for nothing
+nothing : (w : ℕ) (r : Parsed) → r .ok ≡ false → asNumbers w r ≡ none
+nothing w r e = ap (λ (b : Bool). pick b (some (take w (r .values))) none) e
+
 abbrev Inv-loop : tie.InvT-loop
-Inv-loop kinds line start width most values₀ at₀ k₀ values at k =
-    (k ≤ width) × (length values ≡ 8) × (numbersOf most width (partsFrom comma start line) ≡ soFar most line values width k at comma)
+Inv-loop kinds line kind width most r₀ at₀ k₀ r at k =
+    (k ≤ width) × (length (r .values) ≡ 8) × (numbersOf most width (partsFrom comma 2 line) ≡ soFar most line (r .values) width k at comma) × (r .ok ≡ false) × (r .kind ≡ kind)
 
 abbrev μ-loop : tie.MeasureT-loop
-μ-loop kinds line start width most values₀ at₀ k₀ values at k = width - k
+μ-loop kinds line kind width most r₀ at₀ k₀ r at k = width - k
 
 loop-holds : tie.Need-loop-holds Inv-loop μ-loop
-loop-holds c = (omega arith, refl, rw sub-zero (onto-none _))
+loop-holds c = (omega arith, refl, rw sub-zero (onto-none _), refl, refl)
 
 returns : tie.Need-returns Inv-loop μ-loop
-returns c = sym (so-missing _ _ _ _ _ _ _ (c .before .loop-test .taken) (c .if1 .taken)) ∙ sym (c .before .before .loop .inv .2)
+returns c =
+    let l = c .before .before .loop in
+    (l .inv .4, nothing (c .before .before .before .before .args .width) (l .r) (l .inv .3) ∙ sym (so-missing _ _ _ _ _ _ _ (c .before .loop-test .taken) (c .if1 .taken)) ∙ sym (l .inv .2))
 
 field-at-requires : tie.Need-field-at-requires Inv-loop μ-loop
 field-at-requires c κs = (c .before .before .before .before .pre .0, omega arith, c .before .before .before .before .pre .2)
 
 returns-2 : tie.Need-returns-2 Inv-loop μ-loop
 returns-2 c =
-    let f = c .before .before in
-    let h = f .before .before .before in
-    let n = sym (f .field-at .ensures .number) ∙ ap (λ (b : Bool). pick b (some (f .field-at .result .value)) none) (not-true (f .field-at .result .ok) (c .if2 .taken)) in
-    sym (so-bad _ _ _ _ _ _ _ (f .before .before .loop-test .taken) (f .before .if1 .left) n) ∙ sym (h .loop .inv .2)
+    let l = c .before .before .before .before .before .loop in
+    let f = c .before .before .field-at in
+    let n = sym (f .ensures .number) ∙ ap (λ (b : Bool). pick b (some (f .result .value)) none) (not-true (f .result .ok) (c .if2 .taken)) in
+    (l .inv .4, nothing (c .before .before .before .before .before .before .before .args .width) (l .r) (l .inv .3) ∙ sym (so-bad _ _ _ _ _ _ _ (c .before .before .before .before .loop-test .taken) (c .before .before .before .if1 .left) n) ∙ sym (l .inv .2))
 
--- the field is read, and its end is within the line
-read : (c : tie.Else2 Inv-loop μ-loop) → c .before .before .field-at .result .ok ≡ true
-read c = not-false (c .before .before .field-at .result .ok) (c .if2 .left)
+mul-r : tie.Need-mul-r Inv-loop μ-loop
+mul-r c = omega arith
 
-mul-values : tie.Need-mul-values Inv-loop μ-loop
-mul-values c = omega arith
-
-array-write-values : tie.Need-array-write-values Inv-loop μ-loop
-array-write-values c = omega arith
+element-write-r : tie.Need-element-write-r Inv-loop μ-loop
+element-write-r c = omega arith
 
 add-at : tie.Need-add-at Inv-loop μ-loop
 add-at c =
-    let f = c .before .before .before in
-    let l = f .before .before .before .before .before .args .line .now in
-    let a = f .before .before .before .loop .at in
-    omega (arith, f .field-at .ensures .ends (read (c .before)), span-le comma (drop a l), length-drop a l, f .before)
+    let f = c .before .before .before .field-at in
+    let l = c .before .before .before .before .before .before .before .before .args .line .now in
+    let a = c .before .before .before .before .before .before .loop .at in
+    let t = c .before .before .before .before .if1 .left in
+    omega (arith, f .ensures .ends (not-false (f .result .ok) (c .before .if2 .left)), span-le comma (drop a l), length-drop a l, t)
 
 add-k : tie.Need-add-k Inv-loop μ-loop
 add-k c = omega arith
@@ -66,26 +70,29 @@ loop-less c = omega arith
 
 loop-again : tie.Need-loop-again Inv-loop μ-loop
 loop-again c =
-    let f = c .before .before .before in
-    let h = f .before .before .before in
-    let v : h .loop .k < length (h .loop .values) = omega (arith, f .before) in
-    let n = sym (f .field-at .ensures .number) ∙ ap (λ (b : Bool). pick b (some (f .field-at .result .value)) none) (read (c .before)) in (
+    let f = c .before .before .before .field-at in
+    let h = c .before .before .before .before .before .before .loop in
+    let ok = not-false (f .result .ok) (c .before .if2 .left) in
+    let t = c .before .before .before .before .before .loop-test .taken in
+    let v : h .k < length (h .r .values) = omega (arith, t, h .inv .1, c .before .before .before .before .before .before .before .before .pre .1) in
+    let n = sym (f .ensures .number) ∙ ap (λ (b : Bool). pick b (some (f .result .value)) none) ok in (
       omega arith,
-      simp length-set (h .loop .inv .1),
-      rw (f .field-at .ensures .ends (read (c .before)))
-          (h .loop .inv .2 ∙ so-more _ _ _ _ _ _ _ _ (f .before .before .loop-test .taken) v (f .before .if1 .left) n),
+      simp length-set (h .inv .1),
+      rw (f .ensures .ends ok) (h .inv .2 ∙ so-more _ _ _ _ _ _ _ _ t v (c .before .before .before .before .if1 .left) n),
+      h .inv .3,
+      h .inv .4,
     )
 
 returns-3 : tie.Need-returns-3 Inv-loop μ-loop
-returns-3 c = sym (so-extra _ _ _ _ _ _ _ (c .before .loop-test .left) (c .if3 .taken)) ∙ sym (c .before .before .loop .inv .2)
+returns-3 c =
+    let l = c .before .before .loop in
+    (l .inv .4, nothing (c .before .before .before .before .args .width) (l .r) (l .inv .3) ∙ sym (so-extra _ _ _ _ _ _ _ (c .before .loop-test .left) (c .if3 .taken)) ∙ sym (l .inv .2))
 
 returns-4 : tie.Need-returns-4 Inv-loop μ-loop
 returns-4 c =
-    let h = c .before .before in
-    let e : h .before .before .args .width ≡ h .loop .k = omega arith in
-    ap (λ (m : ℕ). some (take m (h .loop .values))) e
-    ∙ sym (so-all _ _ _ _ _ _ _ (c .before .loop-test .left) (c .if3 .left))
-    ∙ sym (h .loop .inv .2)
+    let h = c .before .before .loop in
+    let e : c .before .before .before .before .args .width ≡ h .k = omega arith in
+    (h .inv .4, ap (λ (m : ℕ). some (take m (h .r .values))) e ∙ sym (so-all _ _ _ _ _ _ _ (c .before .loop-test .left) (c .if3 .left)) ∙ sym (h .inv .2))
 
 pub numbers-in-spec : {M : Type 1} → statement M
 numbers-in-spec =
@@ -97,8 +104,8 @@ numbers-in-spec =
     returns
     field-at-requires
     returns-2
-    mul-values
-    array-write-values
+    mul-r
+    element-write-r
     add-at
     add-k
     loop-less
