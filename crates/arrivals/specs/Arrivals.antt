@@ -16,9 +16,6 @@ pub record Arrival : Type 0 where
   pub step : ℕ
   pub cost : Cost
 
-abbrev pub arrival : ℕ → ℕ → Cost → Arrival
-arrival v t g = record { place = v; step = t; cost = g }
-
 -- arrivals ascend by step, place, cost
 abbrev pub keyOf : Arrival → List ℕ
 keyOf a = a .step ∷ a .place ∷ a .cost
@@ -30,17 +27,13 @@ pub record Arrives (s : Sheet) (a : Arrival) : Type 0 where
   pub stands : number path (a .step) ≡ a .place
   pub in-time : a .step ≤ steps s
 
--- the cost g after n steps of waiting at v
-abbrev pub waited : Sheet → ℕ → ℕ → Cost → Cost
-waited s v n g = add g (times n (waitOf s v))
-
 -- of two different arrivals in one safe interval of one place, a leads b
 pub record Leads (s : Sheet) (a b : Arrival) : Type 0 where
   pub differ : a ≢ b
   pub same-place : a .place ≡ b .place
   pub together : Together s (b .place) (a .step) (b .step)
   pub no-later : a .step ≤ b .step
-  pub no-dearer : AtMost (waited s (b .place) (b .step - a .step) (a .cost)) (b .cost)
+  pub no-dearer : AtMost (add (a .cost) (times (b .step - a .step) (waitOf s (b .place)))) (b .cost)
 
 -- an arrival that no other leads
 pub record Leading (s : Sheet) (a : Arrival) : Type 0 where

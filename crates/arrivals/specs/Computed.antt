@@ -5,14 +5,22 @@ use Prim.Native.Nat.{ℕ, zero, suc, _-_}
 use Rattle.sheet.specs.Lists.{keep, filter, bind, all}
 use Rattle.sheet.specs.Sorting.{sortUnique}
 use Rattle.sheet.specs.Sheet.{Sheet, start, to, steps}
-use Rattle.costs.specs.Costs.{Cost, zeroCost, add}
+use Rattle.costs.specs.Costs.{Cost, zeroCost, add, times}
 use Rattle.costs.specs.Computed.{atMostb, sameb, leaving}
 use Rattle.costs.specs.Moves.{waitOf, costOf}
 use Rattle.intervals.specs.Intervals.{freeb}
 use Rattle.intervals.specs.Computed.{runb}
 use mathlib.Core.Bool.{Bool, not, _&&_}
 use lib.Dec.{eqb, leb}
-use Rattle.arrivals.specs.Arrivals.{Arrival, arrival, keyOf, waited}
+use Rattle.arrivals.specs.Arrivals.{Arrival, keyOf}
+
+-- the arrival at place v and step t with cost g
+abbrev pub arrival : ℕ → ℕ → Cost → Arrival
+arrival v t g = record { place = v; step = t; cost = g }
+
+-- the cost g after n steps of waiting at v
+abbrev pub waited : Sheet → ℕ → ℕ → Cost → Cost
+waited s v n g = add g (times n (waitOf s v))
 
 -- the enumeration: a way by its last place, the places before it (the last step first) and its cost
 pub record Walk : Type 0 where

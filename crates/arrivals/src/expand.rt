@@ -6,7 +6,6 @@ use crate::index::newest;
 use crate::index::older;
 use crate::network::Here;
 use crate::network::Source;
-use crate::network::first_step;
 use crate::network::is_dear;
 use crate::network::is_open;
 use crate::network::last_link;
@@ -19,6 +18,7 @@ use crate::offers::offer;
 use crate::rows::row_cost;
 use costs::multiple;
 use costs::sum;
+use intervals::first_step;
 use sheet::Step;
 ghost use mathlib.Core.Path.{_≡_};
 ghost use mathlib.Core.Logic.{_⊎_};
@@ -26,7 +26,7 @@ ghost use Prim.Native.Nat.{_+_, _*_, _<_, _≤_};
 ghost use lib.ListN.{length};
 ghost use Rattle.arrivals.specs.Rows.{rowAt};
 ghost use Rattle.arrivals.specs.Inner.Rows.{Bounded};
-ghost use Rattle.arrivals.specs.Inner.Network.{caseOf, linkAt, countOf};
+ghost use Rattle.arrivals.specs.Inner.Network.{netRoom, caseOf, linkAt, countOf};
 ghost use Rattle.arrivals.specs.Inner.Lent.{Given};
 ghost use Rattle.arrivals.specs.Inner.Entering.{reach};
 ghost use Rattle.arrivals.specs.Inner.Pruning.{FreshIs, Sourced, Fair};
@@ -36,7 +36,7 @@ ghost use Rattle.arrivals.specs.Inner.Sweeps.{Sweepable, Before, OffersR
 // The first step whose rows are to be offered here over corridor j, by the pruning rule: the one after the last open departure that arrives
 // earlier in the same safe interval, where waiting is nowhere dearer.
 pub fn fresh(net: &[u32], j: usize, here: Here) -> Step
-    requires { ⌜ (j < 256) × (2436 ≤ length (now net)) × (1 ≤ here .step .0) ⌝ }
+    requires { ⌜ (j < 256) × (netRoom ≤ length (now net)) × (1 ≤ here .step .0) ⌝ }
     ensures { λ r. ⌜ FreshIs (now (net .entry)) j here (r .0) ⌝ }
 {
     if is_dear(net, j) {

@@ -1,11 +1,11 @@
 // All rows, place by place and step by step.
 use crate::expand::from_links;
+use crate::index::INDEX;
 use crate::index::Span;
 use crate::index::mark_next;
 use crate::index::note;
 use crate::index::rests;
 use crate::network::Here;
-use crate::network::first_step;
 use crate::network::places_of;
 use crate::network::start_of;
 use crate::network::wait_of;
@@ -14,6 +14,7 @@ use crate::rows::clear;
 use crate::rows::clear_from;
 use crate::rows::push_row;
 use crate::select::fill_place;
+use intervals::first_step;
 use sheet::Place;
 use sheet::Step;
 ghost use mathlib.Core.Bool.{true};
@@ -183,7 +184,7 @@ pub fn search_all(table: &mut [u32], net: &[u32], runs: &[u16], last: Step) -> O
     requires { ⌜ (Given (now runs) (now net)) × (last .0 ≤ 255) ⌝ }
     ensures { λ r. ⌜ Result (caseOf (now (runs .entry)) (now (net .entry))) (now (table .exit)) (last .0 + 1) 0 (r .ok) (r .rows) ⌝ }
 {
-    let mut ix = [0; 32896];
+    let mut ix = [0; INDEX];
     let r = first_row(table, &mut ix, net, runs);
     let ok = r.ok;
     let rows = r.rows;

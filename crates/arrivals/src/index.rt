@@ -10,11 +10,21 @@ ghost use mathlib.Core.Path.{_≡_};
 ghost use mathlib.Core.Logic.{_⊎_};
 ghost use Prim.Native.Nat.{_<_, _≤_};
 ghost use lib.ListN.{length};
-ghost use Rattle.arrivals.specs.Inner.Network.{countOf};
-ghost use Rattle.arrivals.specs.Inner.Index.{lowOf, highOf, newestOf, Older, NotedAs};
+ghost use Rattle.arrivals.specs.Inner.Network.{netRoom, countOf};
+ghost use Rattle.arrivals.specs.Inner.Index.{indexRoom, lowOf, highOf, newestOf, Older, NotedAs};
 ghost use Rattle.arrivals.specs.Inner.Due.{MarkedOne, Marked, Rests};
 ghost use Rattle.arrivals.specs.Inner.Chains.{Chained};
 ghost use Rattle.arrivals.specs.Inner.Lent.{Linked};
+
+// The parts of the index: from 0 the first row of each step and place; then the row past the last, with the step before; the step past the rows of each
+// place; the step up to which it may be entered; and its length.
+pub const ENDS: usize = 16384;
+
+pub const NEWEST: usize = 32768;
+
+pub const DUE: usize = 32832;
+
+pub const INDEX: usize = 32896;
 
 // The rows from lo to hi.
 pub struct Span {
@@ -24,31 +34,31 @@ pub struct Span {
 
 // The rows of place v and step s.
 pub fn group(ix: &[u32], v: Place, s: Step) -> Span
-    requires { ⌜ (v .0 < 64) × (s .0 ≤ 255) × (32896 ≤ length (now ix)) ⌝ }
+    requires { ⌜ (v .0 < 64) × (s .0 ≤ 255) × (indexRoom ≤ length (now ix)) ⌝ }
     ensures { λ r. ⌜ (r .lo ≡ lowOf (now (ix .entry)) (s .0) (v .0)) × (r .hi ≡ highOf (now (ix .entry)) (s .0) (v .0)) ⌝ }
 {
     let at = s.0 as usize * 64 + v.0 as usize;
     Span {
         lo: wide(ix[at]),
-        hi: wide(ix[16384 + at] / 512),
+        hi: wide(ix[ENDS + at] / 512),
     }
 }
 
 // The step past the rows of place v.
 pub fn newest(ix: &[u32], v: Place) -> Step
-    requires { ⌜ (v .0 < 64) × (32896 ≤ length (now ix)) ⌝ }
+    requires { ⌜ (v .0 < 64) × (indexRoom ≤ length (now ix)) ⌝ }
     ensures { λ r. ⌜ r .0 ≡ newestOf (now (ix .entry)) (v .0) ⌝ }
 {
-    Step(ix[32768 + v.0 as usize])
+    Step(ix[NEWEST + v.0 as usize])
 }
 
 // The step past the rows of place v before step s, as far as the index shows.
 pub fn older(ix: &[u32], v: Place, s: Step) -> Step
-    requires { ⌜ (v .0 < 64) × (s .0 ≤ 255) × (32896 ≤ length (now ix)) ⌝ }
+    requires { ⌜ (v .0 < 64) × (s .0 ≤ 255) × (indexRoom ≤ length (now ix)) ⌝ }
     ensures { λ r. ⌜ Older (now (ix .entry)) (s .0) (v .0) (r .0) ⌝ }
 {
     let at = s.0 as usize * 64 + v.0 as usize;
-    let packed = ix[16384 + at];
+    let packed = ix[ENDS + at];
     if ix[at] < packed / 512 {
         return Step(packed % 512);
     }
@@ -57,7 +67,7 @@ pub fn older(ix: &[u32], v: Place, s: Step) -> Step
 
 // The step past the rows of place v, or t where that is less.
 pub fn latest(ix: &[u32], v: Place, t: Step) -> Step
-    requires { ⌜ (v .0 < 64) × (32896 ≤ length (now ix)) ⌝ }
+    requires { ⌜ (v .0 < 64) × (indexRoom ≤ length (now ix)) ⌝ }
     ensures { λ r. ⌜ (r .0 ≤ t .0) × ((newestOf (now (ix .entry)) (v .0) ≤ r .0) ⊎ (r .0 ≡ t .0)) ⌝ }
 {
     let s = newest(ix, v);
@@ -69,26 +79,26 @@ pub fn latest(ix: &[u32], v: Place, t: Step) -> Step
 
 // Notes the rows of a span as those of place v and step s.
 pub fn note(ix: &mut [u32], span: Span, v: Place, s: Step)
-    requires { ⌜ (v .0 < 64) × (s .0 ≤ 255) × (32896 ≤ length (now ix)) × (span .lo ≤ span .hi) × (span .hi ≤ 8388607) ⌝ }
+    requires { ⌜ (v .0 < 64) × (s .0 ≤ 255) × (indexRoom ≤ length (now ix)) × (span .lo ≤ span .hi) × (span .hi ≤ 8388607) ⌝ }
     ensures { λ _. ⌜ NotedAs (now (ix .entry)) (now (ix .exit)) (span .lo) (span .hi) (s .0) (v .0) ⌝ }
 {
     let b = latest(ix, v, s);
-    ix[32768 + v.0 as usize] = s.0 + 1;
+    ix[NEWEST + v.0 as usize] = s.0 + 1;
     let at = s.0 as usize * 64 + v.0 as usize;
     ix[at] = span.lo as u32;
-    ix[16384 + at] = span.hi as u32 * 512 + b.0;
+    ix[ENDS + at] = span.hi as u32 * 512 + b.0;
 }
 
 // Is place v to be passed over at step t: the pruning rule covers every corridor into it, no place before it has rows at step t - 1, and its safe
 // interval began before t?
 pub fn rests(ix: &[u32], net: &[u32], v: Place, t: Step, since: Step) -> bool
-    requires { ⌜ (v .0 < 64) × (32896 ≤ length (now ix)) × (2436 ≤ length (now net)) ⌝ }
+    requires { ⌜ (v .0 < 64) × (indexRoom ≤ length (now ix)) × (netRoom ≤ length (now net)) ⌝ }
     ensures { λ r. ⌜ Rests (now (ix .entry)) (now (net .entry)) (v .0) (t .0) (since .0) r ⌝ }
 {
     if since.0 == t.0 {
         return false;
     }
-    if ix[32832 + v.0 as usize] < t.0 {
+    if ix[DUE + v.0 as usize] < t.0 {
         return is_steady(net, v, t);
     }
     false
@@ -96,15 +106,15 @@ pub fn rests(ix: &[u32], net: &[u32], v: Place, t: Step, since: Step) -> bool
 
 // Place v may be entered at step s.
 pub fn mark(ix: &mut [u32], v: Place, s: Step)
-    requires { ⌜ (v .0 < 64) × (32896 ≤ length (now ix)) ⌝ }
+    requires { ⌜ (v .0 < 64) × (indexRoom ≤ length (now ix)) ⌝ }
     ensures { λ _. ⌜ MarkedOne (now (ix .entry)) (now (ix .exit)) (v .0) (s .0) ⌝ }
 {
-    ix[32832 + v.0 as usize] = s.0;
+    ix[DUE + v.0 as usize] = s.0;
 }
 
 // The places that corridors lead to from u may be entered at step s.
 pub fn mark_next(ix: &mut [u32], net: &[u32], u: Place, s: Step)
-    requires { ⌜ (u .0 < 64) × (32896 ≤ length (now ix)) × (Linked (now net)) × (Chained (now net) 0 (countOf (now net))) ⌝ }
+    requires { ⌜ (u .0 < 64) × (indexRoom ≤ length (now ix)) × (Linked (now net)) × (Chained (now net) 0 (countOf (now net))) ⌝ }
     ensures { λ _. ⌜ Marked (now (ix .entry)) (now (ix .exit)) (now (net .entry)) 0 (countOf (now (net .entry))) (u .0) (s .0) ⌝ }
 {
     let mut j = last_link(net, 0, u);

@@ -3,13 +3,10 @@ ghost use mathlib.Core.Path.{_≡_};
 ghost use Rattle.sheet.specs.Store.{sheetIn};
 ghost use Rattle.intervals.specs.FirstSteps.{Derived};
 ghost use Rattle.arrivals.specs.Search.{searchOn, searchEnd};
-ghost use Rattle.arrivals.specs.Inner.OfSheet.{Parts, PartsSearched};
 use crate::fill::fill;
 use crate::lay::lay;
+use crate::network::NETWORK;
 use sheet::Step;
-use sheet::kinds::CORRIDOR;
-use sheet::kinds::FIRST_CORRIDOR;
-use sheet::kinds::HEAD;
 
 pub mod rows; // rows.rt: the rows of the lent table
 pub mod network; // network.rt: what is searched, read by name
@@ -26,28 +23,19 @@ pub struct Searched {
     pub arrivals: usize,
 }
 
-// Searches the leading arrivals of a sheet with this S line, these corridors and these first steps of its free runs.
-fn search_parts(head: &[u32], corridors: &[u32], since: &[u16], table: &mut [u32]) -> Searched
-    requires { ⌜ Parts (now head) (now corridors) (now since) ⌝ }
-    ensures { λ r. ⌜ PartsSearched (now (head .entry)) (now (corridors .entry)) (now (since .entry)) (now (table .entry)) (now (table .exit)) r ⌝ }
-{
-    let mut net = [0; 2436];
-    lay(head, corridors, &mut net);
-    let r = fill(table, &net, since, Step(head[1]));
-    let ok = r.ok;
-    let rows = r.rows;
-    Searched {
-        served: ok,
-        arrivals: rows,
-    }
-}
-
 // Searches the leading arrivals of the sheet in the array, with the first steps of its free runs beside it, into the lent table: a row of place, step and
 // three figures for each, ascending by step, place, cost, then zeros; or zeros alone where there are more of them than room.
 pub fn search(lines: &[u32], all: &[u32], since: &[u16], table: &mut [u32]) -> Searched
     requires { ⌜ Derived (now lines) (now all) (now since) ⌝ }
     ensures { λ r. ⌜ searchEnd r (now (table .exit)) ≡ searchOn (sheetIn (now (lines .entry)) (now (all .entry))) (now (table .entry)) ⌝ }
 {
-    let e = FIRST_CORRIDOR + lines[1] as usize * CORRIDOR;
-    search_parts(&all[..HEAD], &all[FIRST_CORRIDOR..e], since, table)
+    let mut net = [0; NETWORK];
+    lay(lines, all, &mut net);
+    let r = fill(table, &net, since, Step(all[1]));
+    let ok = r.ok;
+    let rows = r.rows;
+    Searched {
+        served: ok,
+        arrivals: rows,
+    }
 }

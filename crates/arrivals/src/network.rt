@@ -8,9 +8,29 @@ ghost use Prim.Native.Nat.{_+_, _*_, _<_, _≤_};
 ghost use lib.ListN.{length};
 ghost use Rattle.sheet.specs.Lists.{numbersFrom};
 ghost use Rattle.costs.specs.Costs.{figures};
-ghost use Rattle.arrivals.specs.Inner.Network.{waitIn, linkOf, linkAt, openb, sinceIn, countOf, placesOf, startOf, dearOf};
+ghost use Rattle.arrivals.specs.Inner.Network.{netRoom, waitIn, linkOf, linkAt, openb, countOf, placesOf, startOf, dearOf};
 ghost use Rattle.arrivals.specs.Inner.Chains.{lastOf, Chained, NextLink};
 ghost use Rattle.arrivals.specs.Inner.Pruning.{SteadyIs};
+
+// The parts of the array: from 0 the costs of waiting; then two chains of corridors; the corridors; their number, that of places and the start; by
+// place and by corridor, whether waiting is dearer where a corridor leads to; and its length.
+pub const CHAINS: usize = 192;
+
+pub const CHAIN: usize = 320;
+
+pub const LINKS: usize = 832;
+
+pub const COUNT: usize = 2112;
+
+pub const PLACES: usize = 2113;
+
+pub const START: usize = 2114;
+
+pub const DEAR_INTO: usize = 2116;
+
+pub const DEAR: usize = 2180;
+
+pub const NETWORK: usize = 2436;
 
 // Where rows are sought and added: a place and a step, the first step of the safe interval of the place that holds the step, and the cost of
 // waiting there.
@@ -36,16 +56,9 @@ pub fn wide(x: u32) -> usize
     x as usize
 }
 
-// A first step as a step.
-pub fn step_from(x: u16) -> Step
-    ensures { λ r. ⌜ r .0 ≡ x ⌝ }
-{
-    Step(x as u32)
-}
-
 // The cost of waiting one step at place v.
 pub fn wait_of(net: &[u32], v: Place) -> [u32; 3]
-    requires { ⌜ (v .0 < 64) × (2436 ≤ length (now net)) ⌝ }
+    requires { ⌜ (v .0 < 64) × (netRoom ≤ length (now net)) ⌝ }
     ensures { λ r. ⌜ r ≡ waitIn (now (net .entry)) (v .0) ⌝ }
 {
     cost_from(net, v.0 as usize * 3)
@@ -53,47 +66,47 @@ pub fn wait_of(net: &[u32], v: Place) -> [u32; 3]
 
 // The number of corridors.
 pub fn count_of(net: &[u32]) -> usize
-    requires { ⌜ 2436 ≤ length (now net) ⌝ }
+    requires { ⌜ netRoom ≤ length (now net) ⌝ }
     ensures { λ r. ⌜ r ≡ countOf (now (net .entry)) ⌝ }
 {
-    wide(net[2112])
+    wide(net[COUNT])
 }
 
 // The number of places.
 pub fn places_of(net: &[u32]) -> u32
-    requires { ⌜ 2436 ≤ length (now net) ⌝ }
+    requires { ⌜ netRoom ≤ length (now net) ⌝ }
     ensures { λ r. ⌜ r ≡ placesOf (now (net .entry)) ⌝ }
 {
-    net[2113]
+    net[PLACES]
 }
 
 // The start.
 pub fn start_of(net: &[u32]) -> Place
-    requires { ⌜ 2436 ≤ length (now net) ⌝ }
+    requires { ⌜ netRoom ≤ length (now net) ⌝ }
     ensures { λ r. ⌜ r .0 ≡ startOf (now (net .entry)) ⌝ }
 {
-    Place(net[2114])
+    Place(net[START])
 }
 
 // Place q of corridor j: 0 is where it comes from, 1 where it leads to.
 pub fn link_end(net: &[u32], j: usize, q: usize) -> Place
-    requires { ⌜ (j < 256) × (q < 2) × (2436 ≤ length (now net)) ⌝ }
+    requires { ⌜ (j < 256) × (q < 2) × (netRoom ≤ length (now net)) ⌝ }
     ensures { λ r. ⌜ r .0 ≡ linkOf (now (net .entry)) q j ⌝ }
 {
-    Place(net[832 + j * 5 + q])
+    Place(net[LINKS + j * 5 + q])
 }
 
 // The cost of corridor j.
 pub fn link_cost(net: &[u32], j: usize) -> [u32; 3]
-    requires { ⌜ (j < 256) × (2436 ≤ length (now net)) ⌝ }
+    requires { ⌜ (j < 256) × (netRoom ≤ length (now net)) ⌝ }
     ensures { λ r. ⌜ r ≡ numbersFrom figures (832 + j * 5 + 2) (now (net .entry)) ⌝ }
 {
-    cost_from(net, 832 + j * 5 + 2)
+    cost_from(net, LINKS + j * 5 + 2)
 }
 
 // May corridor j be departed by at step s? The one place that says which crossings are closed.
 pub fn is_open(net: &[u32], j: usize, s: Step) -> bool
-    requires { ⌜ (j < 256) × (2436 ≤ length (now net)) ⌝ }
+    requires { ⌜ (j < 256) × (netRoom ≤ length (now net)) ⌝ }
     ensures { λ r. ⌜ r ≡ openb (linkAt (now (net .entry)) j) (s .0) ⌝ }
 {
     true
@@ -101,43 +114,35 @@ pub fn is_open(net: &[u32], j: usize, s: Step) -> bool
 
 // Is waiting dearer where corridor j leads to than where it comes from?
 pub fn is_dear(net: &[u32], j: usize) -> bool
-    requires { ⌜ (j < 256) × (2436 ≤ length (now net)) ⌝ }
+    requires { ⌜ (j < 256) × (netRoom ≤ length (now net)) ⌝ }
     ensures { λ r. ⌜ (r ≡ false → dearOf (now (net .entry)) j ≡ 0) ⌝ }
 {
-    net[2180 + j] != 0
+    net[DEAR + j] != 0
 }
 
 // Does the pruning rule cover every corridor into place v at step t by the departure at t - 2?
 pub fn is_steady(net: &[u32], v: Place, t: Step) -> bool
-    requires { ⌜ (v .0 < 64) × (2436 ≤ length (now net)) ⌝ }
+    requires { ⌜ (v .0 < 64) × (netRoom ≤ length (now net)) ⌝ }
     ensures { λ r. ⌜ SteadyIs (now (net .entry)) (v .0) (t .0) r ⌝ }
 {
-    net[2116 + v.0 as usize] == 0
-}
-
-// The first step of the safe interval of place v at step t; above t where v is occupied then.
-pub fn first_step(runs: &[u16], v: Place, t: Step) -> Step
-    requires { ⌜ (v .0 < 64) × (t .0 ≤ 255) × (16384 ≤ length (now runs)) ⌝ }
-    ensures { λ r. ⌜ r .0 ≡ sinceIn (now (runs .entry)) (v .0) (t .0) ⌝ }
-{
-    step_from(runs[v.0 as usize * 256 + t.0 as usize])
+    net[DEAR_INTO + v.0 as usize] == 0
 }
 
 // One more than the last corridor whose place q is v.
 pub fn last_link(net: &[u32], q: usize, v: Place) -> usize
-    requires { ⌜ (q < 2) × (v .0 < 64) × (2436 ≤ length (now net)) ⌝ }
+    requires { ⌜ (q < 2) × (v .0 < 64) × (netRoom ≤ length (now net)) ⌝ }
     ensures { λ r. ⌜ r ≡ lastOf (now (net .entry)) q (v .0) ⌝ }
 {
-    wide(net[192 + q * 320 + v.0 as usize])
+    wide(net[CHAINS + q * CHAIN + v.0 as usize])
 }
 
 // One more than the last corridor before corridor j whose place q is v, as far as the chain shows.
 pub fn next_link(net: &[u32], q: usize, j: usize, v: Place) -> usize
-    requires { ⌜ (q < 2) × (j < 256) × (2436 ≤ length (now net)) × (j < countOf (now net)) × (Chained (now net) q (countOf (now net))) ⌝ }
+    requires { ⌜ (q < 2) × (j < 256) × (netRoom ≤ length (now net)) × (j < countOf (now net)) × (Chained (now net) q (countOf (now net))) ⌝ }
     ensures { λ r. ⌜ NextLink (now (net .entry)) q (v .0) j r ⌝ }
 {
-    if net[832 + j * 5 + q] == v.0 {
-        return wide(net[192 + q * 320 + 64 + j]);
+    if net[LINKS + j * 5 + q] == v.0 {
+        return wide(net[CHAINS + q * CHAIN + 64 + j]);
     }
     j
 }

@@ -1,14 +1,17 @@
 // Costs: three figures, added and compared place by place as one value (document 01, "Lawful journeys"); the cost of a wait and of a crossing.
 ghost use mathlib.Core.Path.{_≡_};
-ghost use Prim.Native.Nat.{_+_, _*_, _%_, _≤_};
-ghost use lib.ListN.{length, take, drop};
-ghost use Rattle.sheet.specs.Lists.{lexb, numbersFrom};
+ghost use Prim.Native.Nat.{_+_, _≤_};
+ghost use lib.ListN.{length};
+ghost use Rattle.sheet.specs.Lists.{numbersFrom};
+ghost use Rattle.sheet.specs.Computed.{lexb};
+ghost use Rattle.sheet.specs.Store.{SomeStore, sheetIn};
 ghost use Rattle.costs.specs.Costs.{figures, add, times, AtMost};
-ghost use Rattle.costs.specs.Priced.{Within, asCrossing, WaitIs, CrossingIs};
-ghost use Rattle.costs.specs.Computed.{atMostb};
-ghost use Rattle.costs.specs.Moves.{costOf};
+ghost use Rattle.costs.specs.Priced.{Within, asCrossing};
+ghost use Rattle.costs.specs.Computed.{atMostb, waitAt, crossingAt};
 use sheet::Place;
 use sheet::Step;
+use sheet::kinds::CORRIDOR;
+use sheet::kinds::FIRST_CORRIDOR;
 
 // A cost, as it is copied into candidates, sums and entries.
 pub type Cost = [u32; 3];
@@ -83,18 +86,18 @@ pub fn cost_from(numbers: &[u32], at: usize) -> [u32; 3]
     ensures { λ r. ⌜ r ≡ numbersFrom figures at (now (numbers .entry)) ⌝ }
 {
     let mut r = [0; 3];
-    for i in 0..3 {
-        r[i] = numbers[at + i];
+    for n in 0..3 {
+        r[n] = numbers[at + n];
     }
     r
 }
 
-// The cost of waiting one step at v, of a sheet whose S line has the numbers head.
-pub fn wait_at(head: &[u32], v: Place) -> [u32; 3]
-    requires { ⌜ length (now head) ≡ 7 ⌝ }
-    ensures { λ r. ⌜ WaitIs (now (head .entry)) v r ⌝ }
+// The cost of waiting one step at v, on the sheet in the array.
+pub fn wait_at(lines: &[u32], all: &[u32], v: Place) -> [u32; 3]
+    requires { ⌜ SomeStore (now lines) (now all) ⌝ }
+    ensures { λ r. ⌜ r ≡ waitAt (sheetIn (now (lines .entry)) (now (all .entry))) v ⌝ }
 {
-    cost_from(head, 4)
+    cost_from(all, 4)
 }
 
 // The cost of a corridor, if there is one.
@@ -103,28 +106,21 @@ pub struct Crossing {
     pub cost: [u32; 3],
 }
 
-// The cost of line k of the corridors.
-pub fn corridor_cost(corridors: &[u32], k: usize) -> [u32; 3]
-    requires { ⌜ (k ≤ 255) × (k * 5 + 5 ≤ length (now corridors)) ⌝ }
-    ensures { λ r. ⌜ r ≡ costOf (take 5 (drop (k * 5) (now (corridors .entry)))) ⌝ }
+// The cost of the corridor from u to v for a cart that departs at step t, on the sheet in the array. The time grows with the corridors.
+pub fn crossing_at(lines: &[u32], all: &[u32], u: Place, v: Place, t: Step) -> Crossing
+    requires { ⌜ SomeStore (now lines) (now all) ⌝ }
+    ensures { λ r. ⌜ asCrossing r ≡ crossingAt (sheetIn (now (lines .entry)) (now (all .entry))) u v t ⌝ }
 {
-    cost_from(corridors, k * 5 + 2)
-}
-
-// The cost of the corridor from u to v for a cart that departs at step t, of a sheet with these corridors.
-pub fn crossing_at(corridors: &[u32], u: Place, v: Place, t: Step) -> Crossing
-    requires { ⌜ (length (now corridors) ≤ 1280) × (length (now corridors) % 5 ≡ 0) ⌝ }
-    ensures { λ r. ⌜ CrossingIs (now (corridors .entry)) u v t (asCrossing r) ⌝ }
-{
-    let n = corridors.len() / 5;
+    let n = lines[1] as usize;
     let from = u.0;
     let to = v.0;
     let mut k = 0;
     while k < n {
-        if (corridors[k * 5] == from) & (corridors[k * 5 + 1] == to) {
+        let at = FIRST_CORRIDOR + k * CORRIDOR;
+        if (all[at] == from) & (all[at + 1] == to) {
             return Crossing {
                 open: true,
-                cost: corridor_cost(corridors, k),
+                cost: cost_from(all, at + 2),
             };
         }
         k += 1;

@@ -4,16 +4,16 @@ use mathlib.Core.List.{List}
 use Prim.Native.Nat.{ℕ, _+_, _*_, _≤_, _<_, _%_}
 use lib.ListN.{length}
 use Rattle.sheet.specs.Lists.{_∈_, number}
-use Rattle.sheet.specs.Kinds.{kindO}
+use Rattle.sheet.specs.Kinds.{width, room, kindO}
 use Rattle.sheet.specs.Sheet.{Sheet, placeOf, last}
 use Rattle.sheet.specs.Calls.{groupRows}
-use Rattle.sheet.specs.Store.{StoreOf, partOf}
+use Rattle.sheet.specs.Store.{StoreOf, SomeStore, partOf}
 use Rattle.intervals.specs.Computed.{sinceOf}
 
 -- whole lines, at most 256, of places below 64 and steps up to 255
 pub record ValidGroup (occupancies : List ℕ) : Type 0 where
-  pub most : length occupancies ≤ 768
-  pub whole : length occupancies % 3 ≡ 0
+  pub most : length occupancies ≤ room kindO
+  pub whole : length occupancies % width kindO ≡ 0
   pub place : (o : List ℕ) → o ∈ groupRows kindO occupancies → placeOf o < 64
   pub step : (o : List ℕ) → o ∈ groupRows kindO occupancies → last o ≤ 255
 
@@ -27,3 +27,6 @@ pub record Derived (lines all since : List ℕ) : Type 0 where
   pub sheet : Sheet
   pub store : StoreOf sheet lines all
   pub firsts : SinceTable (partOf lines all 2) since
+
+abbrev pub some-derived : {lines all since : List ℕ} → Derived lines all since → SomeStore lines all
+some-derived d = record { sheet = d .sheet; store = d .store }

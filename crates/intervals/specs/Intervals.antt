@@ -33,12 +33,6 @@ pub record Interval (s : Sheet) (v a b : ℕ) : Type 0 where
   pub no-sooner : (a ≡ 0) ⊎ (freeb s v (a - 1) ≡ false)
   pub no-longer : (b ≡ steps s) ⊎ (freeb s v (b + 1) ≡ false)
 
--- the steps t and t′ are in one safe interval of v
-pub record Together (s : Sheet) (v t t′ : ℕ) : Type 0 where
-  pub first-step : ℕ
-  pub last-step : ℕ
-  pub interval : Interval s v first-step last-step
-  pub t-from : first-step ≤ t
-  pub t-to : t ≤ last-step
-  pub t′-from : first-step ≤ t′
-  pub t′-to : t′ ≤ last-step
+-- the steps t and t′ are in one safe interval of v, from a to b
+abbrev pub Together : Sheet → ℕ → ℕ → ℕ → Type 0
+Together s v t t′ = (a : ℕ) × (b : ℕ) × Interval s v a b × (a ≤ t) × (t ≤ b) × (a ≤ t′) × (t′ ≤ b)

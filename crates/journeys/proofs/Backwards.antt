@@ -1,28 +1,41 @@
 -- The walk back as a whole: it begins at the goal with the front cost, each step back keeps what it has shown, and at step 0 the places written are
 -- the journey that the tie rule selects.
 -- Assumes nothing.
-use mathlib.Core.Path.{_≡_, refl, sym, _∙_, ap, subst}
+use mathlib.Core.Path.{_≡_, refl, sym, _∙_, ap, ap₂, subst}
 use mathlib.Core.List.{List, [], _∷_, _++_, reverse, reverse-append, append-nil}
 use Prim.Native.Nat.{ℕ, suc, _+_, _-_, _≤_, _<_}
 use native.Mathlib.Omega.{arith}
-use lib.ListN.{length, set}
-use lib.Seq.{sets, set-comm}
-use Rattle.sheet.specs.Lists.{number}
-use Rattle.sheet.specs.Sheet.{Sheet, places, goal}
+use lib.ListN.{length, set, take, drop, replicate}
+use lib.Seq.{sets, set-comm, sets-eq, length-sets, take-at}
+use Rattle.sheet.specs.Lists.{filled}
+use Rattle.sheet.specs.Sheet.{Sheet, goal}
+use Rattle.sheet.specs.Store.{sheetIn}
+use Rattle.sheet.specs.Valid.{Valid}
+use Rattle.sheet.specs.Laws.Store.{store-valid}
 use Rattle.costs.specs.Costs.{Cost, zeroCost}
 use Rattle.costs.specs.Laws.Figures.{zero-right}
-use Rattle.arrivals.specs.Arrivals.{arrival, Arrives}
+use Rattle.intervals.specs.Intervals.{Free}
+use Rattle.arrivals.specs.Arrivals.{Arrival, Arrives}
+use Rattle.arrivals.specs.Computed.{arrival}
 use Rattle.arrivals.specs.Laws.Trails.{Begins, Trail}
 use Rattle.arrivals.specs.Laws.Leading.{arrives-free, arrives-came}
 use Rattle.arrivals.specs.Laws.Bounds.{move-once}
 use Rattle.journeys.specs.Computed.{journeyOf}
-use Rattle.journeys.specs.Inner.{Walks, Walkable, WalkIs}
-use Rattle.journeys.specs.Inner.Walk.{Readable, LowestStep, BeforeIs, CameTo, Walked}
-use Rattle.journeys.specs.declared.walk.Back.{Back}
-use Rattle.journeys.specs.Laws.Journeys.{has-three}
+use Rattle.journeys.specs.Held.{Layable}
+use Rattle.journeys.specs.Inner.Walk.{OnWay, Walkable, Lowest}
+use Rattle.journeys.specs.Laws.Journeys.{has-three, journey-length}
 use Rattle.journeys.specs.Laws.Goal.{Earliest, arrivalOf-earliest}
 use Rattle.journeys.specs.Laws.Tie.{Chain, chain-start, chain-back, chain-end, best-journeyOf}
-use Rattle.journeys.proofs.Stepping.{steps-way}
+use Rattle.journeys.proofs.Stepping.{precedes-way}
+
+-- the walk has come back to a: the best way to a goes on by the places chosen to the goal, and those after a's step are written
+pub record CameTo (s : Sheet) (A : ℕ) (f : Cost) (a : Arrival) (path path′ : List ℕ) : Type 0 where
+  pub on-way : OnWay s a
+  pub chosen : List ℕ
+  pub chain : Chain s A f (a .place) (a .step) (a .cost) chosen
+  pub after : List ℕ
+  pub ends : reverse (goal s ∷ chosen) ≡ a .place ∷ after
+  pub written : path′ ≡ sets path (suc (a .step)) after
 
 -- a store below a run of stores
 set-below : (q l : List ℕ) (i t u : ℕ) → t < i → set (sets l i q) t u ≡ sets (set l t u) i q
@@ -36,102 +49,87 @@ begins-at s v g a = let k = arrives-came s (arrival v 0 g) a in go (k .before) (
     go [] w e = w
     go (u ∷ p) w e = absurd (omega arith)
 
-module _ (head corridors : List ℕ) (n : ℕ) (table since : List ℕ) (A : ℕ) (f : Cost) (s : Sheet) (k : Walks head corridors n table since A f s) (path : List ℕ) where
-  earliest : Earliest s f A
-  earliest = subst (Earliest s f) (sym (k .arrives-at)) (arrivalOf-earliest s f (k .on-front .has))
+module _ {lines all since : List ℕ} {n : ℕ} {table : List ℕ} {A : ℕ} {f : Cost} {path : List ℕ} (k : Layable lines all since n table A f path) where
+  valid : Valid (sheetIn lines all)
+  valid = store-valid (k .derived .store)
 
-  pub in-day : A ≤ 255
-  in-day = omega (arith, earliest .there .arrives .in-time, k .valid .most-steps)
+  earliest : Earliest (sheetIn lines all) f A
+  earliest = subst (Earliest (sheetIn lines all) f) (sym (k .arrives-at)) (arrivalOf-earliest (sheetIn lines all) f (k .on-front .has))
 
-  pub come-start : CameTo s A f (goal s) A f path path
-  come-start =
-      let z : 0 + A ≡ A = omega arith in
-      record {
+  pub walkable : {a : Arrival} {path′ : List ℕ} → CameTo (sheetIn lines all) A f a path path′ → 0 < a .step → Walkable lines all since n table a
+  walkable x h = record { derived = k .derived; holds = k .holds; on-way = x .on-way; moved = h }
+
+  pub come-start : (v : ℕ) → v ≡ goal (sheetIn lines all) → CameTo (sheetIn lines all) A f (arrival v A f) path path
+  come-start v e =
+      subst (λ (v : ℕ). CameTo (sheetIn lines all) A f (arrival v A f) path path) (sym e)
+      (record {
         on-way =
             record {
+              front-cost = f;
+              on-front = k .on-front;
+              arrives-at = A;
               arrives = earliest .there .arrives;
               towards =
                   record {
                     places = [];
                     price = zeroCost;
                     rest = record { ends = record { place = refl; counts = earliest .there .counts }; nothing = refl };
-                    until = z;
-                    sum = zero-right f (has-three s f (k .on-front .has));
+                    until = omega arith;
+                    sum = zero-right f (has-three (sheetIn lines all) f (k .on-front .has));
                   };
-              place = k .valid .goal-place;
+              place = valid .goal-place;
             };
         chosen = [];
-        chain = chain-start s A f;
+        chain = chain-start (sheetIn lines all) A f;
         after = [];
         ends = refl;
         written = refl;
-      }
+      })
 
-  pub come-step : (v t : ℕ) (h : Cost) (path′ : List ℕ) (u : ℕ) (g : Cost) → CameTo s A f v (suc t) h path path′ → LowestStep s v t h u g → CameTo s A f u t g path (set path′ (suc t) v)
-  come-step v t h path′ u g x l =
-      let y = l .steps in
-      let c = y .price in
+  pub come-step : (b : Arrival) {path′ : List ℕ} (a : Arrival) → CameTo (sheetIn lines all) A f b path path′ → Lowest (sheetIn lines all) a b
+      → CameTo (sheetIn lines all) A f a path (set path′ (b .step) (b .place))
+  come-step b {path′} a x l =
+      let s = sheetIn lines all in
+      let y = l .precedes in
+      let free : Free s (b .place) (suc (a .step)) = subst (Free s (b .place)) (y .later) (arrives-free s b (x .on-way .arrives)) in
+      let chain : Chain s A f (b .place) (suc (a .step)) (b .cost) (x .chosen) = subst (λ (t : ℕ). Chain s A f (b .place) t (b .cost) (x .chosen)) (y .later) (x .chain) in
       record {
-        on-way = steps-way head corridors n table since s f A k v t h (x .on-way) u g y;
-        chosen = x .chosen ++ (u ∷ []);
+        on-way = precedes-way valid (x .on-way) a y;
+        chosen = x .chosen ++ (a .place ∷ []);
         chain =
-            chain-back s A f u v t g c (x .chosen) (move-once s (k .valid)) (x .on-way .arrives .in-time)
-            (subst (λ (m : Cost). Chain s A f v (suc t) m (x .chosen)) (sym (y .sum)) (x .chain))
+            chain-back s A f (a .place) (b .place) (a .step) (a .cost) (y .price) (x .chosen) (move-once s valid) (omega (arith, y .later, x .on-way .arrives .in-time))
+            (subst (λ (m : Cost). Chain s A f (b .place) (suc (a .step)) m (x .chosen)) (sym (y .sum)) chain)
             (y .move)
-            (arrives-free s (arrival v (suc t) h) (x .on-way .arrives))
-            (λ a b d r m e. l .least a b (record { price = d; arrives = r; move = m; sum = e ∙ y .sum }));
-        after = v ∷ x .after;
-        ends = reverse-append (goal s ∷ x .chosen) (u ∷ []) ∙ ap (λ (m : List ℕ). u ∷ m) (x .ends);
-        written = ap (λ (m : List ℕ). set m (suc t) v) (x .written) ∙ set-below (x .after) path (suc (suc t)) (suc t) v (omega arith);
+            free
+            (λ v g d r m e. l .least (arrival v (a .step) g) (record { arrives = r; price = d; move = m; later = y .later; sum = e ∙ y .sum }));
+        after = b .place ∷ x .after;
+        ends = reverse-append (goal s ∷ x .chosen) (a .place ∷ []) ∙ ap (λ (m : List ℕ). a .place ∷ m) (x .ends);
+        written =
+            ap (λ (m : List ℕ). set m (b .step) (b .place)) (x .written)
+            ∙ set-below (x .after) path (suc (b .step)) (b .step) (b .place) (omega arith)
+            ∙ ap (λ (i : ℕ). sets (set path i (b .place)) (suc i) (x .after)) (y .later);
       }
 
-  pub come-end : (v : ℕ) (h : Cost) (path′ : List ℕ) → CameTo s A f v 0 h path path′ → set path′ 0 v ≡ sets path 0 (journeyOf s f)
-  come-end v h path′ x =
-      let b = chain-end s A f v h (x .chosen) (begins-at s v h (x .on-way .arrives)) (x .chain) in
+  pub come-end : (a : Arrival) {path′ : List ℕ} → CameTo (sheetIn lines all) A f a path path′ → a .step ≤ 0 → set path′ 0 (a .place) ≡ sets path 0 (journeyOf (sheetIn lines all) f)
+  come-end a {path′} x l =
+      let s = sheetIn lines all in
+      let z : a .step ≡ 0 = omega arith in
+      let first : Arrives s (arrival (a .place) 0 (a .cost)) = subst (λ (t : ℕ). Arrives s (arrival (a .place) t (a .cost))) z (x .on-way .arrives) in
+      let chain : Chain s A f (a .place) 0 (a .cost) (x .chosen) = subst (λ (t : ℕ). Chain s A f (a .place) t (a .cost) (x .chosen)) z (x .chain) in
+      let b = chain-end s A f (a .place) (a .cost) (x .chosen) (begins-at s (a .place) (a .cost) first) chain in
       let e : journeyOf s f ≡ reverse (goal s ∷ (x .chosen ++ [])) =
       best-journeyOf s A f (x .chosen ++ []) (earliest .there .counts) b (λ t l a. omega (arith, earliest .none-sooner t a)) in
-      ap (λ (m : List ℕ). set m 0 v) (x .written)
-      ∙ set-below (x .after) path 1 0 v (omega arith)
+      ap (λ (m : List ℕ). set m 0 (a .place)) (x .written ∙ ap (λ (t : ℕ). sets path (suc t) (x .after)) z)
+      ∙ set-below (x .after) path 1 0 (a .place) (omega arith)
       ∙ ap (sets path 0) (sym (x .ends) ∙ ap (λ (m : List ℕ). reverse (goal s ∷ m)) (sym (append-nil (x .chosen))) ∙ sym e)
 
--- what the code keeps, for every sheet that it can be reading
-module _ {head corridors : List ℕ} {n : ℕ} {table since : List ℕ} {A : ℕ} {f : Cost} where
-  pub readable : {path : List ℕ} → Walkable head corridors n table since A f path → Readable head corridors n table since
-  readable k =
-      record {
-        sheet = k .sheet;
-        valid = k .walks .valid;
-        head-is = k .walks .head-is;
-        corridors-are = k .walks .corridors-are;
-        whole = k .walks .whole;
-        room = k .walks .holds .room;
-        since-room = k .walks .since-room;
-      }
-
-  pub arrives-in-day : {path : List ℕ} → Walkable head corridors n table since A f path → A ≤ 255
-  arrives-in-day {path} k = in-day head corridors n table since A f (k .sheet) (k .walks) path
-
-  pub walked-start : (path : List ℕ) → Walked head corridors n table since A f (number head 3) A f path path
-  walked-start path =
-      record {
-        of = λ s k.
-            subst (λ (l : List ℕ). CameTo s A f (number l 3) A f path path) (k .head-is) (come-start head corridors n table since A f s k path);
-      }
-
-  pub walked-step : {v t : ℕ} {h : Cost} {path path′ : List ℕ} (b : Back) → Walked head corridors n table since A f v t h path path′ → 0 < t
-      → BeforeIs head corridors n table since v (t - 1) h b → Walked head corridors n table since A f (b .place) (t - 1) (b .cost) path (set path′ t v)
-  walked-step {v} {t} {h} {path} {path′} b w l q =
-      record {
-        of = λ s k.
-            let x : CameTo s A f v (suc (t - 1)) h path path′ = subst (λ (i : ℕ). CameTo s A f v i h path path′) (sym e) (w .of s k) in
-            subst (λ (i : ℕ). CameTo s A f (b .place) (t - 1) (b .cost) path (set path′ i v)) e
-            (come-step head corridors n table since A f s k path v (t - 1) h path′ (b .place) (b .cost) x (q .of s f A k (x .on-way)));
-      }
-    where
-      e : suc (t - 1) ≡ t
-      e = omega arith
-
-  pub walked-end : {v t : ℕ} {h : Cost} {path path′ : List ℕ} → Walked head corridors n table since A f v t h path path′ → t ≤ 0 → WalkIs head corridors n table since A f path (set path′ 0 v)
-  walked-end {v} {t} {h} {path} {path′} w l =
-      let z : t ≡ 0 = omega arith in
-      record { of = λ s k. come-end head corridors n table since A f s k path v h path′ (subst (λ (i : ℕ). CameTo s A f v i h path path′) z (w .of s k)) }
+  -- zeros past the path
+  pub laid : (p : List ℕ) → p ≡ sets path 0 (journeyOf (sheetIn lines all) f)
+      → take (A + 1) p ++ replicate (length p - (A + 1)) 0 ≡ filled (length path) (journeyOf (sheetIn lines all) f)
+  laid p e =
+      let j = journeyOf (sheetIn lines all) f in
+      let l : length j ≡ A + 1 = omega (arith, journey-length (sheetIn lines all) f (k .on-front .has), k .arrives-at) in
+      let q : 0 + length j ≤ length path = omega (arith, l, k .room) in
+      let s : p ≡ j ++ drop (0 + length j) path = e ∙ sets-eq j path 0 q in
+      let z : length p - (A + 1) ≡ length path - length j = omega (arith, ap (λ (x : List ℕ). length x) e, length-sets path 0 j, l) in
+      ap₂ (λ (a : List ℕ) (i : ℕ). a ++ replicate i 0) (ap (take (A + 1)) s ∙ take-at j (drop (0 + length j) path) (A + 1) l) z

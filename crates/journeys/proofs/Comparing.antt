@@ -11,7 +11,8 @@ use native.Mathlib.Numerals.{add-one}
 use lib.Dec.{eqb, ltb}
 use lib.ListN.{length, getD}
 use borrow.Author.Tests.{eqb-true, eqb-false, eq-eqb, ltb-true, lt-ltb, not-true}
-use Rattle.sheet.specs.Lists.{_∈_, keep, all, filter, Lex, lexb}
+use Rattle.sheet.specs.Lists.{_∈_, keep, all, filter, Lex}
+use Rattle.sheet.specs.Computed.{lexb}
 use Rattle.sheet.specs.Sorting.{Ascending, sortUnique}
 use Rattle.sheet.specs.Laws.Order.{and-true, true-and, Lex-irrefl, lexb-true, Lex-lexb}
 use Rattle.sheet.specs.Laws.Members.{filter-mem, mem-filter, map-mem, all-true, true-all}
@@ -262,7 +263,7 @@ module _ (v last n : ℕ) (xs : List ℕ) where
   unfolding c
   before-row i h = counted-rows false (costAt xs (getD (frontList v last n xs) i 0)) ∙ position (costAt xs) (frontList v last n xs) i rows-ascend h
 
-  pub slow-on : (i k : ℕ) (o : Offered) → k < n → hasNumber v last n xs i k ≡ true → o .found ≡ true → o .cost ≡ costAt xs k → o .step ≡ rowAt xs k .step → NumberIs (goalRows v last n xs) i o
+  pub slow-on : (i k : ℕ) (o : Offered) → k < n → hasNumber v last n xs i k ≡ true → o .found ≡ true → o .cost ≡ costAt xs k → o .step .0 ≡ rowAt xs k .step → NumberIs (goalRows v last n xs) i o
   slow-on i k o h b t g s =
       let f = and-true (isFrontRow v last n xs k) (eqb (countTo v last n xs false (costAt xs k) n) i) b in
       let p = at-position (frontList v last n xs) k (front-in k h (f .0)) in

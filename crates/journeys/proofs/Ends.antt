@@ -8,12 +8,11 @@ use mathlib.Core.List.{List, [], _∷_, _++_}
 use Prim.Native.Nat.{ℕ, suc, _-_, _≤_, _<_}
 use native.Mathlib.Omega.{arith}
 use lib.ListN.{length, getD, take, replicate}
-use lib.Seq.{getD-take}
 use borrow.Author.Tests.{lt-ltb, le-ltb, lt-leb, le-leb}
-use Rattle.sheet.specs.Lists.{_∈_, number, filled, bind}
+use Rattle.sheet.specs.Lists.{_∈_, filled, bind}
 use Rattle.sheet.specs.Sheet.{Sheet, readOf, goal, steps}
 use Rattle.sheet.specs.Store.{sheetIn, VerdictIs}
-use Rattle.sheet.specs.Laws.Store.{store-head, store-sheet}
+use Rattle.sheet.specs.Laws.Store.{store-sheet}
 use Rattle.sheet.specs.declared.reader.Verdict.{Verdict}
 use Rattle.costs.specs.Costs.{Cost}
 use Rattle.intervals.specs.FirstSteps.{Derived}
@@ -33,10 +32,6 @@ use Rattle.journeys.specs.Laws.Served.{member}
 use Rattle.journeys.specs.Laws.Holds.{holds-front, holds-step}
 use Rattle.journeys.specs.Laws.Searched.{Ready}
 
--- the goal and the last step, as the code reads them off the array
-pub head-at : {lines all since : List ℕ} → Derived lines all since → (i : ℕ) → i < 7 → number all i ≡ number (sheetIn lines all .head) i
-head-at {lines} {all} d i h = sym (getD-take 7 all i 0 h) ∙ ap (λ (l : List ℕ). number l i) (store-head (d .store))
-
 -- a lent array, cleared from its start
 pub cleared-all : (table table′ : List ℕ) → length table′ ≡ length table → take 0 table′ ++ replicate (length table′ - 0) 0 ≡ cleared table
 cleared-all table table′ e = rw e
@@ -46,7 +41,7 @@ bind-same [] f g h = refl
 bind-same (x ∷ l) f g h = ap₂ (λ (p q : List ℕ). p ++ q) (h x (inl refl)) (bind-same l f g (λ y m. h y (inr m)))
 
 -- the arrivals at the goal, off a table that is ready; v and last are the goal and the last step of the sheet
-module _ (s : Sheet) (table table′ : List ℕ) (n : ℕ) (p : Ready s table table′ n) (v last : ℕ) (a : v ≡ goal s) (b : last ≡ steps s) where
+module _ {s : Sheet} {table table′ : List ℕ} {n : ℕ} (p : Ready s table table′ n) {v last : ℕ} (a : v ≡ goal s) (b : last ≡ steps s) where
   abbrev offers : List Arrival
   offers = goalRows v last n table′
 
@@ -65,25 +60,25 @@ module _ (s : Sheet) (table table′ : List ℕ) (n : ℕ) (p : Ready s table ta
       ∙ bind-same (front s) (λ g. g ++ (firstStep g offers ∷ [])) (frontRow s) (λ g m. ap (λ (i : ℕ). g ++ (i ∷ [])) (step-off g m))
 
   -- the front, by the count of its costs
-  module _ (list : List ℕ) (costs : ℕ) (counted : costs ≡ length (frontOf (costsOf offers))) where
+  module _ (list : List ℕ) {costs : ℕ} (counted : costs ≡ length (frontOf (costsOf offers))) where
     pub counts : costs ≡ length (front s)
     counts = counted ∙ ap length front-off
 
-    pub front-nine : (r : FrontAnswer) (t : List ℕ) → r ≡ frontRefused [] [] 9 0 .answer → t ≡ take 0 table′ ++ replicate (length table′ - 0) 0
+    pub front-nine : {r : FrontAnswer} {t : List ℕ} → r ≡ frontRefused [] [] 9 0 .answer → t ≡ take 0 table′ ++ replicate (length table′ - 0) 0
         → frontRoom (length list) < costs → frontEnd r t list ≡ frontOn s table list
     unfolding frontOn overfull
-    front-nine r t e f h =
+    front-nine e f h =
         ap₂ (λ (x : FrontAnswer) (y : List ℕ). frontEnd x y list) e (f ∙ cleared-all table table′ (p .same-length))
         ∙ sym (rw (p .room, lt-ltb (frontRoom (length list)) (length (front s)) (omega (arith, h, counts))))
 
-    pub front-end : (l : List ℕ) → l ≡ filled (length list) (offeredRows offers) → costs ≤ frontRoom (length list)
+    pub front-end : {l : List ℕ} → l ≡ filled (length list) (offeredRows offers) → costs ≤ frontRoom (length list)
         → frontEnd (record { refusal = 0; line = 0; costs = costs; arrivals = n }) table′ l ≡ frontOn s table list
     unfolding frontOn overfull frontServed
-    front-end l e h =
+    front-end e h =
         sym (rw (p .room, le-ltb (frontRoom (length list)) (length (front s)) (omega (arith, h, counts)), ← counts, ← p .counted, ← p .filled-table, ← rows-off, ← e))
 
   -- the cost with a number in the front
-  module _ (i : ℕ) (o : Offered) (h : NumberIs offers i o) where
+  module _ {i : ℕ} {o : Offered} (h : NumberIs offers i o) where
     found-off : o .found ≡ false → length (front s) ≤ i
     found-off t = omega (arith, h .off t, ap (λ (l : List Cost). length l) front-off)
 
@@ -97,68 +92,61 @@ module _ (s : Sheet) (table table′ : List ℕ) (n : ℕ) (p : Ready s table ta
       listed : o .cost ∈ front s
       listed = subst (λ (g : Cost). g ∈ front s) (sym cost-is) (member (front s) i below)
 
-      step-is : o .step ≡ arrivalOf s (o .cost)
+      step-is : o .step .0 ≡ arrivalOf s (o .cost)
       step-is = h .on t .2 ∙ step-off (o .cost) listed
 
       on : OnFront s (o .cost)
       on = front-on s (o .cost) listed
 
-      journey-long : length (journeyOf s (o .cost)) ≡ suc (o .step)
+      journey-long : length (journeyOf s (o .cost)) ≡ suc (o .step .0)
       journey-long = journey-length s (o .cost) (on .has) ∙ ap suc (sym step-is)
 
     module _ (path : List ℕ) where
-      pub journey-ten : (r : JourneyAnswer) (t : List ℕ) → r ≡ journeyRefused [] [] 10 0 .answer → t ≡ cleared table′ → o .found ≡ false
+      pub journey-ten : {r : JourneyAnswer} {t : List ℕ} → r ≡ journeyRefused [] [] 10 0 .answer → t ≡ cleared table′ → o .found ≡ false
           → journeyEnd r t path ≡ journeyOn s i table path
       unfolding journeyOn
-      journey-ten r t e f z =
+      journey-ten e f z =
           ap₂ (λ (x : JourneyAnswer) (y : List ℕ). journeyEnd x y path) e (f ∙ ap (λ (m : ℕ). filled m []) (p .same-length))
           ∙ sym (rw (p .room, le-leb (length (front s)) i (found-off z)))
 
-      pub journey-eleven : (r : JourneyAnswer) (t : List ℕ) → r ≡ journeyRefused [] [] 11 0 .answer → t ≡ cleared table′ → o .found ≡ true → length path ≤ o .step
+      pub journey-eleven : {r : JourneyAnswer} {t : List ℕ} → r ≡ journeyRefused [] [] 11 0 .answer → t ≡ cleared table′ → o .found ≡ true → length path ≤ o .step .0
           → journeyEnd r t path ≡ journeyOn s i table path
       unfolding journeyOn tooShort
-      journey-eleven r t e f z l =
+      journey-eleven e f z l =
           ap₂ (λ (x : JourneyAnswer) (y : List ℕ). journeyEnd x y path) e (f ∙ ap (λ (m : ℕ). filled m []) (p .same-length))
           ∙ sym (rw (p .room, lt-leb (length (front s)) i (below z), ← cost-is z, lt-ltb (length path) (length (journeyOf s (o .cost))) (omega (arith, l, journey-long z))))
 
-      pub journey-end : (l : List ℕ) → o .found ≡ true → o .step < length path → l ≡ filled (length path) (journeyOf s (o .cost))
-          → journeyEnd (record { refusal = 0; line = 0; cost = o .cost; arrival = o .step }) table′ l ≡ journeyOn s i table path
+      pub journey-end : {l : List ℕ} → o .found ≡ true → o .step .0 < length path → l ≡ filled (length path) (journeyOf s (o .cost))
+          → journeyEnd (record { refusal = 0; line = 0; cost = o .cost; arrival = o .step .0 }) table′ l ≡ journeyOn s i table path
       unfolding journeyOn tooShort journeyServed
-      journey-end l z m e =
+      journey-end z m e =
           sym
           (rw
           (p .room, lt-leb (length (front s)) i (below z), ← cost-is z, le-ltb (length path) (length (journeyOf s (o .cost))) (omega (arith, m, journey-long z)), ← step-is z, ← p .filled-table, ← e))
 
 -- a search without room
-pub front-eight : (s : Sheet) (table list : List ℕ) (r : FrontAnswer) (t : List ℕ) → r ≡ frontRefused [] [] 8 0 .answer → t ≡ cleared table → crowded s (length table) ≡ true
+pub front-eight : (s : Sheet) (table list : List ℕ) {r : FrontAnswer} {t : List ℕ} → r ≡ frontRefused [] [] 8 0 .answer → t ≡ cleared table → crowded s (length table) ≡ true
     → frontEnd r t list ≡ frontOn s table list
 unfolding frontOn
-front-eight s table list r t e f c = ap₂ (λ (x : FrontAnswer) (y : List ℕ). frontEnd x y list) e f ∙ sym (rw c)
+front-eight s table list e f c = ap₂ (λ (x : FrontAnswer) (y : List ℕ). frontEnd x y list) e f ∙ sym (rw c)
 
-pub journey-eight : (s : Sheet) (i : ℕ) (table path : List ℕ) (r : JourneyAnswer) (t : List ℕ) → r ≡ journeyRefused [] [] 8 0 .answer → t ≡ cleared table
+pub journey-eight : (s : Sheet) (i : ℕ) (table path : List ℕ) {r : JourneyAnswer} {t : List ℕ} → r ≡ journeyRefused [] [] 8 0 .answer → t ≡ cleared table
     → crowded s (length table) ≡ true → journeyEnd r t path ≡ journeyOn s i table path
 unfolding journeyOn
-journey-eight s i table path r t e f c = ap₂ (λ (x : JourneyAnswer) (y : List ℕ). journeyEnd x y path) e f ∙ sym (rw c)
+journey-eight s i table path e f c = ap₂ (λ (x : JourneyAnswer) (y : List ℕ). journeyEnd x y path) e f ∙ sym (rw c)
 
 -- the path of a cost that was found
-pub layable : {lines all since : List ℕ} (d : Derived lines all since) (table table′ : List ℕ) (n : ℕ) (p : Ready (sheetIn lines all) table table′ n) (v last : ℕ)
-    (a : v ≡ goal (sheetIn lines all)) (b : last ≡ steps (sheetIn lines all)) (i : ℕ) (o : Offered) → NumberIs (goalRows v last n table′) i o → (path : List ℕ)
-    → o .found ≡ true → o .step < length path → Layable lines all since n table′ (o .step) (o .cost) path
-layable {lines} {all} d table table′ n p v last a b i o h path t l =
-    let s = sheetIn lines all in
-    record {
-      derived = d;
-      holds = p .holds;
-      on-front = on s table table′ n p v last a b i o h t;
-      arrives-at = step-is s table table′ n p v last a b i o h t;
-      room = omega (arith, l);
-    }
+pub layable : {lines all since : List ℕ} → Derived lines all since → {table table′ : List ℕ} {n : ℕ} (p : Ready (sheetIn lines all) table table′ n) {v last : ℕ}
+    (a : v ≡ goal (sheetIn lines all)) (b : last ≡ steps (sheetIn lines all)) {i : ℕ} {o : Offered} → NumberIs (goalRows v last n table′) i o → (path : List ℕ)
+    → o .found ≡ true → o .step .0 < length path → Layable lines all since n table′ (o .step .0) (o .cost) path
+layable d p a b h path t l =
+    record { derived = d; holds = p .holds; on-front = on p a b h t; arrives-at = step-is p a b h t; room = omega (arith, l) }
 
 -- a call on bytes that were not read, or that read as the sheet in the array
-module _ (b : List ℕ) {lines all : List ℕ} (v : Verdict) (q : VerdictIs (readOf b) lines all v) where
-  pub front-unread : (table list : List ℕ) (r : FrontAnswer) → r ≡ frontRefused [] [] (v .refusal) (v .line) .answer → (v .refusal ≡ 0 → ⊥) → frontEnd r table list ≡ frontCall b table list
+module _ (b : List ℕ) {lines all : List ℕ} {v : Verdict} (q : VerdictIs (readOf b) lines all v) where
+  pub front-unread : (table list : List ℕ) {r : FrontAnswer} → r ≡ frontRefused [] [] (v .refusal) (v .line) .answer → (v .refusal ≡ 0 → ⊥) → frontEnd r table list ≡ frontCall b table list
   unfolding frontCall
-  front-unread table list r e z = ap (λ (x : FrontAnswer). frontEnd x table list) e ∙ sym (rw (q .refuses z))
+  front-unread table list e z = ap (λ (x : FrontAnswer). frontEnd x table list) e ∙ sym (rw (q .refuses z))
 
   pub front-read : (table list : List ℕ) → v .refusal ≡ 0 → frontOn (sheetIn lines all) table list ≡ frontCall b table list
   unfolding frontCall
@@ -166,10 +154,10 @@ module _ (b : List ℕ) {lines all : List ℕ} (v : Verdict) (q : VerdictIs (rea
       let h = q .holds z in
       ap (λ (s : Sheet). frontOn s table list) (store-sheet (h .2)) ∙ sym (rw (h .1))
 
-  pub journey-unread : (i : ℕ) (table path : List ℕ) (r : JourneyAnswer) → r ≡ journeyRefused [] [] (v .refusal) (v .line) .answer → (v .refusal ≡ 0 → ⊥)
+  pub journey-unread : (i : ℕ) (table path : List ℕ) {r : JourneyAnswer} → r ≡ journeyRefused [] [] (v .refusal) (v .line) .answer → (v .refusal ≡ 0 → ⊥)
       → journeyEnd r table path ≡ journeyCall b i table path
   unfolding journeyCall
-  journey-unread i table path r e z = ap (λ (x : JourneyAnswer). journeyEnd x table path) e ∙ sym (rw (q .refuses z))
+  journey-unread i table path e z = ap (λ (x : JourneyAnswer). journeyEnd x table path) e ∙ sym (rw (q .refuses z))
 
   pub journey-read : (i : ℕ) (table path : List ℕ) → v .refusal ≡ 0 → journeyOn (sheetIn lines all) i table path ≡ journeyCall b i table path
   unfolding journeyCall

@@ -191,17 +191,17 @@ module _ {v last n : ℕ} {base fs : List ℕ} (f : FrontRows v last n base fs) 
   cost-is : i < length fs → costAt base (getD fs i 0) ≡ getD (frontOf (costsOf (goalRows v last n base))) i []
   cost-is h = sym (get-map (costAt base) fs i h) ∙ ap (λ (l : List Cost). getD l i []) (f .costs-are)
 
-  pub number-at : (o : Offered) → o .found ≡ true → i < length fs → o .cost ≡ costAt base (getD fs i 0) → o .step ≡ rowAt base (getD fs i 0) .step → NumberIs (goalRows v last n base) i o
+  pub number-at : (o : Offered) → o .found ≡ true → i < length fs → o .cost ≡ costAt base (getD fs i 0) → o .step .0 ≡ rowAt base (getD fs i 0) .step → NumberIs (goalRows v last n base) i o
   number-at o t h e s =
       record {
         on = λ g. (omega (arith, front-counted f), e ∙ cost-is h, s ∙ f .steps-are (getD fs i 0) (get-member fs i h) ∙ ap (λ (g : Cost). firstStep g (goalRows v last n base)) (sym e));
         off = λ g. absurd (true≢false (sym t ∙ g));
       }
 
-  pub at-number : (o : Offered) → i < length fs → NumberIs (goalRows v last n base) i o → o .cost ++ (o .step ∷ []) ≡ listRow base (getD fs i 0)
+  pub at-number : (o : Offered) → i < length fs → NumberIs (goalRows v last n base) i o → o .cost ++ (o .step .0 ∷ []) ≡ listRow base (getD fs i 0)
   at-number o h w = go (o .found) refl
     where
-      go : (b : Bool) → o .found ≡ b → o .cost ++ (o .step ∷ []) ≡ listRow base (getD fs i 0)
+      go : (b : Bool) → o .found ≡ b → o .cost ++ (o .step .0 ∷ []) ≡ listRow base (getD fs i 0)
       go false t = absurd (omega (arith, w .off t, front-counted f))
       go true t =
           let e : o .cost ≡ costAt base (getD fs i 0) = w .on t .1 ∙ sym (cost-is h) in
@@ -228,7 +228,7 @@ module _ {v last n : ℕ} {base xs ys : List ℕ} {s r : Sweep} (i : ℕ) (b : B
   pub number-room : i < r .count → InTable base (r .row)
   number-room h = p .on .rooms (r .row) (number-row h .0)
 
-  pub number-on : (o : Offered) → o .found ≡ true → i < r .count → o .cost ≡ costAt base (r .row) → o .step ≡ rowAt base (r .row) .step → NumberIs (goalRows v last n base) i o
+  pub number-on : (o : Offered) → o .found ≡ true → i < r .count → o .cost ≡ costAt base (r .row) → o .step .0 ≡ rowAt base (r .row) .step → NumberIs (goalRows v last n base) i o
   number-on o k h e f =
       let w = number-row h in
       number-at (b .front) i o k (w .2) (e ∙ ap (costAt base) (w .1)) (f ∙ ap (λ (j : ℕ). rowAt base j .step) (w .1))

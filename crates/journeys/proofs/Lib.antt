@@ -1,4 +1,5 @@
-pub mod Rowwise
+pub mod Finding
+pub mod Waiting
 pub mod Stepping
 pub mod Backwards
 pub mod Ends

@@ -106,7 +106,7 @@ module _ {v last n : ℕ} {base fs list : List ℕ} (f : FrontRows v last n base
       ∙ ap (λ (j : ℕ). bind fs (listRow base) ++ replicate j 0) q
       ∙ ap (filled m) (offered-rows base fs (goalRows v last n base) (f .steps-are) ∙ ap (λ (x : List Cost). bind x (λ g. g ++ (firstStep g (goalRows v last n base) ∷ []))) (f .costs-are))
 
-  pub listed-number : (i : ℕ) (o : Offered) (list′ : List ℕ) → i < length fs → NumberIs (goalRows v last n base) i o → list′ ≡ sets list (i * 4) (o .cost ++ (o .step ∷ [])) → Listed base fs i list → Listed base fs (i + 1) list′
+  pub listed-number : (i : ℕ) (o : Offered) (list′ : List ℕ) → i < length fs → NumberIs (goalRows v last n base) i o → list′ ≡ sets list (i * 4) (o .cost ++ (o .step .0 ∷ [])) → Listed base fs i list → Listed base fs (i + 1) list′
   listed-number i o list′ h w e l = subst (Listed base fs (i + 1)) (sym (e ∙ ap (sets list (i * 4)) (at-number f i o h w))) (listed-more base fs i list h l)
 
 module _ {v last n : ℕ} {base xs list : List ℕ} {s : Sweep} (b : Begun v last n base xs s) (q : ListableFront v last n base list) where

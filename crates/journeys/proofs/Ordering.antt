@@ -10,7 +10,8 @@ use native.Mathlib.Omega.{arith}
 use lib.Dec.{eqb}
 use lib.ListN.{length}
 use borrow.Author.Tests.{eqb-true, eqb-false}
-use Rattle.sheet.specs.Lists.{_∈_, number, Lex, lexb}
+use Rattle.sheet.specs.Lists.{_∈_, number, Lex}
+use Rattle.sheet.specs.Computed.{lexb}
 use Rattle.sheet.specs.Sorting.{Before, Ascending}
 use Rattle.sheet.specs.Laws.Order.{lexb-true, lexb-false}
 use Rattle.costs.specs.Costs.{Cost}

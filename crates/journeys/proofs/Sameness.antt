@@ -11,8 +11,8 @@ use Rattle.sheet.specs.Lists.{bind}
 use Rattle.sheet.specs.Laws.Decided.{Decided, holds, fails}
 use Rattle.journeys.specs.Computed.{front}
 use Rattle.journeys.specs.Calls.{frontRow, FrontEnd, frontEnd, frontServed, frontCall}
-use Rattle.journeys.specs.Demand3.{SameLists, CanMeet, BothSame, ComparedIs}
-use Rattle.journeys.specs.Inner.{SameRows}
+use Rattle.journeys.specs.Demand3.{SameLists, CanMeet, ComparedIs}
+use Rattle.journeys.specs.Inner.{SameRows, BothSame}
 use Rattle.journeys.specs.declared.FrontAnswer.{FrontAnswer}
 use Rattle.journeys.specs.Laws.Served.{served, list-length}
 use Rattle.journeys.specs.Laws.Demand3.{demand-3}
@@ -29,13 +29,13 @@ served-room b table list e q z =
 pub both-decided : (e f : FrontEnd) (o : Bool) → e .answer .refusal ≡ 0 → f .answer .refusal ≡ 0 → e .answer .costs ≡ f .answer .costs
     → Decided (SameRows (e .answer .costs) (e .list) (f .list)) o → Decided (BothSame e f) o
 both-decided e f o p q c (holds h) =
-    holds (record { first-served = p; second-served = q; lists = record { counts = c; figures-same = λ i j k l. h .every i k .every j l } })
-both-decided e f o p q c (fails n) = fails (λ h. n (record { every = λ i k. record { every = λ j l. h .lists .figures-same i j k l } }))
+    holds (p, q, record { counts = c; figures-same = λ i j k l. h .every i k .every j l })
+both-decided e f o p q c (fails n) = fails (λ h. n (record { every = λ i k. record { every = λ j l. h .2 .figures-same i j k l } }))
 
 -- the tables play no part
 both-as : (x y : FrontAnswer) (t t′ u u′ l m : List ℕ) → BothSame (frontEnd x t l) (frontEnd y u m) → BothSame (frontEnd x t′ l) (frontEnd y u′ m)
 both-as x y t t′ u u′ l m h =
-    record { first-served = h .first-served; second-served = h .second-served; lists = record { counts = h .lists .counts; figures-same = h .lists .figures-same } }
+    (h .0, h .1, record { counts = h .2 .counts; figures-same = h .2 .figures-same })
 
 decided-is : (P : Type 0) (o : Bool) → Decided P o → (o ≡ true) ↔ P
 decided-is P o (holds h) = (λ e. h, λ h. refl)
@@ -66,7 +66,7 @@ module _ (b table list c table′ list′ : List ℕ) (x y : FrontAnswer) (t l u
       let p′ : frontCall b table list .answer .refusal ≡ 0 = sym (ap (λ (g : FrontEnd). g .answer .refusal) first) ∙ p in
       let q′ : frontCall c table′ list′ .answer .refusal ≡ 0 = sym (ap (λ (g : FrontEnd). g .answer .refusal) second) ∙ q in
       let r = demand-3 b table list c table′ list′ p′ q′ in
-      (λ z. r .0 (to-calls (compares .0 z .lists)), λ h. compares .1 (record { first-served = p; second-served = q; lists = of-calls (r .1 h) }))
+      (λ z. r .0 (to-calls (compares .0 z .2)), λ h. compares .1 (p, q, of-calls (r .1 h)))
 
   pub compared : ComparedIs b table list c table′ list′ (frontEnd x t l) (frontEnd y u m) o
   compared = record { first-call = first; second-call = second; compares = compares; demand = demand }

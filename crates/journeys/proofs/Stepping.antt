@@ -1,49 +1,45 @@
--- One step back on the way to a front cost: the cost of the move, what is left of the cost, and whether a leading arrival becomes that; of the
+-- One step back on the way to a front cost: the cost of the move, what is left of the cost, and whether a leading arrival becomes that by waiting; of the
 -- places passed none can stand before, so the first that can is the lowest, and one can.
 -- Assumes nothing.
 use mathlib.Core.Path.{_≡_, refl, sym, _∙_, ap, subst}
-use mathlib.Core.Logic.{_≢_}
-use mathlib.Core.Bool.{Bool, true, false, true≢false}
+use mathlib.Core.Logic.{_≢_, ⊎-elim}
+use mathlib.Core.Bool.{Bool, true, false, _&&_}
 use mathlib.Core.List.{List}
 use mathlib.Core.Option.{Option, some, none}
-use Prim.Native.Nat.{ℕ, suc, _+_, _*_, _≤_, _<_, _/_}
+use Prim.Native.Nat.{ℕ, suc, _+_, _*_, _-_, _≤_, _<_}
 use native.Mathlib.Omega.{arith}
-use native.Mathlib.Nat.{div-add-mod'}
-use lib.Dec.{eqb, leb}
 use lib.ListN.{length}
-use borrow.Author.Tests.{eqb-true, eqb-false, leb-true, leb-false}
 use Rattle.sheet.specs.Lists.{pick, number}
-use Rattle.sheet.specs.Sheet.{Sheet, places, steps}
+use Rattle.sheet.specs.Sheet.{Sheet, places}
+use Rattle.sheet.specs.Store.{sheetIn}
 use Rattle.sheet.specs.Valid.{Valid}
-use Rattle.sheet.specs.Laws.Rows.{rows-count}
+use Rattle.sheet.specs.Laws.Decided.{Decided, holds, fails, false-not-true, lt-or-le}
+use Rattle.sheet.specs.Laws.Store.{store-valid, head-number}
 use Rattle.sheet.specs.declared.Place.{Place}
 use Rattle.sheet.specs.declared.Step.{Step}
-use Rattle.costs.specs.Costs.{Cost, figures, fig, add, AtMost}
-use Rattle.costs.specs.Priced.{Within, asCrossing, WaitIs}
+use Rattle.costs.specs.Costs.{Cost, figures, add}
+use Rattle.costs.specs.Priced.{Within, asCrossing}
 use Rattle.costs.specs.Computed.{atMostb, waitAt, crossingAt}
 use Rattle.costs.specs.Moves.{waitOf}
 use Rattle.costs.specs.declared.Crossing as crossing
-use Rattle.costs.specs.Laws.Figures.{fig-add, cancel-right, at-most-atMostb}
+use Rattle.costs.specs.Laws.Figures.{cancel-right}
 use Rattle.costs.specs.Laws.Moves.{wait-bounded, crossing-at, at-crossing}
 use Rattle.intervals.specs.Computed.{sinceOf}
+use Rattle.intervals.specs.Intervals.{Free}
 use Rattle.arrivals.specs.Ways.{Move, waits, crosses}
-use Rattle.arrivals.specs.Arrivals.{arrival}
-use Rattle.arrivals.specs.Laws.Leading.{arrives-free, arrives-three}
+use Rattle.arrivals.specs.Arrivals.{Arrival, Arrives}
+use Rattle.arrivals.specs.Computed.{arrival}
+use Rattle.arrivals.specs.declared.network.Here.{Here}
+use Rattle.arrivals.specs.Laws.Leading.{arrival-path, arrives-free, arrives-three}
 use Rattle.arrivals.specs.Laws.Steps.{arrives-back}
 use Rattle.arrivals.specs.Laws.Bounds.{move-once}
-use Rattle.sheet.specs.Laws.Decided.{Decided, holds, fails}
-use Rattle.journeys.specs.Inner.{Walks}
-use Rattle.journeys.specs.Inner.Walk.{BecomesIn, MoveFound, MoveIs, Readable, OnWay, Steps, asBack, StepFound, StepIs, LowestStep, BeforeIs}
-use Rattle.journeys.specs.declared.walk.Back as back
+use Rattle.journeys.specs.Inner.Walk.{Becomes, MoveFound, OnWay, Walkable, Precedes, asBack, StepFound, Lowest}
+use Rattle.journeys.specs.declared.walk.Back.{Back}
 use Rattle.journeys.specs.Laws.Exact.{Towards, towards-back, Exact, exact-arrives, arrives-exact}
-use Rattle.journeys.proofs.Rowwise.{becomes-exact, exact-becomes}
+use Rattle.journeys.proofs.Waiting.{part-under, becomes-exact, exact-becomes}
 
--- the structs of the code
 abbrev Crossed : Type 0
 Crossed = crossing.Crossing
-
-abbrev Stepped : Type 0
-Stepped = back.Back
 
 some-not-none : {c : Cost} → _≡_ {A = Option Cost} none (some c) → ⊥
 some-not-none e = let z : _≡_ {A = ℕ} 0 1 = cc in omega arith
@@ -51,177 +47,165 @@ some-not-none e = let z : _≡_ {A = ℕ} 0 1 = cc in omega arith
 some-same : {c d : Cost} → some c ≡ some d → c ≡ d
 some-same e = cc
 
+-- where the code looks for rows
+abbrev hereAt : Place → ℕ → Step → Cost → Here
+hereAt u t first w = record { place = u; step = record { 0 = t }; since = first; wait = w }
+
 -- the cost of a move
-module _ (s : Sheet) (h : Valid s) where
-  pub wait-found : (u : Place) (v t : ℕ) → u .0 ≡ v → MoveFound s (u .0) v t (some (waitAt s u))
+module _ {s : Sheet} (h : Valid s) where
+  pub wait-found : (u : Place) (v t : ℕ) → u .0 ≡ v → {w : Cost} → w ≡ waitAt s u → MoveFound s (u .0) v t (some w)
   unfolding waitAt
-  wait-found u v t e =
+  wait-found u v t e q =
       record {
-        there = λ c q. waits e (sym (some-same q));
-        is = λ c m. ap some (move-once s h (u .0) v t (waitOf s (u .0)) c (waits e refl) m);
+        there = λ c p. waits e (sym (some-same p) ∙ q);
+        is = λ c m. ap some (q ∙ move-once s h (u .0) v t (waitOf s (u .0)) c (waits e refl) m);
       }
 
-  pub cross-found : (u v : Place) (t : Step) → u .0 ≢ v .0 → MoveFound s (u .0) (v .0) (t .0) (crossingAt s u v t)
-  cross-found u v t n = record { there = λ c q. crosses (crossing-at s u v t c q); is = λ c m. by c m }
+  pub cross-found : (u v : Place) (t : Step) → u .0 ≢ v .0 → {m : Option Cost} → m ≡ crossingAt s u v t → MoveFound s (u .0) (v .0) (t .0) m
+  cross-found u v t n q = record { there = λ c p. crosses (crossing-at s u v t c (sym q ∙ p)); is = λ c m. q ∙ by c m }
     where
       by : (c : Cost) → Move s (u .0) (v .0) (t .0) c → crossingAt s u v t ≡ some c
-      by c (waits e q) = absurd (n e)
+      by c (waits e p) = absurd (n e)
       by c (crosses x) = at-crossing s h u v t c x
 
--- one step back
-module _ (head corridors : List ℕ) (n : ℕ) (table since : List ℕ) (s : Sheet) (f : Cost) (A : ℕ) (k : Walks head corridors n table since A f s) (v t : ℕ) (h : Cost) (o : OnWay s f A v (suc t) h) where
-  pub steps-towards : (u : ℕ) (g : Cost) (x : Steps s u v t g h) → Towards s f A u t g
-  steps-towards u g x =
-      towards-back s f A u v t g (x .price) (subst (Towards s f A v (suc t)) (sym (x .sum)) (o .towards)) (record { move = x .move; free = arrives-free s (arrival v (suc t) h) (o .arrives) })
+-- one step back from b
+module _ {s : Sheet} (valid : Valid s) {b : Arrival} (o : OnWay s b) where
+  precedes-towards : (a : Arrival) → Precedes s a b → Towards s (o .front-cost) (o .arrives-at) (a .place) (a .step) (a .cost)
+  precedes-towards a x =
+      let toward = Towards s (o .front-cost) (o .arrives-at) (b .place) in
+      towards-back s (o .front-cost) (o .arrives-at) (a .place) (b .place) (a .step) (a .cost) (x .price)
+      (subst (toward (suc (a .step))) (sym (x .sum)) (subst (λ (t : ℕ). toward t (b .cost)) (x .later) (o .towards)))
+      (record { move = x .move; free = subst (Free s (b .place)) (x .later) (arrives-free s b (o .arrives)) })
 
-  pub steps-place : (u : ℕ) (g : Cost) → Steps s u v t g h → u < places s
-  steps-place u g x = by (x .move)
+  precedes-place : (a : Arrival) → Precedes s a b → a .place < places s
+  precedes-place a x = by (x .move)
     where
-      by : {c : Cost} → Move s u v t c → u < places s
+      by : {c : Cost} → Move s (a .place) (b .place) (a .step) c → a .place < places s
       by (waits e q) = omega (arith, o .place)
-      by (crosses y) = omega (arith, y .leaves, k .valid .corridors (y .line) (y .listed) .from-place)
+      by (crosses y) = omega (arith, y .leaves, valid .corridors (y .line) (y .listed) .from-place)
 
-  pub steps-way : (u : ℕ) (g : Cost) → Steps s u v t g h → OnWay s f A u t g
-  steps-way u g x = record { arrives = x .arrives; towards = steps-towards u g x; place = steps-place u g x }
+  pub precedes-way : (a : Arrival) → Precedes s a b → OnWay s a
+  precedes-way a x =
+      record {
+        front-cost = o .front-cost;
+        on-front = o .on-front;
+        arrives-at = o .arrives-at;
+        arrives = x .arrives;
+        towards = precedes-towards a x;
+        place = precedes-place a x;
+      }
 
-  pub no-move : (u : ℕ) → MoveFound s u v t none → StepFound s u v t h none
-  no-move u m = record { there = λ g e. absurd (some-not-none e); is = λ g x. absurd (some-not-none (m .is (x .price) (x .move))) }
+  -- b has an arrival before it
+  some-before : 0 < b .step → (a : Arrival) × Precedes s a b
+  some-before moved =
+      let e : b .step ≡ suc (b .step - 1) = omega arith in
+      let x = arrives-back s (b .place) (b .step - 1) (b .cost) (subst (Arrives s) (arrival-path b (arrival (b .place) (suc (b .step - 1)) (b .cost)) refl e refl) (o .arrives)) in
+      (arrival (x .place) (b .step - 1) (x .cost), record { arrives = x .there; price = x .move; move = x .moves; later = e; sum = sym (x .sum) })
 
-  pub too-dear : (u : ℕ) (c : Cost) → MoveFound s u v t (some c) → (AtMost c h → ⊥) → StepFound s u v t h none
-  too-dear u c m d = record { there = λ g e. absurd (some-not-none e); is = λ g x. absurd (d (under g x)) }
+-- none of the places below u can stand before b
+pub record NoneBelow (s : Sheet) (b : Arrival) (u : ℕ) : Type 0 where
+  pub of : (a : Arrival) → Precedes s a b → u ≤ a .place
+
+pub none-below : {s : Sheet} {b : Arrival} → NoneBelow s b 0
+none-below = record { of = λ a x. omega arith }
+
+module _ {s : Sheet} {b : Arrival} {u : ℕ} (p : NoneBelow s b u) (r : Back) (f : StepFound s u b (asBack r)) where
+  -- what precedes b stands one step before
+  step-before : (a : Arrival) → Precedes s a b → a .place ≡ u → Precedes s (arrival u (b .step - 1) (a .cost)) b
+  step-before a x e =
+      let t : a .step ≡ b .step - 1 = omega (arith, x .later) in
+      subst (λ (y : Arrival). Precedes s y b) (arrival-path a (arrival u (b .step - 1) (a .cost)) e t refl) x
+
+  pub none-more : r .found ≡ false → NoneBelow s b (u + 1)
+  none-more e = record { of = λ a x. ⊎-elim (λ l. absurd (here a x (omega (arith, p .of a x)))) (λ l. l) (lt-or-le (a .place) (u + 1)) }
     where
-      under : (g : Cost) → Steps s u v t g h → AtMost c h
-      under g x =
-          let e : c ≡ x .price = some-same (m .is (x .price) (x .move)) in
-          subst (λ (y : Cost). AtMost y h) (sym e) (record { every = λ i. omega (arith, fig-add g (x .price) i, ap (λ (y : Cost). fig y i) (x .sum)) })
+      here : (a : Arrival) → Precedes s a b → a .place ≡ u → ⊥
+      here a x q = some-not-none (sym (ap (λ (c : Bool). pick c (some (r .cost)) none) e) ∙ f .is (a .cost) (step-before a x q))
 
-  pub stepped : (u : ℕ) (c g : Cost) → MoveFound s u v t (some c) → length g ≡ figures → add g c ≡ h
-      → (b : Bool) → Decided (BecomesIn n table u (sinceOf s u t) t (waitOf s u) g) b → StepFound s u v t h (pick b (some g) none)
-  stepped u c g m l e b d = go b d
-    where
-      day : t ≤ 255
-      day = omega (arith, o .arrives .in-time, k .valid .most-steps)
+  pub first-lowest : r .found ≡ true → Lowest s (arrival u (b .step - 1) (r .cost)) b
+  first-lowest e = record { precedes = f .there (r .cost) (ap (λ (c : Bool). pick c (some (r .cost)) none) e); least = p .of }
 
-      this : Exact s u t g → Steps s u v t g h
-      this x =
-          record { price = c; arrives = exact-arrives s u t g (omega (arith, o .arrives .in-time)) x; move = m .there c refl; sum = e }
+-- what the code tells of one place
+module _ {lines all since : List ℕ} {n : ℕ} {table : List ℕ} {b : Arrival} (k : Walkable lines all since n table b) where
+  walk-valid : Valid (sheetIn lines all)
+  walk-valid = store-valid (k .derived .store)
 
-      only : (y : Cost) → Steps s u v t y h → y ≡ g
-      only y x =
-          cancel-right y g c (arrives-three s (arrival u t y) (x .arrives) ∙ sym l)
-          (ap (add y) (some-same (m .is (x .price) (x .move))) ∙ x .sum ∙ sym e)
+  pub walk-day : b .step ≤ 255
+  walk-day = omega (arith, k .on-way .arrives .in-time, walk-valid .most-steps)
 
-      exact : (y : Cost) → Steps s u v t y h → Exact s u t g
-      exact y x = subst (Exact s u t) (only y x) (arrives-exact s f A u t y (k .on-front) (steps-towards u y x) (x .arrives))
+  walk-places : number all 0 ≡ places (sheetIn lines all)
+  walk-places = head-number (k .derived .store) 0 (omega arith)
 
-      go : (b : Bool) → Decided (BecomesIn n table u (sinceOf s u t) t (waitOf s u) g) b → StepFound s u v t h (pick b (some g) none)
-      go true (holds x) =
-          record {
-            there = λ y q. subst (λ (z : Cost). Steps s u v t z h) (some-same q) (this (becomes-exact s n table (k .holds) u t g day x));
-            is = λ y z. ap some (sym (only y z));
-          }
-      go false (fails w) = record { there = λ y q. absurd (some-not-none q); is = λ y z. absurd (w (exact-becomes s n table (k .holds) u t g day (exact y z))) }
+  pub few-places : number all 0 ≤ 64
+  few-places = omega (arith, walk-places, walk-valid .most-places)
 
   -- one place can stand before
-  pub some-step : (u : ℕ) × (g : Cost) × Steps s u v t g h
-  some-step =
-      let b = arrives-back s v t h (o .arrives) in
-      (b .place, b .cost, record { price = b .move; arrives = b .there; move = b .moves; sum = sym (b .sum) })
+  pub not-all : {u : ℕ} → NoneBelow (sheetIn lines all) b u → u < number all 0
+  not-all p = let x = some-before walk-valid (k .on-way) (k .moved) in omega (arith, walk-places, p .of (x .0) (x .1), precedes-place walk-valid (k .on-way) (x .0) (x .1))
 
-  pub first-lowest : (u : ℕ) (g : Cost) → Steps s u v t g h → ((x : ℕ) → x < u → (y : Cost) → Steps s x v t y h → ⊥) → LowestStep s v t h u g
-  first-lowest u g q none-lower = record { steps = q; least = λ x y z. go x y z (leb u x) refl }
-    where
-      go : (x : ℕ) (y : Cost) → Steps s x v t y h → (b : Bool) → leb u x ≡ b → u ≤ x
-      go x y z true e = leb-true _ _ e
-      go x y z false e = absurd (none-lower x (leb-false _ _ e) y z)
+  pub walk-wait : (u : Place) {w : Cost} → w ≡ waitAt (sheetIn lines all) u → Within 60000 w
+  unfolding waitAt
+  walk-wait u e = subst (Within 60000) (sym e) (record { every = wait-bounded (sheetIn lines all) walk-valid (u .0) })
 
--- what the code reads
-module _ {head corridors : List ℕ} {n : ℕ} {table since : List ℕ} where
-  pub head-seven : Readable head corridors n table since → length head ≡ 7
-  head-seven k = sym (ap length (k .head-is)) ∙ k .valid .wide
+  module _ (u : Place) (r : Crossed) (m : MoveFound (sheetIn lines all) (u .0) (b .place) (b .step - 1) (asCrossing r)) where
+    -- no move, or one that is dearer than b
+    pub no-step : {p : Bool} → p ≡ atMostb (r .cost) (b .cost) → r .open && p ≡ false → StepFound (sheetIn lines all) (u .0) b none
+    no-step {p} q d = record { there = λ g e. absurd (some-not-none e); is = λ g x. absurd (go g x (r .open) refl (m .is (x .price) (x .move))) }
+      where
+        go : (g : Cost) (x : Precedes (sheetIn lines all) (arrival (u .0) (b .step - 1) g) b) (o : Bool) → r .open ≡ o → pick o (some (r .cost)) none ≡ some (x .price) → ⊥
+        go g x false e z = some-not-none z
+        go g x true e z =
+            false-not-true (sym (ap (λ (o : Bool). o && p) e) ∙ d)
+            (q ∙ subst (λ (c : Cost). atMostb c (b .cost) ≡ true) (sym (some-same z)) (part-under g (x .price) (b .cost) (x .sum)))
 
-  pub head-places : Readable head corridors n table since → number head 0 ≤ 64
-  head-places k = omega (arith, ap (λ (l : List ℕ). number l 0) (k .head-is), k .valid .most-places)
+    -- what is left of b's cost, where a leading arrival becomes it
+    pub step-left : r .open ≡ true → (first : Step) → u .0 < 64 → first .0 ≡ number since (u .0 * 256 + (b .step - 1)) → (w : Cost) → w ≡ waitAt (sheetIn lines all) u
+        → (g : Cost) → (length g ≡ figures) × (add g (r .cost) ≡ b .cost) → {c : Bool} → Decided (Becomes n table (hereAt u (b .step - 1) first w) g) c
+        → StepFound (sheetIn lines all) (u .0) b (pick c (some g) none)
+    unfolding waitAt
+    step-left opens first low since-is w wait-is g q d = go d
+      where
+        s : Sheet
+        s = sheetIn lines all
 
-  pub few-corridors : Readable head corridors n table since → length corridors ≤ 1280
-  few-corridors k =
-      omega (arith, div-add-mod' (length corridors) 5, k .whole, rows-count 5 (length corridors / 5) corridors, ap length (k .corridors-are), k .valid .most-corridors)
+        t : ℕ
+        t = b .step - 1
 
-  pub wait-within : Readable head corridors n table since → (u : ℕ) (w : Cost) → ((s : Sheet) → s .head ≡ head → w ≡ waitOf s u) → Within 60000 w
-  wait-within k u w e = subst (Within 60000) (sym (e (k .sheet) (k .head-is))) (record { every = wait-bounded (k .sheet) (k .valid) u })
+        o : OnWay (sheetIn lines all) b
+        o = k .on-way
 
-pub waits-as : {head : List ℕ} {u : Place} {w : Cost} → WaitIs head u w → (s : Sheet) → s .head ≡ head → w ≡ waitOf s (u .0)
-unfolding waitAt
-waits-as k s e = k .of s e
+        run : first .0 ≡ sinceOf (sheetIn lines all) (u .0) t
+        run = since-is ∙ k .derived .firsts .of (sheetIn lines all) refl (u .0) t low (omega (arith, walk-day))
 
-not-open : (r : Crossed) → r .open ≡ false → asCrossing r ≡ none
-not-open r e = rw e
+        cost : MoveFound (sheetIn lines all) (u .0) (b .place) t (some (r .cost))
+        cost = subst (λ (p : Bool). MoveFound (sheetIn lines all) (u .0) (b .place) t (pick p (some (r .cost)) none)) opens m
 
-is-open : (r : Crossed) → r .open ≡ true → asCrossing r ≡ some (r .cost)
-is-open r e = rw e
+        this : Exact s (u .0) t g → Precedes s (arrival (u .0) t g) b
+        this x =
+            record {
+              arrives = exact-arrives s (u .0) t g (omega (arith, o .arrives .in-time)) x;
+              price = r .cost;
+              move = cost .there (r .cost) refl;
+              later = omega (arith, k .moved);
+              sum = q .1;
+            }
 
-move-found : {head corridors : List ℕ} {n : ℕ} {table since : List ℕ} {A : ℕ} {f : Cost} {s : Sheet} {u v t : ℕ} {m : Option Cost}
-    → MoveIs head corridors u v t m → Walks head corridors n table since A f s → MoveFound s u v t m
-move-found {s = s} m k = m .of s (k .valid) (k .head-is) (k .corridors-are)
+        only : (y : Cost) → Precedes s (arrival (u .0) t y) b → y ≡ g
+        only y x =
+            cancel-right y g (r .cost) (arrives-three s (arrival (u .0) t y) (x .arrives) ∙ sym (q .0))
+            (ap (add y) (some-same (cost .is (x .price) (x .move))) ∙ x .sum ∙ sym (q .1))
 
-pub dearer : {c h : Cost} {b : Bool} → b ≡ atMostb c h → b ≡ false → AtMost c h → ⊥
-dearer {c} {h} e d l = true≢false (sym (at-most-atMostb c h l) ∙ sym e ∙ d)
+        exact : (y : Cost) → Precedes s (arrival (u .0) t y) b → Exact s (u .0) t g
+        exact y x =
+            subst (Exact s (u .0) t) (only y x)
+            (arrives-exact s (o .front-cost) (o .arrives-at) (u .0) t y (o .on-front) (precedes-towards walk-valid o (arrival (u .0) t y) x) (x .arrives))
 
--- what the code hands back of one place
-module _ {head corridors : List ℕ} {n : ℕ} {table since : List ℕ} {u v t : ℕ} {h : Cost} (r : Crossed) (m : MoveIs head corridors u v t (asCrossing r)) where
-  pub step-closed : (x : Cost) → r .open ≡ false → StepIs head corridors n table since u v t h (record { found = false; place = u; cost = x })
-  step-closed x e =
-      record { same = refl; of = λ s f A k o. no-move head corridors n table since s f A k v t h o u (subst (MoveFound s u v t) (not-open r e) (move-found m k)) }
-
-  pub step-dear : (x : Cost) → r .open ≡ true → (AtMost (r .cost) h → ⊥) → StepIs head corridors n table since u v t h (record { found = false; place = u; cost = x })
-  step-dear x e d =
-      record { same = refl; of = λ s f A k o. too-dear head corridors n table since s f A k v t h o u (r .cost) (subst (MoveFound s u v t) (is-open r e) (move-found m k)) d }
-
-  pub step-done : r .open ≡ true → (g : Cost) → (length g ≡ figures) × (add g (r .cost) ≡ h) → u < 64 → t < 256 → (w : Cost) → ((s : Sheet) → s .head ≡ head → w ≡ waitOf s u)
-      → (b : Bool) → Decided (BecomesIn n table u (number since (u * 256 + t)) t w g) b → StepIs head corridors n table since u v t h (record { found = b; place = u; cost = g })
-  step-done e g q i j w z b d =
-      record {
-        same = refl;
-        of = λ s f A k o.
-            stepped head corridors n table since s f A k v t h o u (r .cost) g (subst (MoveFound s u v t) (is-open r e) (move-found m k)) (q .0) (q .1) b
-            (subst (λ (x : ℕ). Decided (BecomesIn n table u x t (waitOf s u) g) b) (k .since-of u t i j) (subst (λ (y : Cost). Decided (BecomesIn n table u (number since (u * 256 + t)) t y g) b) (z s (k .head-is)) d));
-      }
-
--- none of the places below u can stand before
-pub record NoneBelow (head corridors : List ℕ) (n : ℕ) (table since : List ℕ) (v t : ℕ) (h : Cost) (u : ℕ) : Type 0 where
-  pub of : (s : Sheet) (f : Cost) (A : ℕ) → Walks head corridors n table since A f s → OnWay s f A v (suc t) h → (x : ℕ) → x < u → (y : Cost) → Steps s x v t y h → ⊥
-
-module _ {head corridors : List ℕ} {n : ℕ} {table since : List ℕ} {v t : ℕ} {h : Cost} where
-  pub none-start : NoneBelow head corridors n table since v t h 0
-  none-start = record { of = λ s f A k o x l y z. omega arith }
-
-  pub none-more : {u : ℕ} (b : Stepped) → NoneBelow head corridors n table since v t h u → StepIs head corridors n table since u v t h b → b .found ≡ false → NoneBelow head corridors n table since v t h (u + 1)
-  none-more {u} b p q e = record { of = λ s f A k o x l y z. go s f A k o x l y z (eqb x u) refl }
-    where
-      nothing : asBack b ≡ none
-      nothing = rw e
-
-      go : (s : Sheet) (f : Cost) (A : ℕ) → Walks head corridors n table since A f s → OnWay s f A v (suc t) h → (x : ℕ) → x < u + 1 → (y : Cost) → Steps s x v t y h → (c : Bool) → eqb x u ≡ c → ⊥
-      go s f A k o x l y z true d =
-          some-not-none (sym nothing ∙ q .of s f A k o .is y (subst (λ (i : ℕ). Steps s i v t y h) (eqb-true _ _ d) z))
-      go s f A k o x l y z false d = let i : x ≢ u = eqb-false _ _ d in p .of s f A k o x (omega arith) y z
-
-  pub before-found : {u : ℕ} (b : Stepped) → NoneBelow head corridors n table since v t h u → StepIs head corridors n table since u v t h b → b .found ≡ true → BeforeIs head corridors n table since v t h b
-  before-found {u} b p q e =
-      record {
-        of = λ s f A k o.
-            subst (λ (x : ℕ). LowestStep s v t h x (b .cost)) (sym (q .same))
-            (first-lowest head corridors n table since s f A k v t h o u (b .cost) (q .of s f A k o .there (b .cost) something) (p .of s f A k o));
-      }
-    where
-      something : asBack b ≡ some (b .cost)
-      something = rw e
-
-  -- one of the places can, so the search ends before the last
-  pub before-none : {u : ℕ} (b : Stepped) → NoneBelow head corridors n table since v t h u → number head 0 ≤ u → BeforeIs head corridors n table since v t h b
-  before-none {u} b p l = record { of = λ s f A k o. absurd (never s f A k o) }
-    where
-      never : (s : Sheet) (f : Cost) (A : ℕ) → Walks head corridors n table since A f s → OnWay s f A v (suc t) h → ⊥
-      never s f A k o =
-          let x = some-step head corridors n table since s f A k v t h o in
-          p .of s f A k o (x .0) (omega (arith, steps-place head corridors n table since s f A k v t h o (x .0) (x .1) (x .2), ap (λ (y : List ℕ). number y 0) (k .head-is))) (x .1) (x .2)
+        go : {c : Bool} → Decided (Becomes n table (hereAt u t first w) g) c → StepFound s (u .0) b (pick c (some g) none)
+        go (holds x) =
+            let p = this (becomes-exact (k .holds) (hereAt u t first w) run wait-is (omega (arith, walk-day)) g x) in
+            record { there = λ y z. subst (λ (c : Cost). Precedes s (arrival (u .0) t c) b) (some-same z) p; is = λ y z. ap some (sym (only y z)) }
+        go (fails f) =
+            record {
+              there = λ y z. absurd (some-not-none z);
+              is = λ y z. absurd (f (exact-becomes (k .holds) (hereAt u t first w) run wait-is (omega (arith, walk-day)) g (exact y z)));
+            }

@@ -9,7 +9,7 @@ use Rattle.sheet.specs.Lists.{number, numbersFrom, Lex}
 use Rattle.sheet.specs.Sheet.{Sheet, loaded, readOf}
 use Rattle.sheet.specs.Calls.{readCall, Groups, groupsRead, writeGroups}
 use Rattle.costs.specs.Costs.{Cost, figures}
-use Rattle.arrivals.specs.Arrivals.{Arrival, arrival, keyOf, Leading}
+use Rattle.arrivals.specs.Arrivals.{Arrival, keyOf, Leading}
 use Rattle.journeys.specs.Journeys.{Journey, Selected}
 use Rattle.journeys.specs.Front.{OnFront}
 use Rattle.journeys.specs.Calls.{FrontEnd, frontCall, JourneyEnd, journeyCall}
@@ -21,31 +21,19 @@ costAt e i = numbersFrom figures (i * 4) (e .list)
 abbrev pub stepAt : FrontEnd → ℕ → ℕ
 stepAt e i = number (e .list) (i * 4 + figures)
 
--- the cost g has a number in the list
-pub record Listed (e : FrontEnd) (g : Cost) : Type 0 where
-  pub at : ℕ
-  pub inside : at < e .answer .costs
-  pub same : costAt e at ≡ g
-
--- some lawful journey with the cost g arrives at step t, and none before
-pub record Earliest (s : Sheet) (g : Cost) (t : ℕ) : Type 0 where
-  pub path : List ℕ
-  pub journey : Journey s path g
-  pub arrives : length path ≡ suc t
-  pub none-before : (q : List ℕ) → Journey s q g → suc t ≤ length q
-
--- the list is the cost-unique front of s: its costs are those of the front, each once, ascending, with the earliest arrival beside it; and it is empty
--- exactly when no lawful journey exists
+-- the list is the cost-unique front of s: its costs are those of the front, each once, ascending, and beside each the earliest step at which a lawful
+-- journey with that cost arrives; and it is empty exactly when no lawful journey exists
 pub record ListsFront (s : Sheet) (e : FrontEnd) : Type 0 where
   pub listed-on : (i : ℕ) → i < e .answer .costs → OnFront s (costAt e i)
-  pub earliest : (i : ℕ) → i < e .answer .costs → Earliest s (costAt e i) (stepAt e i)
-  pub on-listed : (g : Cost) → OnFront s g → Listed e g
+  pub on-listed : (g : Cost) → OnFront s g → (i : ℕ) × (i < e .answer .costs) × (costAt e i ≡ g)
   pub ascending : (i j : ℕ) → i < j → j < e .answer .costs → Lex (costAt e i) (costAt e j)
+  pub arrives : (i : ℕ) → i < e .answer .costs → (p : List ℕ) × Journey s p (costAt e i) × (length p ≡ suc (stepAt e i))
+  pub no-sooner : (i : ℕ) → i < e .answer .costs → (p : List ℕ) → Journey s p (costAt e i) → suc (stepAt e i) ≤ length p
   pub empty : (e .answer .costs ≡ 0) ↔ ((p : List ℕ) (g : Cost) → Journey s p g → ⊥)
 
 -- row i of the table as the call returned it
 abbrev pub arrivalAt : FrontEnd → ℕ → Arrival
-arrivalAt e i = arrival (number (e .table) (i * 5)) (number (e .table) (i * 5 + 1)) (numbersFrom figures (i * 5 + 2) (e .table))
+arrivalAt e i = record { place = number (e .table) (i * 5); step = number (e .table) (i * 5 + 1); cost = numbersFrom figures (i * 5 + 2) (e .table) }
 
 -- the table holds exactly the leading arrivals of s, ascending, each once, then zeros
 pub record ListsLeading (s : Sheet) (e : FrontEnd) : Type 0 where

@@ -8,8 +8,8 @@ use Rattle.sheet.specs.Sheet.{Sheet}
 use Rattle.sheet.specs.Store.{sheetIn}
 use Rattle.costs.specs.Costs.{Cost, figures}
 use Rattle.intervals.specs.FirstSteps.{Derived}
-use Rattle.arrivals.specs.Arrivals.{Arrival, arrival}
-use Rattle.arrivals.specs.Computed.{leading}
+use Rattle.arrivals.specs.Arrivals.{Arrival}
+use Rattle.arrivals.specs.Computed.{arrival, leading}
 use Rattle.journeys.specs.Computed.{arrivalOf}
 use Rattle.journeys.specs.Front.{OnFront}
 

@@ -2,23 +2,19 @@
 use mathlib.Core.Path.{_≡_}
 use mathlib.Core.Bool.{Bool, true, false, _&&_}
 use mathlib.Core.List.{List, [], _∷_, _++_, map}
-use Prim.Native.Nat.{ℕ, suc, _*_, _+_, _≤_, _<_, _%_}
+use Prim.Native.Nat.{ℕ, _*_, _+_, _≤_, _<_}
 use lib.Dec.{eqb, leb}
 use lib.ListN.{length, getD}
-use lib.Seq.{sets}
 use Rattle.sheet.specs.Lists.{pick, number, filter, bind}
-use Rattle.sheet.specs.Sheet.{Sheet}
-use Rattle.sheet.specs.Valid.{Valid}
-use Rattle.sheet.specs.Kinds.{kindC}
-use Rattle.sheet.specs.Calls.{groupRows}
 use Rattle.costs.specs.Costs.{Cost, figures}
 use Rattle.costs.specs.Computed.{sameb}
-use Rattle.intervals.specs.Computed.{sinceOf}
 use Rattle.arrivals.specs.Arrivals.{Arrival}
-use Rattle.journeys.specs.Computed.{journeyOf, arrivalOf, frontOf}
-use Rattle.journeys.specs.Front.{OnFront}
-use Rattle.journeys.specs.Held.{tableRows, Holds}
+use Rattle.journeys.specs.Computed.{frontOf}
+use Rattle.journeys.specs.Calls.{FrontEnd}
+use Rattle.journeys.specs.Demand3.{SameLists}
+use Rattle.journeys.specs.Held.{tableRows}
 use Rattle.journeys.specs.declared.front.Offered.{Offered}
+pub mod Lookup
 pub mod Walk
 pub mod Chain
 pub mod Sweep
@@ -45,34 +41,12 @@ firstStep g (a ∷ l) = let r = firstStep g l in pick (sameb (a .cost) g) (a .st
 
 -- r is the cost with number i on the front of the arrivals l, with the step of its first arrival; or there is none
 pub record NumberIs (l : List Arrival) (i : ℕ) (r : Offered) : Type 0 where
-  pub on : r .found ≡ true → (i < length (frontOf (costsOf l))) × (r .cost ≡ getD (frontOf (costsOf l)) i []) × (r .step ≡ firstStep (r .cost) l)
+  pub on : r .found ≡ true → (i < length (frontOf (costsOf l))) × (r .cost ≡ getD (frontOf (costsOf l)) i []) × (r .step .0 ≡ firstStep (r .cost) l)
   pub off : r .found ≡ false → length (frontOf (costsOf l)) ≤ i
 
 -- the rows of the front list
 abbrev pub offeredRows : List Arrival → List ℕ
 offeredRows l = bind (frontOf (costsOf l)) (λ g. g ++ (firstStep g l ∷ []))
-
--- s is a sheet with this S line and these corridors, the table holds its leading arrivals and `since` the first steps of its free runs; f is on its
--- front, with the arrival step A
-pub record Walks (head corridors : List ℕ) (n : ℕ) (table since : List ℕ) (A : ℕ) (f : Cost) (s : Sheet) : Type 0 where
-  pub valid : Valid s
-  pub head-is : s .head ≡ head
-  pub corridors-are : s .corridors ≡ groupRows kindC corridors
-  pub whole : length corridors % 5 ≡ 0
-  pub holds : Holds s n table
-  pub since-room : length since ≡ 16384
-  pub since-of : (v t : ℕ) → v < 64 → t < 256 → number since (v * 256 + t) ≡ sinceOf s v t
-  pub on-front : OnFront s f
-  pub arrives-at : A ≡ arrivalOf s f
-
--- what the walk back needs, and what it writes
-pub record Walkable (head corridors : List ℕ) (n : ℕ) (table since : List ℕ) (A : ℕ) (f : Cost) (path : List ℕ) : Type 0 where
-  pub sheet : Sheet
-  pub walks : Walks head corridors n table since A f sheet
-  pub room : suc A ≤ length path
-
-pub record WalkIs (head corridors : List ℕ) (n : ℕ) (table since : List ℕ) (A : ℕ) (f : Cost) (path path′ : List ℕ) : Type 0 where
-  pub of : (s : Sheet) → Walks head corridors n table since A f s → path′ ≡ sets path 0 (journeyOf s f)
 
 -- n numbers of two lists are equal, from position `at` on
 pub record SameFigures (n : ℕ) (a b : List ℕ) (at : ℕ) : Type 0 where
@@ -81,3 +55,7 @@ pub record SameFigures (n : ℕ) (a b : List ℕ) (at : ℕ) : Type 0 where
 -- the first n costs of two front lists are equal
 pub record SameRows (n : ℕ) (a b : List ℕ) : Type 0 where
   pub every : (i : ℕ) → i < n → SameFigures figures a b (i * 4)
+
+-- neither call was refused, and the lists of costs are equal
+abbrev pub BothSame : FrontEnd → FrontEnd → Type 0
+BothSame e f = (e .answer .refusal ≡ 0) × (f .answer .refusal ≡ 0) × SameLists e f

@@ -11,4 +11,3 @@ pub mod Served
 pub mod Demand2
 pub mod Demand3
 pub mod Searched
-pub mod Laid

@@ -19,9 +19,6 @@ use arrivals::search;
 use intervals::derive;
 use sheet::Place;
 use sheet::Step;
-use sheet::kinds::CORRIDOR;
-use sheet::kinds::FIRST_CORRIDOR;
-use sheet::kinds::HEAD;
 use sheet::kinds::KINDS;
 use sheet::kinds::STORE;
 use sheet::reader::read_into;
@@ -48,7 +45,8 @@ pub fn front_of(
     list: &mut [u32],
 ) -> FrontAnswer
     requires { ⌜ Derived (now lines) (now all) (now since) ⌝ }
-    ensures { λ r. ⌜ frontEnd r (now (table .exit)) (now (list .exit)) ≡ frontOn (sheetIn (now (lines .entry)) (now (all .entry))) (now (table .entry)) (now (list .entry)) ⌝ }
+    ensures { λ r. ⌜ frontEnd r (now (table .exit)) (now (list .exit))
+        ≡ frontOn (sheetIn (now (lines .entry)) (now (all .entry))) (now (table .entry)) (now (list .entry)) ⌝ }
 {
     let r = search(lines, all, since, table);
     if !r.served {
@@ -72,7 +70,8 @@ pub fn front_of(
 // The same, with the first steps worked out here.
 fn front_stored(lines: &[u32], all: &[u32], table: &mut [u32], list: &mut [u32]) -> FrontAnswer
     requires { ⌜ SomeStore (now lines) (now all) ⌝ }
-    ensures { λ r. ⌜ frontEnd r (now (table .exit)) (now (list .exit)) ≡ frontOn (sheetIn (now (lines .entry)) (now (all .entry))) (now (table .entry)) (now (list .entry)) ⌝ }
+    ensures { λ r. ⌜ frontEnd r (now (table .exit)) (now (list .exit))
+        ≡ frontOn (sheetIn (now (lines .entry)) (now (all .entry))) (now (table .entry)) (now (list .entry)) ⌝ }
 {
     let mut since = [0u16; 16384];
     derive(lines, all, &mut since);
@@ -119,18 +118,15 @@ pub fn lay_path(
     since: &[u16],
     table: &[u32],
     n: usize,
-    arrival: u32,
+    arrival: Step,
     cost: [u32; 3],
     path: &mut [u32],
 )
-    requires { ⌜ Layable (now lines) (now all) (now since) n (now table) arrival cost (now path) ⌝ }
+    requires { ⌜ Layable (now lines) (now all) (now since) n (now table) (arrival .0) cost (now path) ⌝ }
     ensures { λ _. ⌜ now (path .exit) ≡ filled (length (now (path .entry))) (journeyOf (sheetIn (now (lines .entry)) (now (all .entry))) cost) ⌝ }
 {
-    let e = FIRST_CORRIDOR + lines[1] as usize * CORRIDOR;
-    let head = &all[..HEAD];
-    let corridors = &all[FIRST_CORRIDOR..e];
-    walk_back(head, corridors, table, n, since, arrival, cost, path);
-    clear_from(path, arrival as usize + 1);
+    walk_back(lines, all, since, table, n, arrival, cost, path);
+    clear_from(path, arrival.0 as usize + 1);
 }
 
 // The journey with a number in the front of the sheet in the array, from 0: the path buffer holds one place for each step, then zeros, and the arrivals
@@ -144,7 +140,8 @@ pub fn journey_of(
     path: &mut [u32],
 ) -> JourneyAnswer
     requires { ⌜ Derived (now lines) (now all) (now since) ⌝ }
-    ensures { λ r. ⌜ journeyEnd r (now (table .exit)) (now (path .exit)) ≡ journeyOn (sheetIn (now (lines .entry)) (now (all .entry))) number (now (table .entry)) (now (path .entry)) ⌝ }
+    ensures { λ r. ⌜ journeyEnd r (now (table .exit)) (now (path .exit))
+        ≡ journeyOn (sheetIn (now (lines .entry)) (now (all .entry))) number (now (table .entry)) (now (path .entry)) ⌝ }
 {
     let r = search(lines, all, since, table);
     if !r.served {
@@ -156,7 +153,7 @@ pub fn journey_of(
         return refuse_searched(10, table);
     }
     let arrival = o.step;
-    if path.len() <= arrival as usize {
+    if path.len() <= arrival.0 as usize {
         return refuse_searched(11, table);
     }
     let cost = o.cost;
@@ -165,7 +162,7 @@ pub fn journey_of(
         refusal: 0,
         line: 0,
         cost,
-        arrival,
+        arrival: arrival.0,
     }
 }
 
@@ -178,7 +175,8 @@ fn journey_stored(
     path: &mut [u32],
 ) -> JourneyAnswer
     requires { ⌜ SomeStore (now lines) (now all) ⌝ }
-    ensures { λ r. ⌜ journeyEnd r (now (table .exit)) (now (path .exit)) ≡ journeyOn (sheetIn (now (lines .entry)) (now (all .entry))) number (now (table .entry)) (now (path .entry)) ⌝ }
+    ensures { λ r. ⌜ journeyEnd r (now (table .exit)) (now (path .exit))
+        ≡ journeyOn (sheetIn (now (lines .entry)) (now (all .entry))) number (now (table .entry)) (now (path .entry)) ⌝ }
 {
     let mut since = [0u16; 16384];
     derive(lines, all, &mut since);

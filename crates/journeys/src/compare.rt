@@ -6,8 +6,8 @@ ghost use lib.ListN.{length};
 ghost use Rattle.costs.specs.Costs.{figures};
 ghost use Rattle.sheet.specs.Laws.Decided.{Decided};
 ghost use Rattle.journeys.specs.Calls.{frontEnd};
-ghost use Rattle.journeys.specs.Demand3.{BothSame, ComparedIs};
-ghost use Rattle.journeys.specs.Inner.{SameFigures, SameRows};
+ghost use Rattle.journeys.specs.Demand3.{ComparedIs};
+ghost use Rattle.journeys.specs.Inner.{SameFigures, SameRows, BothSame};
 use crate::FrontAnswer;
 use crate::calls::front;
 
@@ -73,7 +73,10 @@ pub fn compare_fronts(
     arrivals_b: &mut [u32],
     list_b: &mut [u32],
 ) -> Compared
-    ensures { λ r. ⌜ ComparedIs (now («sheet_a» .entry)) (now («arrivals_a» .entry)) (now («list_a» .entry)) (now («sheet_b» .entry)) (now («arrivals_b» .entry)) (now («list_b» .entry)) (frontEnd (r .first) (now («arrivals_a» .exit)) (now («list_a» .exit))) (frontEnd (r .second) (now («arrivals_b» .exit)) (now («list_b» .exit))) (r .same) ⌝ }
+    ensures { λ r. ⌜ ComparedIs (now («sheet_a» .entry)) (now («arrivals_a» .entry)) (now («list_a» .entry))
+        (now («sheet_b» .entry)) (now («arrivals_b» .entry)) (now («list_b» .entry))
+        (frontEnd (r .first) (now («arrivals_a» .exit)) (now («list_a» .exit)))
+        (frontEnd (r .second) (now («arrivals_b» .exit)) (now («list_b» .exit))) (r .same) ⌝ }
 {
     let first = front(sheet_a, arrivals_a, list_a);
     let second = front(sheet_b, arrivals_b, list_b);

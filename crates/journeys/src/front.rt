@@ -27,7 +27,7 @@ use sheet::Step;
 pub struct Offered {
     pub found: bool,
     pub cost: [u32; 3],
-    pub step: u32,
+    pub step: Step,
 }
 
 // The rows passed and to be passed: the first row ahead and the count of them, the stair's first row and the count of its rows, the count of rows on
@@ -169,13 +169,13 @@ pub fn nth_front(table: &mut [u32], n: usize, v: Place, last: Step, number: u32)
         return Offered {
             found: false,
             cost: [0; 3],
-            step: 0,
+            step: Step(0),
         };
     }
     Offered {
         found: true,
         cost: row_cost(table, end.row as usize),
-        step: table[end.row as usize * 5 + 1],
+        step: Step(table[end.row as usize * 5 + 1]),
     }
 }
 

@@ -4,6 +4,7 @@ pub mod chain; // chain.rt: chains of rows of the arrivals table
 pub mod goal; // goal.rt: the goal's rows of the arrivals table, in the order of their costs
 pub mod front; // front.rt: the front off the goal's rows
 pub mod slow; // slow.rt: the front where the rows are too many for that
+pub mod lookup; // lookup.rt: rows of the arrivals table, found by their order
 pub mod walk; // walk.rt: the journey of a front cost
 pub mod calls; // calls.rt: the front and a journey of a sheet
 pub mod compare; // compare.rt: two fronts compared (demand 3)

@@ -66,14 +66,14 @@ pub fn nth_slow(table: &[u32], n: usize, v: Place, last: Step, number: usize) ->
             return Offered {
                 found: true,
                 cost,
-                step: table[k * 5 + 1],
+                step: Step(table[k * 5 + 1]),
             };
         }
     }
     Offered {
         found: false,
         cost: [0; 3],
-        step: 0,
+        step: Step(0),
     }
 }
 
@@ -86,7 +86,7 @@ pub fn list_slow(table: &[u32], n: usize, v: Place, last: Step, list: &mut [u32]
     for i in 0..count {
         let o = nth_slow(table, n, v, last, i);
         let cost = o.cost;
-        put_cost(list, i, cost, Step(o.step));
+        put_cost(list, i, cost, o.step);
     }
     clear_from(list, count * 4);
 }

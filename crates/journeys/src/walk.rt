@@ -1,191 +1,166 @@
 // The journey of a front cost, walked back from its arrival: at each step the lowest place that can stand before.
 ghost use mathlib.Core.Path.{_≡_};
-ghost use Prim.Native.Nat.{_+_, _*_, _≤_, _<_, _%_};
-ghost use lib.ListN.{length};
-ghost use Rattle.costs.specs.Costs.{figures, add, AtMost};
-ghost use Rattle.costs.specs.Priced.{Within, asCrossing};
+ghost use Prim.Native.Nat.{_≤_, _<_};
+ghost use lib.Seq.{sets};
+ghost use Rattle.sheet.specs.Store.{SomeStore, sheetIn};
 ghost use Rattle.sheet.specs.Laws.Decided.{Decided};
-ghost use Rattle.journeys.specs.Inner.{Walkable, WalkIs};
-ghost use Rattle.journeys.specs.Inner.Walk.{Waits, Becomes, BecomesIn, MoveIs, Readable, StepIs, BeforeIs};
+ghost use Rattle.costs.specs.Priced.{Within, asCrossing};
+ghost use Rattle.journeys.specs.Computed.{journeyOf};
+ghost use Rattle.journeys.specs.Held.{Layable};
+ghost use Rattle.journeys.specs.Inner.Lookup.{standing, Sorted};
+ghost use Rattle.journeys.specs.Inner.Walk.{BecomesAt, Becomes, MoveFound, Walkable, asBack, StepFound, Lowest};
+use crate::lookup::Stand;
+use crate::lookup::has_row;
+use arrivals::network::Here;
 use costs::Crossing;
 use costs::at_most;
 use costs::crossing_at;
+use costs::less;
+use costs::multiple;
 use costs::wait_at;
+use intervals::first_step;
 use sheet::Place;
 use sheet::Step;
 
-// A place and a cost one step before, if they can stand there.
+// A cost one step before, if a cart can stand there with it.
 pub struct Back {
     pub found: bool,
-    pub place: u32,
     pub cost: [u32; 3],
 }
 
-// Whether the cost in row k becomes h by n steps of waiting at cost w.
-fn waits_to(table: &[u32], k: usize, n: u32, w: [u32; 3], h: [u32; 3]) -> bool
-    requires { ⌜ (k * 5 + 5 ≤ length (now table)) × (n ≤ 60000) × (Within 60000 w) ⌝ }
-    ensures { λ r. ⌜ Decided (Waits (now (table .entry)) k n w h) r ⌝ }
+// Whether one of the first n rows is an arrival at here's place at this step that becomes h by waiting until here's step.
+fn becomes_at(table: &[u32], n: usize, here: Here, h: [u32; 3], step: Step) -> bool
+    requires { ⌜ (Sorted n (now table)) × (step .0 ≤ here .step .0) × (here .step .0 ≤ 60000) × (Within 60000 (here .wait)) ⌝ }
+    ensures { λ r. ⌜ Decided (BecomesAt n (now (table .entry)) here h (step .0)) r ⌝ }
 {
-    for i in 0..3 {
-        let x = table[k * 5 + 2 + i];
-        if h[i] < x {
-            return false;
-        }
-        if h[i] - x != n * w[i] {
-            return false;
-        }
-    }
-    true
-}
-
-// Whether row k is an arrival at u, at a step e from `low` to t, that becomes h by waiting t - e steps at cost w.
-fn row_becomes(table: &[u32], k: usize, u: u32, low: u32, t: u32, w: [u32; 3], h: [u32; 3]) -> bool
-    requires { ⌜ (k * 5 + 5 ≤ length (now table)) × (t ≤ 60000) × (Within 60000 w) ⌝ }
-    ensures { λ r. ⌜ Decided (Becomes (now (table .entry)) u low t w h k) r ⌝ }
-{
-    let e = table[k * 5 + 1];
-    if (table[k * 5] != u) | (e < low) | (t < e) {
+    let wait = here.wait;
+    let waited = multiple(here.step.0 - step.0, wait);
+    if !at_most(waited, h) {
         return false;
     }
-    waits_to(table, k, t - e, w, h)
+    let place = here.place;
+    let cost = less(h, waited);
+    has_row(table, n, Stand { place, step, cost })
 }
 
-// Whether some of the first n rows is such an arrival.
-fn becomes(table: &[u32], n: usize, u: u32, low: u32, t: u32, w: [u32; 3], h: [u32; 3]) -> bool
-    requires { ⌜ (n * 5 ≤ length (now table)) × (t ≤ 60000) × (Within 60000 w) ⌝ }
-    ensures { λ r. ⌜ Decided (BecomesIn n (now (table .entry)) u low t w h) r ⌝ }
+// Whether one of them, at a step of here's safe interval, does.
+fn becomes(table: &[u32], n: usize, here: Here, h: [u32; 3]) -> bool
+    requires { ⌜ (Sorted n (now table)) × (here .step .0 ≤ 60000) × (Within 60000 (here .wait)) ⌝ }
+    ensures { λ r. ⌜ Decided (Becomes n (now (table .entry)) here h) r ⌝ }
 {
-    let mut k = 0;
-    while k < n {
-        if row_becomes(table, k, u, low, t, w, h) {
+    let first = here.since.0;
+    let mut s = here.step.0 + 1;
+    while first < s {
+        s -= 1;
+        if becomes_at(table, n, here, h, Step(s)) {
             return true;
         }
-        k += 1;
     }
     false
 }
 
 // The cost of the move from u to v at step t, if there is one.
-fn move_cost(head: &[u32], corridors: &[u32], u: u32, v: u32, t: u32) -> Crossing
-    requires { ⌜ (length (now head) ≡ 7) × (length (now corridors) ≤ 1280) × (length (now corridors) % 5 ≡ 0) ⌝ }
-    ensures { λ r. ⌜ MoveIs (now (head .entry)) (now (corridors .entry)) u v t (asCrossing r) ⌝ }
+fn move_cost(lines: &[u32], all: &[u32], u: Place, v: Place, t: Step) -> Crossing
+    requires { ⌜ SomeStore (now lines) (now all) ⌝ }
+    ensures { λ r. ⌜ MoveFound (sheetIn (now (lines .entry)) (now (all .entry))) (u .0) (v .0) (t .0) (asCrossing r) ⌝ }
 {
-    if u == v {
+    if u.0 == v.0 {
         return Crossing {
             open: true,
-            cost: wait_at(head, Place(u)),
+            cost: wait_at(lines, all, u),
         };
     }
-    crossing_at(corridors, Place(u), Place(v), Step(t))
+    crossing_at(lines, all, u, v, t)
 }
 
-// What is left of h after c is taken off.
-fn less(h: [u32; 3], c: [u32; 3]) -> [u32; 3]
-    requires { ⌜ AtMost c h ⌝ }
-    ensures { λ r. ⌜ (length r ≡ figures) × (add r c ≡ h) ⌝ }
-{
-    let mut r = [0; 3];
-    for i in 0..3 {
-        r[i] = h[i] - c[i];
-    }
-    r
-}
-
-// The cost at u at step t, if a move from there makes the cost h at v one step on.
+// The cost at u one step before `next`, if a move from there makes `next`.
 fn step_from(
-    head: &[u32],
-    corridors: &[u32],
+    lines: &[u32],
+    all: &[u32],
+    since: &[u16],
     table: &[u32],
     n: usize,
-    since: &[u16],
-    u: u32,
-    v: u32,
-    t: u32,
-    h: [u32; 3],
+    u: Place,
+    next: Stand,
 ) -> Back
-    requires { ⌜ (Readable (now head) (now corridors) n (now table) (now since)) × (u < 64) × (t < 256) ⌝ }
-    ensures { λ r. ⌜ StepIs (now (head .entry)) (now (corridors .entry)) n (now (table .entry)) (now (since .entry)) u v t h r ⌝ }
+    requires { ⌜ (Walkable (now lines) (now all) (now since) n (now table) (standing next)) × (u .0 < 64) ⌝ }
+    ensures { λ r. ⌜ StepFound (sheetIn (now (lines .entry)) (now (all .entry))) (u .0) (standing next) (asBack r) ⌝ }
 {
-    let m = move_cost(head, corridors, u, v, t);
-    if !m.open {
-        return Back {
-            found: false,
-            place: u,
-            cost: h,
-        };
-    }
+    let t = Step(next.step.0 - 1);
+    let h = next.cost;
+    let m = move_cost(lines, all, u, next.place, t);
     let price = m.cost;
-    if !at_most(price, h) {
+    if !(m.open & at_most(price, h)) {
         return Back {
             found: false,
-            place: u,
             cost: h,
         };
     }
-    let low = since[u as usize * 256 + t as usize] as u32;
-    let g = less(h, price);
-    let found = becomes(table, n, u, low, t, wait_at(head, Place(u)), g);
-    Back {
-        found: found,
+    let here = Here {
         place: u,
-        cost: g,
-    }
+        step: t,
+        since: first_step(since, u, t),
+        wait: wait_at(lines, all, u),
+    };
+    let cost = less(h, price);
+    let found = becomes(table, n, here, cost);
+    Back { found, cost }
 }
 
-// The lowest place that can stand before v at step t, with its cost, where the cart is at v with cost h one step on.
+// The lowest place that can stand one step before `next`, with its cost.
 fn place_before(
-    head: &[u32],
-    corridors: &[u32],
+    lines: &[u32],
+    all: &[u32],
+    since: &[u16],
     table: &[u32],
     n: usize,
-    since: &[u16],
-    v: u32,
-    t: u32,
-    h: [u32; 3],
-) -> Back
-    requires { ⌜ (Readable (now head) (now corridors) n (now table) (now since)) × (t < 256) ⌝ }
-    ensures { λ r. ⌜ BeforeIs (now (head .entry)) (now (corridors .entry)) n (now (table .entry)) (now (since .entry)) v t h r ⌝ }
+    next: Stand,
+) -> Stand
+    requires { ⌜ Walkable (now lines) (now all) (now since) n (now table) (standing next) ⌝ }
+    ensures { λ r. ⌜ Lowest (sheetIn (now (lines .entry)) (now (all .entry))) (standing r) (standing next) ⌝ }
 {
-    let places = head[0];
+    let places = all[0];
     let mut u = 0;
     while u < places {
-        let b = step_from(head, corridors, table, n, since, u, v, t, h);
+        let b = step_from(lines, all, since, table, n, Place(u), next);
         if b.found {
-            return b;
+            let cost = b.cost;
+            return Stand {
+                place: Place(u),
+                step: Step(next.step.0 - 1),
+                cost,
+            };
         }
         u += 1;
     }
-    Back {
-        found: false,
-        place: v,
-        cost: h,
-    }
+    // not reached: an arrival past step 0 has one before it
+    next
 }
 
 // Writes the places of the journey of the front cost `cost`, which arrives at step `arrival`, for each step from 0 on; what is past them is kept.
-// The time grows with the steps, the places and the rows.
+// The time grows with the steps, with the places that a corridor leads from, with the steps of their safe intervals and with the logarithm of the rows.
 pub fn walk_back(
-    head: &[u32],
-    corridors: &[u32],
+    lines: &[u32],
+    all: &[u32],
+    since: &[u16],
     table: &[u32],
     n: usize,
-    since: &[u16],
-    arrival: u32,
+    arrival: Step,
     cost: [u32; 3],
     path: &mut [u32],
 )
-    requires { ⌜ Walkable (now head) (now corridors) n (now table) (now since) arrival cost (now path) ⌝ }
-    ensures { λ _. ⌜ WalkIs (now (head .entry)) (now (corridors .entry)) n (now (table .entry)) (now (since .entry)) arrival cost (now (path .entry)) (now (path .exit)) ⌝ }
+    requires { ⌜ Layable (now lines) (now all) (now since) n (now table) (arrival .0) cost (now path) ⌝ }
+    ensures { λ _. ⌜ now (path .exit) ≡ sets (now (path .entry)) 0 (journeyOf (sheetIn (now (lines .entry)) (now (all .entry))) cost) ⌝ }
 {
-    let mut v = head[3];
-    let mut h = cost;
-    let mut t = arrival;
-    while t > 0 {
-        path[t as usize] = v;
-        t -= 1;
-        let b = place_before(head, corridors, table, n, since, v, t, h);
-        v = b.place;
-        h = b.cost;
+    let mut at = Stand {
+        place: Place(all[3]),
+        step: arrival,
+        cost,
+    };
+    while 0 < at.step.0 {
+        let t = at.step.0;
+        path[t as usize] = at.place.0;
+        at = place_before(lines, all, since, table, n, at);
     }
-    path[0] = v;
+    path[0] = at.place.0;
 }

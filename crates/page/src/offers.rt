@@ -8,6 +8,7 @@ ghost use Rattle.page.specs.Page.{mostPrinted, journeyLines, offerLines}
 ghost use Rattle.page.specs.Inner.{costIn, Printable, Offered};
 use costs::cost_from;
 use journeys::calls::lay_path;
+use sheet::Step;
 use sheet::text::put_line;
 use sheet::text::widen;
 
@@ -34,14 +35,15 @@ fn put_journey(
     at: usize,
 ) -> usize
     requires { ⌜ Printable (now lines) (now all) (now since) (now table) n (now row) (now out) at ⌝ }
-    ensures { λ r. ⌜ Puts (journeyLines (sheetIn (now (lines .entry)) (now (all .entry))) (costIn (now (row .entry)))) (now (out .entry)) at (now (out .exit)) r ⌝ }
+    ensures { λ r. ⌜ Puts (journeyLines (sheetIn (now (lines .entry)) (now (all .entry))) (costIn (now (row .entry))))
+        (now (out .entry)) at (now (out .exit)) r ⌝ }
 {
     let mut path = [0u32; 256];
-    let arrival = row[3];
+    let arrival = Step(row[3]);
     let cost = cost_from(row, 0);
     lay_path(lines, all, since, table, n, arrival, cost, &mut path);
     let next = put_row(out, at, 74, row);
-    let e = arrival as usize + 1;
+    let e = arrival.0 as usize + 1;
     put_row(out, next, 80, &path[..e])
 }
 

@@ -8,16 +8,16 @@ use Prim.Native.Nat.{ℕ}
 use lib.Dec.{eqb}
 use Rattle.sheet.specs.Lists.{pick}
 use Rattle.sheet.specs.Lines.{Line}
-use Rattle.sheet.specs.Sheet.{Test, test, tests, firstFailed, fault}
+use Rattle.sheet.specs.Sheet.{tests, firstFailed, fault}
 use Rattle.sheet.specs.Inner.{Stored, FaultIs}
 
 -- the tests from that of refusal n on
-abbrev pub from : ℕ → List Test → List Test
+abbrev pub from : ℕ → List (ℕ × Bool) → List (ℕ × Bool)
 from n [] = []
-from n (t ∷ ts) = pick (eqb (t .refusal) n) (t ∷ ts) (from n ts)
+from n (t ∷ ts) = pick (eqb (t .0) n) (t ∷ ts) (from n ts)
 
-abbrev pub first : ℕ → List Test → Bool → List Test
-first n ts b = test n b ∷ ts
+abbrev pub first : ℕ → List (ℕ × Bool) → Bool → List (ℕ × Bool)
+first n ts b = (n, b) ∷ ts
 
 module _ (lines all : List ℕ) (l : Line) where
   -- the tests from that of refusal n on are left

@@ -14,16 +14,17 @@ use borrow.Author.Tests.{leb-true, leb-false, eqb-false, le-leb, lt-leb, eq-eqb,
 use Rattle.sheet.specs.Lists.{pick}
 use Rattle.sheet.specs.Bytes.{lineFeed, split}
 use Rattle.sheet.specs.Kinds.{Kind}
-use Rattle.sheet.specs.Lines.{unended, lineOf, linesOf, textLines}
+use Rattle.sheet.specs.Lines.{lineOf, linesOf, textLines}
 use Rattle.sheet.specs.Inner.{spanOf}
 use Rattle.sheet.specs.LineEnds.{feedFrom, lineEndAt, EndIs}
 use Rattle.sheet.specs.declared.line_reader.LineEnd.{LineEnd}
 use Rattle.sheet.specs.declared.line_reader.LineEnd.the-variants.{At, Missing, Over}
 use Rattle.sheet.proofs.Parts.{span-le, parts-none, parts-here, split-step}
 
-unended-some : (s : List ℕ) → 1 ≤ length s → unended s ≡ none ∷ []
-unended-some [] h = absurd (omega arith)
-unended-some (b ∷ s) h = refl
+unended : (most : ℕ) (ks : List Kind) (s : List ℕ) → 1 ≤ length s → linesOf most ks (s ∷ []) ≡ none ∷ []
+unfolding linesOf
+unended most ks [] h = absurd (omega arith)
+unended most ks (b ∷ s) h = refl
 
 module _ (most : ℕ) (ks : List Kind) where
   -- the first line of a text, up to its line feed, and the lines after it
@@ -41,7 +42,7 @@ module _ (most : ℕ) (ks : List Kind) where
   unfolding textLines linesOf
   text-cut s h e =
       let l : length s ≤ spanOf lineFeed s = omega arith in
-      rw (split-step lineFeed s, parts-none lineFeed (suc (spanOf lineFeed s)) s (omega arith), take-all (spanOf lineFeed s) s l) (unended-some s h)
+      rw (split-step lineFeed s, parts-none lineFeed (suc (spanOf lineFeed s)) s (omega arith), take-all (spanOf lineFeed s) s l) (unended most ks s h)
 
   -- nothing is left of a text
   pub text-over : (src : List ℕ) (at : ℕ) → length src ≤ at → textLines most ks (drop at src) ≡ []

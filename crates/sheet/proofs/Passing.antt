@@ -11,7 +11,8 @@ use lib.Dec.{ltb, eqb}
 use lib.ListN.{length, getD, take, drop, length-drop, drop-of-length-le}
 use lib.Seq.{drop-cons, getD-take, getD-drop, length-take-le}
 use borrow.Author.Tests.{lt-ltb, le-ltb, eq-eqb, ne-eqb}
-use Rattle.sheet.specs.Lists.{lexb, after, any}
+use Rattle.sheet.specs.Lists.{any}
+use Rattle.sheet.specs.Computed.{lexb, after}
 use Rattle.sheet.specs.Sheet.{beyond, outside}
 use Rattle.sheet.specs.Inner.{limitAt}
 

@@ -1,6 +1,6 @@
 -- Judging with the lines so far in the arrays: where it starts, one line more, and the refusals.
 -- Assumes nothing.
-use mathlib.Core.Path.{_≡_, refl, sym, _∙_, ap, ap₂}
+use mathlib.Core.Path.{_≡_, refl, sym, _∙_, ap, ap₂, subst}
 use mathlib.Core.Bool.{Bool, true}
 use mathlib.Core.List.{List, [], _∷_, _++_, map}
 use mathlib.Core.Option.{Option, some, none}
@@ -12,7 +12,8 @@ use Rattle.sheet.specs.Kinds.{Kind, room, kinds}
 use Rattle.sheet.specs.Lines.{Line}
 use Rattle.sheet.specs.Sheet.{group, fault, lacking, Outcome, refused, judge}
 use Rattle.sheet.specs.Store.{baseIn, spread, Blank}
-use Rattle.sheet.specs.Inner.{FaultIs, LacksIs, Takes, Reached}
+use Rattle.sheet.specs.declared.reader.Verdict.{Verdict}
+use Rattle.sheet.specs.Inner.{FaultIs, LacksIs, Takes, Reached, NoneSoFar, SoFar}
 
 -- one line is judged, or what is no line, or the end
 judge-passed : (before : List Line) (l : Line) (ls : List (Option Line)) → fault before l ≡ 0 → judge before (some l ∷ ls) ≡ judge (before ++ (l ∷ [])) ls
@@ -74,3 +75,11 @@ module _ {end : Outcome} {lines all : List ℕ} {n : ℕ} where
   pub reached-short : {b : Bool} → Reached end [] lines all n → LacksIs lines b → b ≡ true → end ≡ refused 3 n
   reached-short R h e =
       sym (R .same) ∙ judge-lacking (R .before) (sym (h .of (R .before) all (R .stored)) ∙ e) ∙ ap (refused 3) (sym (R .next))
+
+  -- the verdict on lines that were judged with no refusal
+  module _ {todo : List (Option Line)} {v : Verdict} where
+    pub so-far : Reached end todo lines all n → NoneSoFar v n → SoFar end todo lines all v
+    so-far R e = record { refuses = λ y. absurd (y (e .0)); reaches = λ y. subst (λ (m : ℕ). Reached end todo lines all m) (sym (e .1)) R }
+
+    pub so-far-reached : SoFar end todo lines all v → NoneSoFar v n → Reached end todo lines all n
+    so-far-reached S e = subst (λ (m : ℕ). Reached end todo lines all m) (e .1) (S .reaches (e .0))

@@ -11,7 +11,8 @@ use lib.Dec.{ltb, leb, eqb}
 use lib.ListN.{length, take, drop, length-drop, List·getD-append}
 use lib.Seq.{getD-take, getD-drop, take-take}
 use borrow.Author.Tests.{ltb-true, ltb-false, eq-eqb, ne-eqb, eqb-true, eqb-false, not-false}
-use Rattle.sheet.specs.Lists.{pick, number, any, flat, lexb}
+use Rattle.sheet.specs.Lists.{pick, number, any, flat}
+use Rattle.sheet.specs.Computed.{lexb}
 use Rattle.sheet.specs.Kinds.{width, kindS}
 use Rattle.sheet.specs.Lines.{Line}
 use Rattle.sheet.specs.Sheet.{group, misplaced, tooMany, outside, placesIn, unpaired, latest, notAbove}

@@ -17,14 +17,14 @@ use Rattle.sheet.specs.Lines.{Line, line}
 use Rattle.sheet.specs.Sheet.{Sheet, sheetLines, Outcome, told}
 use Rattle.sheet.specs.Text.{sheetText}
 use Rattle.sheet.specs.Calls.{Groups, groupRows, uneven, sheetOfGroups, judgedGroups, writeEnd, writeRefused, written, writeGroups}
-use Rattle.sheet.specs.Store.{kindCount, kindAt, Blank, VerdictIs}
-use Rattle.sheet.specs.Inner.{lineAt, Takes, Reached, GroupReached, groupLines, GroupIs, GroupTaken}
+use Rattle.sheet.specs.Store.{kindCount, kindAt, Blank}
+use Rattle.sheet.specs.Inner.{lineAt, Takes, Reached, NoneSoFar, SoFar, GroupReached, Ready, groupLines, GroupTaken}
 use Rattle.sheet.specs.Laws.Members.{getD-map}
 use Rattle.sheet.specs.Laws.Rows.{rows-count, rows-at}
 use Rattle.sheet.specs.Laws.RoundTrip.{whole-judged}
 use Rattle.sheet.specs.declared.SheetWritten.{SheetWritten}
 use Rattle.sheet.specs.declared.reader.Verdict.{Verdict}
-use Rattle.sheet.proofs.Reached.{reached-start, reached-next, reached-fault}
+use Rattle.sheet.proofs.Reached.{reached-start, reached-next, reached-fault, so-far, so-far-reached}
 use Rattle.sheet.proofs.Reading.{stored-few}
 
 -- i lines of the group of kind k in g were taken
@@ -34,6 +34,10 @@ pub record Taken (k : ℕ) (g lines all : List ℕ) (n i : ℕ) (lines′ all′
 
 pub taken-none : {k : ℕ} {g lines all : List ℕ} {n : ℕ} → Taken k g lines all n 0 lines all n
 taken-none = record { of = λ end rest R. R }
+
+-- a refusal is handed on
+pub taken-refused : {k : ℕ} {g lines all : List ℕ} {v : Verdict} → Ready lines all v → (v .refusal ≡ 0 → ⊥) → GroupTaken k g lines all v lines all v
+taken-refused q z = record { of = λ end rest S. record { refuses = S .refuses; reaches = λ y. absurd (z y) }; ready = q }
 
 -- the lines of the group of kind k in g
 module _ (k : ℕ) (g : List ℕ) (h : k < kindCount) where
@@ -73,18 +77,21 @@ module _ (k : ℕ) (g : List ℕ) (h : k < kindCount) where
             of = λ end rest R. subst (λ (j : ℕ). Reached end (map some (drop j (groupLines k g)) ++ rest) lines″ all″ (next + 1)) (sym (add-one i)) (reached-next (taken-line end rest R) t z);
           }
 
-      pub taken-fault : {lines″ all″ : List ℕ} {r : ℕ} → Takes lines′ all′ (lineAt k v) lines″ all″ r → (r ≡ 0 → ⊥)
-          → GroupTaken k g lines all n lines″ all″ (record { refusal = r; line = next })
-      taken-fault t z = record { of = λ end rest R. record { refuses = λ y. reached-fault (taken-line end rest R) (t .fault-is) z; reaches = λ y. absurd (z y) } }
+      pub taken-fault : {u : Verdict} → NoneSoFar u n → {lines″ all″ : List ℕ} {r : ℕ} → Takes lines′ all′ (lineAt k v) lines″ all″ r → (r ≡ 0 → ⊥)
+          → GroupTaken k g lines all u lines″ all″ (record { refusal = r; line = next })
+      taken-fault u t z =
+          record {
+            of = λ end rest S. record { refuses = λ y. reached-fault (taken-line end rest (so-far-reached S u)) (t .fault-is) z; reaches = λ y. absurd (z y) };
+            ready = record { reached = λ y. absurd (z y) };
+          }
 
-  pub taken-all : {lines all lines′ all′ : List ℕ} {n i next : ℕ} → Taken k g lines all n i lines′ all′ next → length g / w ≤ i
-      → GroupTaken k g lines all n lines′ all′ (record { refusal = 0; line = next })
-  taken-all {lines′ = lines′} {all′ = all′} {i = i} {next = next} T l =
+  pub taken-all : {lines all lines′ all′ : List ℕ} {u v : Verdict} {n i next : ℕ} → Taken k g lines all n i lines′ all′ next → NoneSoFar u n → length g / w ≤ i
+      → GroupReached lines′ all′ next → NoneSoFar v next → GroupTaken k g lines all u lines′ all′ v
+  taken-all {lines′ = lines′} {all′ = all′} {i = i} {next = next} T u l q e =
+      let none-left = drop-of-length-le (groupLines k g) {i = i} (omega (arith, l, group-count)) in
       record {
-        of = λ end rest R. record {
-          refuses = λ y. absurd (y refl);
-          reaches = λ y. subst (λ (ls : List Line). Reached end (map some ls ++ rest) lines′ all′ next) (drop-of-length-le (groupLines k g) {i = i} (omega (arith, l, group-count))) (T .of end rest R);
-        };
+        of = λ end rest S. so-far (subst (λ (ls : List Line). Reached end (map some ls ++ rest) lines′ all′ next) none-left (T .of end rest (so-far-reached S u))) e;
+        ready = record { reached = λ y. subst (λ (m : ℕ). GroupReached lines′ all′ m) (sym (e .1)) q };
       }
 
 -- one more line of an array that holds lines
@@ -120,20 +127,14 @@ module _ (g : Groups) (e : length (g .head) ≡ width kindS) where
       ∙ ap (λ (ls : List (Option Line)). map some (groupLines 0 (g .head)) ++ ls)
       (map-append cs (os ++ []) [] ∙ ap (λ (ls : List (Option Line)). map some cs ++ ls) (ap (λ (ls : List Line). map some ls ++ []) (append-nil os)))
 
-  pub groups-start : {lines all : List ℕ} → Blank lines all → Reached (judgedGroups g) (map some (groupLines 0 (g .head)) ++ (map some cs ++ (map some os ++ []))) lines all 1
+  pub groups-start : {lines all : List ℕ} {v : Verdict} → Blank lines all → NoneSoFar v 1
+      → SoFar (judgedGroups g) (map some (groupLines 0 (g .head)) ++ (map some cs ++ (map some os ++ []))) lines all v
   unfolding judgedGroups
-  groups-start {lines} {all} b =
-      subst (λ (t : List (Option Line)). Reached (judgedGroups g) t lines all 1) lines-of (reached-start b (map some (sheetLines (sheetOfGroups g))))
+  groups-start {lines} {all} {v} b e =
+      subst (λ (t : List (Option Line)). SoFar (judgedGroups g) t lines all v) lines-of (so-far (reached-start b (map some (sheetLines (sheetOfGroups g)))) e)
 
--- a group that was taken with a refusal ends the judgement
-pub group-refused : {end : Outcome} {rest : List (Option Line)} {lines all : List ℕ} {v : Verdict} → GroupIs end rest lines all v → (v .refusal ≡ 0 → ⊥) → VerdictIs end lines all v
-group-refused q z = record { refuses = λ y. q .refuses z; holds = λ y. absurd (z y) }
-
-pub group-kept : {end : Outcome} {rest : List (Option Line)} {lines all : List ℕ} {v : Verdict} → GroupIs end rest lines all v → v .refusal ≡ 0 → GroupReached lines all (v .line)
-group-kept q e = let r = q .reaches e in record { before = r .before; stored = r .stored; next = r .next }
-
-pub start-kept : {end : Outcome} {todo : List (Option Line)} {lines all : List ℕ} {n : ℕ} → Reached end todo lines all n → GroupReached lines all n
-start-kept r = record { before = r .before; stored = r .stored; next = r .next }
+pub so-far-ready : {end : Outcome} {todo : List (Option Line)} {lines all : List ℕ} {v : Verdict} → SoFar end todo lines all v → Ready lines all v
+so-far-ready S = record { reached = λ z. let r = S .reaches z in record { before = r .before; stored = r .stored; next = r .next } }
 
 -- the writer's refusals, by their fields
 pub refused-as : (r : SheetWritten) (k n : ℕ) (out : List ℕ) → (r .refusal ≡ k) × (r .line ≡ n) × (r .bytes ≡ 0) → writeEnd r out ≡ writeRefused out k n

@@ -7,7 +7,8 @@ use Prim.Native.Nat.{ℕ, zero, suc, _+_, _*_, _-_, _≤_, _<_}
 use lib.Dec.{leb, eqb}
 use lib.ListN.{length, getD, take, drop}
 use lib.Seq.{sets}
-use Rattle.sheet.specs.Lists.{pick, number, any, lexb, rows, bind}
+use Rattle.sheet.specs.Lists.{pick, number, any, rows, bind}
+use Rattle.sheet.specs.Computed.{lexb}
 use Rattle.sheet.specs.Bytes.{kindOf, comma, split}
 use Rattle.sheet.specs.Decimal.{digitsFrom, numberOf, mostDigits}
 use Rattle.sheet.specs.Kinds.{Limit, between, place, step, cost, Pair, alone, different, ordered, Kind, width, kindS, kinds}
@@ -15,7 +16,7 @@ use Rattle.sheet.specs.Lines.{Line, line, lineOf}
 use Rattle.sheet.specs.Sheet.{Sheet, group, fault, lacking, Outcome, refused, loaded, judge}
 use Rattle.sheet.specs.Text.{lineText, sheetText}
 use Rattle.sheet.specs.Calls.{readAnswer, groupRows}
-use Rattle.sheet.specs.Store.{kindAt, baseOf, spread, StoreOf}
+use Rattle.sheet.specs.Store.{kindAt, baseOf, spread, StoreOf, VerdictIs}
 use Rattle.sheet.specs.Laws.Judge.{Passes}
 use Rattle.sheet.specs.Laws.Shape.{AllShaped}
 use Rattle.sheet.specs.declared.SheetRead.{SheetRead}
@@ -104,10 +105,18 @@ pub record Reached (end : Outcome) (todo : List (Option Line)) (lines all : List
 pub record AnswerIs (lines all : List ℕ) (r : SheetRead) : Type 0 where
   pub of : (s : Sheet) → StoreOf s lines all → r ≡ readAnswer (loaded s)
 
--- v tells how a group's lines were judged: the refusal, or 0 and the number of the next line, with the lines of the rest still to be judged
-pub record GroupIs (end : Outcome) (rest : List (Option Line)) (lines all : List ℕ) (v : Verdict) : Type 0 where
+-- v tells of no refusal, and n is the number of the next line
+abbrev pub NoneSoFar : Verdict → ℕ → Type 0
+NoneSoFar v n = (v .refusal ≡ 0) × (v .line ≡ n)
+
+-- v tells how lines were judged so far: the refusal, or 0 and the number of the next line, with the lines of the rest still to be judged
+pub record SoFar (end : Outcome) (rest : List (Option Line)) (lines all : List ℕ) (v : Verdict) : Type 0 where
   pub refuses : (v .refusal ≡ 0 → ⊥) → end ≡ refused (v .refusal) (v .line)
   pub reaches : v .refusal ≡ 0 → Reached end rest lines all (v .line)
+
+-- r tells how the input is judged that ends after the lines that v tells of
+pub record EndedIs (lines : List ℕ) (v r : Verdict) : Type 0 where
+  pub of : (end : Outcome) (all : List ℕ) → SoFar end [] lines all v → VerdictIs end lines all r
 
 -- the array holds lines, and n is the number of the next one
 pub record GroupReached (lines all : List ℕ) (n : ℕ) : Type 0 where
@@ -115,13 +124,18 @@ pub record GroupReached (lines all : List ℕ) (n : ℕ) : Type 0 where
   pub stored : Stored before lines all
   pub next : n ≡ suc (length before)
 
+-- where v is no refusal, the array holds lines, and v has the number of the next one
+pub record Ready (lines all : List ℕ) (v : Verdict) : Type 0 where
+  pub reached : v .refusal ≡ 0 → GroupReached lines all (v .line)
+
 -- the lines of the kind with number k whose numbers stand in g one after another
 abbrev pub groupLines : ℕ → List ℕ → List Line
 groupLines k g = map (line (kindAt k)) (groupRows (kindAt k) g)
 
--- v tells how the lines of a group were judged, whatever comes after them
-pub record GroupTaken (k : ℕ) (g lines all : List ℕ) (n : ℕ) (lines′ all′ : List ℕ) (v : Verdict) : Type 0 where
-  pub of : (end : Outcome) (rest : List (Option Line)) → Reached end (map some (groupLines k g) ++ rest) lines all n → GroupIs end rest lines′ all′ v
+-- r tells how the lines of a group were judged after those that v tells of, whatever comes after them
+pub record GroupTaken (k : ℕ) (g lines all : List ℕ) (v : Verdict) (lines′ all′ : List ℕ) (r : Verdict) : Type 0 where
+  pub of : (end : Outcome) (rest : List (Option Line)) → SoFar end (map some (groupLines k g) ++ rest) lines all v → SoFar end rest lines′ all′ r
+  pub ready : Ready lines′ all′ r
 
 -- the values of f at i and the numbers after it, n of them
 abbrev pub listed : (ℕ → ℕ) → ℕ → ℕ → List ℕ

@@ -1,4 +1,5 @@
 pub mod Lists
+pub mod Computed
 pub mod Sorting
 pub mod Bytes
 pub mod Decimal

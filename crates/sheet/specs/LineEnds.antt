@@ -14,8 +14,9 @@ use Rattle.sheet.specs.Bytes.{lineFeed}
 use Rattle.sheet.specs.Decimal.{mostDigits}
 use Rattle.sheet.specs.Kinds.{Kind, kinds}
 use Rattle.sheet.specs.Lines.{Line, lineOf, textLines}
-use Rattle.sheet.specs.Sheet.{refused, readOf}
-use Rattle.sheet.specs.Inner.{spanOf, Reached}
+use Rattle.sheet.specs.Sheet.{readOf}
+use Rattle.sheet.specs.Inner.{spanOf, Reached, SoFar}
+use Rattle.sheet.specs.declared.reader.Verdict.{Verdict}
 use Rattle.sheet.specs.declared.reader.Turn.{Turn}
 use Rattle.sheet.specs.declared.line_reader.LineReader.{LineReader}
 use Rattle.sheet.specs.declared.line_reader.LineEnd.{LineEnd}
@@ -56,10 +57,13 @@ ReadUpTo src at lines all n = Reached (readOf src) (left src at) lines all n
 abbrev pub stopped : ℕ → ℕ → Turn
 stopped k n = record { more = false; end = 0; refusal = k; line = n }
 
+-- what t tells of how lines were judged
+abbrev pub judgedBy : Turn → Verdict
+judgedBy t = record { refusal = t .refusal; line = t .line }
+
 -- t tells that reading is over: with a refusal; or with 0, and every line stands in the array
-pub record OverIs (src lines all : List ℕ) (t : Turn) : Type 0 where
-  pub refuses : (t .refusal ≡ 0 → ⊥) → readOf src ≡ refused (t .refusal) (t .line)
-  pub reaches : t .refusal ≡ 0 → Reached (readOf src) [] lines all (t .line)
+abbrev pub OverIs : List ℕ → List ℕ → List ℕ → Turn → Type 0
+OverIs src lines all t = SoFar (readOf src) [] lines all (judgedBy t)
 
 -- t tells what became of the line from `at` on: it ends at the line feed found and stands in the array, or reading is over
 pub record TurnIs (src : List ℕ) (at : ℕ) (lines all : List ℕ) (t : Turn) : Type 0 where

@@ -42,16 +42,12 @@ unfoldable pub lineOf : ℕ → List Kind → List ℕ → Option Line
 unfolding ofFields split
 lineOf most ks p = ofFields most ks (split comma p)
 
--- what stands after the last line feed: nothing, or a line whose line feed is missing, which test 2 refuses
-abbrev pub unended : List ℕ → List (Option Line)
-unended [] = []
-unended (b ∷ bs) = none ∷ []
-
--- the lines of the parts between line feeds
+-- the lines of the parts between line feeds; what stands after the last is nothing, or a line whose line feed is missing, which test 2 refuses
 unfoldable pub linesOf : ℕ → List Kind → List (List ℕ) → List (Option Line)
 unfolding lineOf
 linesOf most ks [] = []
-linesOf most ks (p ∷ []) = unended p
+linesOf most ks ([] ∷ []) = []
+linesOf most ks ((b ∷ bs) ∷ []) = none ∷ []
 linesOf most ks (p ∷ q ∷ ps) = lineOf most ks p ∷ linesOf most ks (q ∷ ps)
 
 -- the lines of a text

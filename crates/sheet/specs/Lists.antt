@@ -6,7 +6,6 @@ use mathlib.Core.Bool.{Bool, true, false, _&&_, _||_}
 use mathlib.Core.List.{List, [], _∷_, _++_}
 use mathlib.Core.Option.{Option, some, none}
 use Prim.Native.Nat.{ℕ, zero, suc, _-_, _<_}
-use lib.Dec.{ltb, eqb}
 use lib.ListN.{length, getD, take, drop, replicate}
 
 -- the first where the test passed, else the second
@@ -80,15 +79,3 @@ Lex [] [] = ⊥
 Lex [] (y ∷ b) = Unit {0}
 Lex (x ∷ a) [] = ⊥
 Lex (x ∷ a) (y ∷ b) = (x < y) ⊎ ((x ≡ y) × Lex a b)
-
--- the same, computed; `after` has the tests of the heads, and that of the tails
-abbrev pub after : Bool → Bool → Bool → Bool
-after true e r = true
-after false true r = r
-after false false r = false
-
-abbrev pub lexb : List ℕ → List ℕ → Bool
-lexb [] [] = false
-lexb [] (y ∷ b) = true
-lexb (x ∷ a) [] = false
-lexb (x ∷ a) (y ∷ b) = after (ltb x y) (eqb x y) (lexb a b)

@@ -6,7 +6,8 @@ use mathlib.Core.Option.{Option, some, none}
 use Prim.Native.Nat.{ℕ, suc}
 use lib.Dec.{ltb, leb, eqb}
 use lib.ListN.{length, take}
-use Rattle.sheet.specs.Lists.{pick, number, filter, any, flat, lexb}
+use Rattle.sheet.specs.Lists.{pick, number, filter, any, flat}
+use Rattle.sheet.specs.Computed.{lexb}
 use Rattle.sheet.specs.Decimal.{mostDigits}
 use Rattle.sheet.specs.Kinds.{Limit, between, place, Pair, alone, different, ordered, Kind, kindS, kindC, kindO, kinds}
 use Rattle.sheet.specs.Lines.{Line, line, textLines}
@@ -111,28 +112,20 @@ abbrev pub notAbove : ℕ → Option (List ℕ) → List ℕ → Bool
 notAbove key none ns = false
 notAbove key (some ms) ns = not (lexb (take key ms) (take key ns))
 
--- a test of a line: the refusal's number, and whether the line fails
-pub record Test : Type 0 where
-  pub refusal : ℕ
-  pub fails : Bool
-
-abbrev pub test : ℕ → Bool → Test
-test n b = record { refusal = n; fails = b }
-
--- the tests after 2, in their order
-unfoldable pub tests : List Line → Line → List Test
+-- the tests after 2, in their order: of each the refusal's number, and whether the line fails
+unfoldable pub tests : List Line → Line → List (ℕ × Bool)
 tests before l =
-    test 3 (misplaced before l)
-    ∷ test 7 (tooMany before l)
-    ∷ test 4 (outside (placesIn (before ++ (l ∷ []))) (l .kind .limits) (l .numbers))
-    ∷ test 6 (unpaired (l .kind .pair) (l .numbers))
-    ∷ test 5 (notAbove (l .kind .key) (latest (group (l .kind) before)) (l .numbers))
+    (3, misplaced before l)
+    ∷ (7, tooMany before l)
+    ∷ (4, outside (placesIn (before ++ (l ∷ []))) (l .kind .limits) (l .numbers))
+    ∷ (6, unpaired (l .kind .pair) (l .numbers))
+    ∷ (5, notAbove (l .kind .key) (latest (group (l .kind) before)) (l .numbers))
     ∷ []
 
 -- the number of the first test that fails, 0 where none does
-abbrev pub firstFailed : List Test → ℕ
+abbrev pub firstFailed : List (ℕ × Bool) → ℕ
 firstFailed [] = 0
-firstFailed (t ∷ ts) = let r = firstFailed ts in pick (t .fails) (t .refusal) r
+firstFailed (t ∷ ts) = let r = firstFailed ts in pick (t .1) (t .0) r
 
 -- the fault of a line after the lines before it, 0 for none
 unfoldable pub fault : List Line → Line → ℕ
@@ -144,7 +137,7 @@ pub data Outcome : Type 0 where
   loaded : Sheet → Outcome
 
 -- what is made of an outcome: of the refusal's number and line, or of the sheet
-abbrev pub told : {A : Type 0} → (ℕ → ℕ → A) → (Sheet → A) → Outcome → A
+abbrev pub told {ℓ} : {A : Type ℓ} → (ℕ → ℕ → A) → (Sheet → A) → Outcome → A
 told refuse serve (refused k n) = refuse k n
 told refuse serve (loaded s) = serve s
 

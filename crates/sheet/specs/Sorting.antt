@@ -3,7 +3,8 @@
 use mathlib.Core.Bool.{Bool, true, false}
 use mathlib.Core.List.{List, [], _∷_}
 use Prim.Native.Nat.{ℕ}
-use Rattle.sheet.specs.Lists.{Lex, lexb}
+use Rattle.sheet.specs.Lists.{Lex}
+use Rattle.sheet.specs.Computed.{lexb}
 
 -- things in the order of their keys, which are lists of numbers
 module _ {A : Type 0} (key : A → List ℕ) where

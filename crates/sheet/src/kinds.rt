@@ -58,37 +58,44 @@ pub struct Row {
     pub base: usize,
 }
 
-// The row of the kind k.
-pub fn row_of(k: usize) -> Row
-    requires { ⌜ k < kindCount ⌝ }
-    ensures { λ r. ⌜ RowIs k r ⌝ }
+// The row of S lines.
+fn head_row() -> Row
+    ensures { λ r. ⌜ RowIs 0 r ⌝ }
 {
-    if k == 0 {
-        return Row {
-            letter: b'S',
-            width: HEAD,
-            limits: [COUNT, STEP, PLACE, PLACE, COST, COST, COST, 0],
-            most: 1,
-            pair: ALONE,
-            one: 0,
-            other: 0,
-            key: 0,
-            base: 0,
-        };
+    Row {
+        letter: b'S',
+        width: HEAD,
+        limits: [COUNT, STEP, PLACE, PLACE, COST, COST, COST, 0],
+        most: 1,
+        pair: ALONE,
+        one: 0,
+        other: 0,
+        key: 0,
+        base: 0,
     }
-    if k == 1 {
-        return Row {
-            letter: b'C',
-            width: CORRIDOR,
-            limits: [PLACE, PLACE, COST, COST, COST, 0, 0, 0],
-            most: 256,
-            pair: DIFFERENT,
-            one: 0,
-            other: 1,
-            key: 2,
-            base: FIRST_CORRIDOR,
-        };
+}
+
+// The row of C lines.
+fn corridor_row() -> Row
+    ensures { λ r. ⌜ RowIs 1 r ⌝ }
+{
+    Row {
+        letter: b'C',
+        width: CORRIDOR,
+        limits: [PLACE, PLACE, COST, COST, COST, 0, 0, 0],
+        most: 256,
+        pair: DIFFERENT,
+        one: 0,
+        other: 1,
+        key: 2,
+        base: FIRST_CORRIDOR,
     }
+}
+
+// The row of O lines.
+fn occupancy_row() -> Row
+    ensures { λ r. ⌜ RowIs 2 r ⌝ }
+{
     Row {
         letter: b'O',
         width: OCCUPANCY,
@@ -100,4 +107,18 @@ pub fn row_of(k: usize) -> Row
         key: 3,
         base: FIRST_OCCUPANCY,
     }
+}
+
+// The row of the kind k.
+pub fn row_of(k: usize) -> Row
+    requires { ⌜ k < kindCount ⌝ }
+    ensures { λ r. ⌜ RowIs k r ⌝ }
+{
+    if k == 0 {
+        return head_row();
+    }
+    if k == 1 {
+        return corridor_row();
+    }
+    occupancy_row()
 }

@@ -4,8 +4,8 @@ ghost use lib.ListN.{length};
 ghost use Rattle.sheet.specs.Kinds.{kinds};
 ghost use Rattle.sheet.specs.Sheet.{refused, readOf};
 ghost use Rattle.sheet.specs.Calls.{readAnswer, readCall};
-ghost use Rattle.sheet.specs.Store.{Blank, SomeStore, VerdictIs};
-ghost use Rattle.sheet.specs.Inner.{kindTable, Forms, AnswerIs};
+ghost use Rattle.sheet.specs.Store.{kindCount, Blank, SomeStore, VerdictIs};
+ghost use Rattle.sheet.specs.Inner.{kindTable, Forms, AnswerIs, NoneSoFar, EndedIs};
 ghost use Rattle.sheet.specs.LineEnds.{EndIs, ReadUpTo, stopped, TurnIs, OverIs};
 use crate::SheetRead;
 use crate::bytes::table;
@@ -38,6 +38,36 @@ pub struct FormsOfLines {
     pub widths: [usize; KINDS],
 }
 
+// No refusal so far; the next line has the number n.
+pub fn passed(n: u32) -> Verdict
+    ensures { λ r. ⌜ NoneSoFar r n ⌝ }
+{
+    Verdict {
+        refusal: 0,
+        line: n,
+    }
+}
+
+// How the input is judged that ends after the lines judged so far: refused as they are, or with 3 where something is missing; or 0, and no line.
+pub fn ended(lines: &[u32], judged: Verdict) -> Verdict
+    requires { ⌜ length (now lines) ≡ kindCount ⌝ }
+    ensures { λ r. ⌜ EndedIs (now (lines .entry)) judged r ⌝ }
+{
+    if judged.refusal != 0 {
+        return judged;
+    }
+    if lacks(lines) {
+        return Verdict {
+            refusal: 3,
+            line: judged.line,
+        };
+    }
+    Verdict {
+        refusal: 0,
+        line: 0,
+    }
+}
+
 // The letters of the kinds and the counts of their numbers.
 fn forms() -> FormsOfLines
     ensures { λ r. ⌜ Forms kinds (r .letters) (r .widths) ⌝ }
@@ -52,7 +82,8 @@ fn forms() -> FormsOfLines
     FormsOfLines { letters, widths }
 }
 
-// What became of the reader's next line: it was taken, it ends at the line feed at `end`, and the next has the number `line`; or reading is over.
+// What became of the reader's next line: it was taken, it ends at the line feed at `end`, and the next has the number `line`; or reading is over, and
+// refusal and line are how the lines were judged.
 pub struct Turn {
     pub more: bool,
     pub end: usize,
@@ -151,22 +182,11 @@ pub fn read_into(src: &[u8], lines: &mut [u32], all: &mut [u32]) -> Verdict
     let bytes = table();
     let f = forms();
     let t = take_lines(&bytes, f, src, lines, all);
-    if t.refusal != 0 {
-        return Verdict {
-            refusal: t.refusal,
-            line: t.line,
-        };
-    }
-    if lacks(lines) {
-        return Verdict {
-            refusal: 3,
-            line: t.line,
-        };
-    }
-    Verdict {
-        refusal: 0,
-        line: 0,
-    }
+    let judged = Verdict {
+        refusal: t.refusal,
+        line: t.line,
+    };
+    ended(lines, judged)
 }
 
 // A refusal: its number, its line, and zeros.

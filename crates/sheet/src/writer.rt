@@ -6,9 +6,8 @@ ghost use Rattle.sheet.specs.Lists.{filled};
 ghost use Rattle.sheet.specs.Kinds.{width, kindS};
 ghost use Rattle.sheet.specs.Calls.{groups, judgedGroups, writeCall, writeEnd};
 ghost use Rattle.sheet.specs.Store.{kindCount, Blank, SomeStore, VerdictIs, WrittenIs};
-ghost use Rattle.sheet.specs.Inner.{GroupReached, GroupTaken};
+ghost use Rattle.sheet.specs.Inner.{Ready, GroupTaken};
 use crate::SheetWritten;
-use crate::judge::lacks;
 use crate::kinds::CORRIDOR;
 use crate::kinds::HEAD;
 use crate::kinds::KINDS;
@@ -16,6 +15,8 @@ use crate::kinds::OCCUPANCY;
 use crate::kinds::STORE;
 use crate::kinds::row_of;
 use crate::reader::Verdict;
+use crate::reader::ended;
+use crate::reader::passed;
 use crate::store::take_line;
 use crate::text::put_sheet;
 use crate::text::sheet_bytes;
@@ -34,16 +35,19 @@ fn row_at(g: &[u32], from: usize, w: usize) -> [u32; 8]
     v
 }
 
-// Takes the lines of kind k whose numbers stand in g one after another, of which the first has the number n: the first refusal with its line, or 0 and
-// the number of the line after them.
-fn take_group(lines: &mut [u32], all: &mut [u32], k: usize, g: &[u32], n: u32) -> Verdict
-    requires { ⌜ (k < kindCount) × (GroupReached (now lines) (now all) n) ⌝ }
-    ensures { λ r. ⌜ GroupTaken k (now (g .entry)) (now (lines .entry)) (now (all .entry)) n (now (lines .exit)) (now (all .exit)) r ⌝ }
+// Takes the lines of kind k whose numbers stand in g one after another, after those judged so far: the first refusal with its line, or 0 and the number
+// of the line after them.
+fn take_group(lines: &mut [u32], all: &mut [u32], k: usize, g: &[u32], judged: Verdict) -> Verdict
+    requires { ⌜ (k < kindCount) × (Ready (now lines) (now all) judged) ⌝ }
+    ensures { λ r. ⌜ GroupTaken k (now (g .entry)) (now (lines .entry)) (now (all .entry)) judged (now (lines .exit)) (now (all .exit)) r ⌝ }
 {
+    if judged.refusal != 0 {
+        return judged;
+    }
     let row = row_of(k);
     let w = row.width;
     let count = g.len() / w;
-    let mut next = n;
+    let mut next = judged.line;
     let mut i = 0;
     while i < count {
         let v = row_at(g, i * w, w);
@@ -57,10 +61,7 @@ fn take_group(lines: &mut [u32], all: &mut [u32], k: usize, g: &[u32], n: u32) -
         next += 1;
         i += 1;
     }
-    Verdict {
-        refusal: 0,
-        line: next,
-    }
+    passed(next)
 }
 
 // Takes the groups as the lines of a sheet into the array of all groups, with the counts of lines: 0, or a refusal with the line at fault.
@@ -72,30 +73,13 @@ fn take_groups(
     all: &mut [u32],
 ) -> Verdict
     requires { ⌜ (length (now head) ≡ width kindS) × (Blank (now lines) (now all)) ⌝ }
-    ensures { λ r. ⌜ VerdictIs (judgedGroups (groups (now (head .entry)) (now (corridors .entry)) (now (occupancies .entry)))) (now (lines .exit)) (now (all .exit)) r ⌝ }
+    ensures { λ r. ⌜ VerdictIs (judgedGroups (groups (now (head .entry)) (now (corridors .entry)) (now (occupancies .entry))))
+        (now (lines .exit)) (now (all .exit)) r ⌝ }
 {
-    let s = take_group(lines, all, 0, head, 1);
-    if s.refusal != 0 {
-        return s;
-    }
-    let c = take_group(lines, all, 1, corridors, s.line);
-    if c.refusal != 0 {
-        return c;
-    }
-    let o = take_group(lines, all, 2, occupancies, c.line);
-    if o.refusal != 0 {
-        return o;
-    }
-    if lacks(lines) {
-        return Verdict {
-            refusal: 3,
-            line: o.line,
-        };
-    }
-    Verdict {
-        refusal: 0,
-        line: 0,
-    }
+    let s = take_group(lines, all, 0, head, passed(1));
+    let c = take_group(lines, all, 1, corridors, s);
+    let o = take_group(lines, all, 2, occupancies, c);
+    ended(lines, o)
 }
 
 fn refuse(number: u32, line: u32) -> SheetWritten

@@ -40,6 +40,9 @@ pub record Search (k : Case) (t size : ℕ) (xs : List ℕ) (ok : Bool) (n : ℕ
 abbrev pub Ends : Case → ℕ → ℕ → List ℕ → Outcome → Type 0
 Ends k last size xs o = Search k (last + 1) size xs (o .ok) (o .rows)
 
+pub ends-as : {k : Case} {m n size rows : ℕ} {xs : List ℕ} {ok : Bool} → m ≡ n → Search k (m + 1) size xs ok rows → Search k (n + 1) size xs ok rows
+ends-as {k} {m} {n} {size} {rows} {xs} {ok} e h = subst (λ (i : ℕ). Search k (i + 1) size xs ok rows) e h
+
 -- zeros after the rows
 
 module _ (xs : List ℕ) (a b : ℕ) (fits : a ≤ length xs) where

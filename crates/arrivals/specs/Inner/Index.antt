@@ -15,6 +15,10 @@ use Rattle.arrivals.specs.Laws.Rows.{row-kept}
 use Rattle.arrivals.specs.Inner.Rows.{rowsOf, rows-find, zeros-at}
 use Rattle.arrivals.specs.Inner.Filling.{Grown}
 
+-- the length of the list
+abbrev pub indexRoom : ℕ
+indexRoom = 32896
+
 abbrev pub lowOf : List ℕ → ℕ → ℕ → ℕ
 lowOf ix s v = getD ix (s * 64 + v) 0
 

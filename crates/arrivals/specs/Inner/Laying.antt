@@ -8,34 +8,47 @@ use native.Mathlib.Decide.{ℕ-discrete}
 use lib.ListN.{length, getD, set, length-set}
 use lib.Seq.{getD-set-same, getD-set-other}
 use Rattle.sheet.specs.Lists.{number}
+use Rattle.sheet.specs.Sheet.{Sheet, places, start}
+use Rattle.sheet.specs.Store.{SomeStore, partOf, sheetIn}
 use Rattle.sheet.specs.Laws.Decided.{lt-or-le, from-same}
 use Rattle.costs.specs.Costs.{Cost, figures, AtMost}
-use Rattle.costs.specs.Priced.{WaitIs}
+use Rattle.costs.specs.Moves.{waitOf}
+use Rattle.costs.specs.Computed.{waitAt}
 use Rattle.arrivals.specs.Inner.Network.{Cheap, waitIn, linkOf, linkAt, countOf, placesOf, startOf, dearInto, dearOf, wait-kept}
 use Rattle.arrivals.specs.Rows.{Besides, FiguresPut}
 use Rattle.arrivals.specs.Laws.Rows.{besides-then, besides-wide}
 use Rattle.arrivals.specs.Inner.Chains.{Chained, chained-kept, chained-more, chained-besides, lastOf}
 use Rattle.arrivals.specs.Inner.Lent.{Linked}
 
--- the costs of waiting at the places below v
-pub record WaitsTo (head net : List ℕ) (v : ℕ) : Type 0 where
-  pub each : (u : ℕ) → u < v → WaitIs head (record { 0 = u }) (waitIn net u)
+-- a valid sheet stands in the array, and the list that the network is laid into is long enough
+pub record Layable (lines all net : List ℕ) : Type 0 where
+  pub some-store : SomeStore lines all
+  pub size : 2436 ≤ length net
 
-pub record WaitsLaid (head a b : List ℕ) : Type 0 where
-  pub waits : WaitsTo head b (number head 0)
+-- the list is zeros
+pub record Empty (net : List ℕ) : Type 0 where
+  pub zero : (i : ℕ) → getD net i 0 ≡ 0
+
+-- the costs of waiting at the places below v
+pub record WaitsTo (s : Sheet) (net : List ℕ) (v : ℕ) : Type 0 where
+  pub each : (u : ℕ) → u < v → waitIn net u ≡ waitOf s u
+
+pub record WaitsLaid (s : Sheet) (a b : List ℕ) : Type 0 where
+  pub waits : WaitsTo s b (places s)
   pub others : Besides 0 192 a b
 
-pub waits-more : (head a b : List ℕ) (v : ℕ) (w : Cost) → v < 64 → WaitIs head (record { 0 = v }) w → FiguresPut (v * 3) w a b → WaitsTo head a v → WaitsTo head b (v + 1)
-waits-more head a b v w l is s t =
+pub waits-more : (s : Sheet) (a b : List ℕ) (v : ℕ) (w : Cost) → v < 64 → w ≡ waitAt s (record { 0 = v }) → FiguresPut (v * 3) w a b → WaitsTo s a v → WaitsTo s b (v + 1)
+unfolding waitAt
+waits-more s a b v w l is p t =
     record {
       each = λ u m. ⊎-elim
-          (λ lt. subst (WaitIs head (record { 0 = u })) (sym (from u lt)) (t .each u lt))
-          (λ ge. let e : v ≡ u = omega arith in subst (λ (x : ℕ). WaitIs head (record { 0 = x }) (waitIn b x)) e (subst (WaitIs head (record { 0 = v })) (sym (s .figures)) is))
+          (λ lt. from u lt ∙ t .each u lt)
+          (λ ge. let e : v ≡ u = omega arith in subst (λ (x : ℕ). waitIn b x ≡ waitOf s x) e (p .figures ∙ is))
           (lt-or-le u v);
     }
   where
     from : (u : ℕ) → u < v → waitIn b u ≡ waitIn a u
-    from u m = from-same figures (u * 3) (u * 3) b a (λ j h. s .others .same (u * 3 + j) (inl (omega arith)))
+    from u m = from-same figures (u * 3) (u * 3) b a (λ j h. p .others .same (u * 3 + j) (inl (omega arith)))
 
 -- the numbers of the corridors
 pub record LinksLaid (corridors a b : List ℕ) : Type 0 where
@@ -165,16 +178,6 @@ counted m p s a size =
       };
     }
 
--- what the corridors and the list that the network is laid into must be
-pub record Layable (head corridors net : List ℕ) : Type 0 where
-  pub line : length head ≡ 7
-  pub places : number head 0 ≤ 64
-  pub few : length corridors ≤ 1280
-  pub whole : length corridors % 5 ≡ 0
-  pub ends : (q j : ℕ) → q < 2 → j < length corridors / 5 → getD corridors (j * 5 + q) 0 < 64
-  pub size : 2436 ≤ length net
-  pub blank : (i : ℕ) → getD net i 0 ≡ 0
-
 pub linked-kept : {lo hi : ℕ} {a b : List ℕ} → (hi ≤ 832) ⊎ (2113 ≤ lo) → Besides lo hi a b → Linked a → Linked b
 linked-kept {lo} {hi} {a} {b} apart o l =
     record {
@@ -189,39 +192,46 @@ linked-kept {lo} {hi} {a} {b} apart o l =
     count : countOf b ≡ countOf a
     count = o .same 2112 (out 2112 (omega arith) (omega arith))
 
--- the network of a sheet with these groups
-pub record Laid (head corridors net : List ℕ) : Type 0 where
+-- the network of the sheet s, whose corridors have these numbers
+pub record Laid (s : Sheet) (corridors net : List ℕ) : Type 0 where
   pub size : 2436 ≤ length net
-  pub waits : WaitsTo head net (number head 0)
+  pub waits : WaitsTo s net (places s)
   pub numbers : (i : ℕ) → i < length corridors → getD net (832 + i) 0 ≡ getD corridors i 0
-  pub count : countOf net ≡ length corridors / 5
-  pub places : placesOf net ≡ number head 0
-  pub start : startOf net ≡ number head 2
+  pub count : countOf net * 5 ≡ length corridors
+  pub places : placesOf net ≡ places s
+  pub start : startOf net ≡ start s
   pub out : Chained net 0 (countOf net)
   pub into : Chained net 1 (countOf net)
   pub weighed : WeighedTo net (countOf net)
 
-module _ (head corridors n0 n1 n2 n3 : List ℕ) (able : Layable head corridors n0) (waits : WaitsLaid head n0 n1) (links : LinksLaid corridors n1 n2) (counts : Counted (length corridors / 5) (number head 0) (number head 2) n2 n3) where
+-- the corridors of a sheet with at most 64 places: so many whole lines, between places
+pub record Corridors (s : Sheet) (corridors : List ℕ) (m : ℕ) : Type 0 where
+  pub few-places : places s ≤ 64
+  pub few : m ≤ 256
+  pub whole : length corridors ≡ m * 5
+  pub ends : (q j : ℕ) → q < 2 → j < m → getD corridors (j * 5 + q) 0 < 64
+
+module _ (s : Sheet) (corridors : List ℕ) (m : ℕ) (n0 n1 n2 n3 : List ℕ) (able : Corridors s corridors m) (size : 2436 ≤ length n0) (blank : Empty n0) (waits : WaitsLaid s n0 n1) (links : LinksLaid corridors n1 n2) (counts : Counted m (places s) (start s) n2 n3) where
   pub laid-linked : Linked n3
   laid-linked =
       record {
-        size = omega (arith, able .size, waits .others .size, links .others .size, counts .others .size);
-        few = omega (arith, counts .count, able .few);
+        size = omega (arith, size, waits .others .size, links .others .size, counts .others .size);
+        few = omega (arith, counts .count, able .few, able .whole);
         ends = λ q j x y.
             let e : 832 + j * 5 + q ≡ 832 + (j * 5 + q) = omega arith in
-            omega (arith, counts .others .same (832 + j * 5 + q) (inl (omega (arith, counts .count, able .few))), ap (λ (i : ℕ). getD n2 i 0) e, links .numbers (j * 5 + q) (omega (arith, counts .count)), able .ends q j x (omega (arith, counts .count)));
+            omega (arith, counts .others .same (832 + j * 5 + q) (inl (omega (arith, counts .count, able .few, able .whole))), ap (λ (i : ℕ). getD n2 i 0) e, links .numbers (j * 5 + q) (omega (arith, counts .count, able .whole)), able .ends q j x (omega (arith, counts .count)));
       }
 
   pub laid-blank : (i : ℕ) → 192 ≤ i → i < 832 → getD n3 i 0 ≡ 0
-  laid-blank i l m = counts .others .same i (inl (omega arith)) ∙ links .others .same i (inl (omega arith)) ∙ waits .others .same i (inr l) ∙ able .blank i
+  laid-blank i l m = counts .others .same i (inl (omega arith)) ∙ links .others .same i (inl (omega arith)) ∙ waits .others .same i (inr l) ∙ blank .zero i
 
-  pub laid-of : (n4 n5 n6 : List ℕ) → ChainLaid 0 n3 n4 → ChainLaid 1 n4 n5 → Weighed (countOf n5) n5 n6 → Laid head corridors n6
+  pub laid-of : (n4 n5 n6 : List ℕ) → ChainLaid 0 n3 n4 → ChainLaid 1 n4 n5 → Weighed (countOf n5) n5 n6 → Laid s corridors n6
   laid-of n4 n5 n6 out into weighed =
       record {
         size = omega (arith, laid-linked .size, out .others .size, into .others .size, weighed .others .size);
-        waits = record { each = λ u l. subst (WaitIs head (record { 0 = u })) (sym (wait-kept u (omega (arith, able .places)) (omega arith) rest)) (waits .waits .each u l) };
-        numbers = λ i l. weighed .others .same (832 + i) (inl (omega (arith, able .few))) ∙ into .others .same (832 + i) (inr (omega arith)) ∙ out .others .same (832 + i) (inr (omega arith)) ∙ counts .others .same (832 + i) (inl (omega (arith, able .few))) ∙ links .numbers i l;
-        count = last 2112 (omega arith) (omega arith) ∙ counts .count;
+        waits = record { each = λ u l. wait-kept u (omega (arith, able .few-places)) (omega arith) rest ∙ waits .waits .each u l };
+        numbers = λ i l. weighed .others .same (832 + i) (inl (omega (arith, able .few, able .whole))) ∙ into .others .same (832 + i) (inr (omega arith)) ∙ out .others .same (832 + i) (inr (omega arith)) ∙ counts .others .same (832 + i) (inl (omega (arith, able .few, able .whole))) ∙ links .numbers i l;
+        count = omega (arith, last 2112 (omega arith) (omega arith), counts .count, able .whole);
         places = last 2113 (omega arith) (omega arith) ∙ counts .places;
         start = last 2114 (omega arith) (omega arith) ∙ counts .start;
         out = subst (Chained n6 0) (sym (five 2112 (omega arith) (omega arith) ∙ into .others .same 2112 (inr (omega arith))))
@@ -249,3 +259,7 @@ module _ (head corridors n0 n1 n2 n3 : List ℕ) (able : Layable head corridors 
           (besides-then (besides-wide 192 2436 (omega arith) (omega arith) (counts .others))
           (besides-then (besides-wide 192 2436 (omega arith) (omega arith) (out .others))
           (besides-then (besides-wide 192 2436 (omega arith) (omega arith) (into .others)) (besides-wide 192 2436 (omega arith) (omega arith) (weighed .others)))))
+
+-- the network of the sheet in the array
+abbrev pub LaidIn : List ℕ → List ℕ → List ℕ → Type 0
+LaidIn lines all net = Laid (sheetIn lines all) (partOf lines all 1) net

@@ -16,7 +16,8 @@ use Rattle.costs.specs.Laws.Figures.{fig-add, fig-times, at-most-trans, same?, 
 use Rattle.costs.specs.Moves.{waitOf, Crossing}
 use Rattle.intervals.specs.Intervals.{Free, Run}
 use Rattle.arrivals.specs.Ways.{Move, waits, crosses}
-use Rattle.arrivals.specs.Arrivals.{Arrival, arrival, keyOf, Arrives, Leads, Leading}
+use Rattle.arrivals.specs.Arrivals.{Arrival, keyOf, Arrives, Leads, Leading}
+use Rattle.arrivals.specs.Computed.{arrival}
 use Rattle.arrivals.specs.Rows.{Row}
 use Rattle.arrivals.specs.Laws.Trails.{Begins, Trail}
 use Rattle.arrivals.specs.Laws.Leading.{key-inj, arrives-came, arrives-three, Covers, leads-covers, covers-trans, covers-antisym, covers-leads, came-arrives}

@@ -15,6 +15,10 @@ use Rattle.costs.specs.Costs.{Cost, figures, AtMost}
 use Rattle.costs.specs.Priced.{Within}
 use Rattle.arrivals.specs.Rows.{Besides}
 
+-- the length of the list
+abbrev pub netRoom : ℕ
+netRoom = 2436
+
 -- a corridor
 pub record Link : Type 0 where
   pub from : ℕ

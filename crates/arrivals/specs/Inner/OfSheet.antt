@@ -1,78 +1,84 @@
 -- The case that the search of a sheet is given: its free runs from the table of first steps, its corridors and waiting costs from the network.
 use mathlib.Core.Path.{_≡_, refl, sym, ap, _∙_, subst}
 use mathlib.Core.List.{List}
-use Prim.Native.Nat.{ℕ, zero, suc, _+_, _*_, _≤_, _<_, _/_, _%_}
+use Prim.Native.Nat.{ℕ, zero, suc, _+_, _*_, _≤_, _<_, _/_}
 use native.Mathlib.Omega.{arith}
 use lib.ListN.{length, getD}
 use Rattle.sheet.specs.Lists.{_∈_, number}
 use Rattle.sheet.specs.Sheet.{Sheet, places, steps, start, from, to}
-use Rattle.sheet.specs.Calls.{groups, sheetOfGroups}
+use Rattle.sheet.specs.Store.{kindCount, baseOf, storeRoom, SomeStore, partOf, sheetIn}
 use Rattle.sheet.specs.Valid.{Valid}
-use Rattle.sheet.specs.Laws.Rows.{rows-count}
+use Rattle.sheet.specs.Laws.Store.{part-number, store-valid, store-few, store-numbers, store-counts, store-length, head-number}
 use Rattle.sheet.specs.Laws.Decided.{In, from-same}
 use Rattle.costs.specs.Costs.{Cost, figures}
 use Rattle.costs.specs.Priced.{Within}
 use Rattle.costs.specs.Moves.{waitOf, costOf, Crossing}
-use Rattle.costs.specs.Computed.{waitAt}
 use Rattle.costs.specs.Laws.Moves.{wait-three, crossing-three, wait-bounded, crossing-bounded}
 use Rattle.costs.specs.Laws.Rows.{row, row-number, mem-rows, rows-mem}
 use Rattle.intervals.specs.Computed.{sinceOf}
 use Rattle.intervals.specs.FirstSteps.{SinceTable}
 use Rattle.intervals.specs.Laws.Runs.{since-free, since-run, since-same}
-use Rattle.arrivals.specs.Search.{searchOn, searchEnd}
-use Rattle.arrivals.specs.declared.Searched.{Searched}
 use Rattle.arrivals.specs.Inner.Network.{Link, always-open, Case, caseOf, sinceIn, waitIn, linkAt, linksOf, links-find, links-any, links-all, link-path, Lawful, countOf, placesOf}
-use Rattle.arrivals.specs.Inner.Laying.{Layable, Laid}
+use Rattle.arrivals.specs.Inner.Laying.{Counted, Corridors, LaidIn}
 use Rattle.arrivals.specs.Inner.Lent.{Given}
 use Rattle.arrivals.specs.Inner.Meaning.{Fits}
 
--- a valid sheet has this S line, these corridors and these first steps of its free runs
-pub record Parts (head corridors since : List ℕ) : Type 0 where
-  pub occupancies : List ℕ
-  pub valid : Valid (sheetOfGroups (groups head corridors occupancies))
-  pub whole : length corridors % 5 ≡ 0
-  pub firsts : SinceTable occupancies since
-
--- its leading arrivals were searched
-pub record PartsSearched (head corridors since table table′ : List ℕ) (r : Searched) : Type 0 where
-  pub of : (os : List ℕ) → Valid (sheetOfGroups (groups head corridors os)) → SinceTable os since
-      → searchEnd r table′ ≡ searchOn (sheetOfGroups (groups head corridors os)) table
-
-module _ (head cs os : List ℕ) (valid : Valid (sheetOfGroups (groups head cs os))) where
+module _ {lines all : List ℕ} (S : SomeStore lines all) where
   abbrev the : Sheet
-  the = sheetOfGroups (groups head cs os)
+  the = sheetIn lines all
 
-  line-in : (i : ℕ) → i < length cs / 5 → row 5 cs i ∈ the .corridors
-  line-in i l = mem-rows 5 (length cs / 5) cs i l
+  abbrev cs : List ℕ
+  cs = partOf lines all 1
 
-  few : length cs / 5 ≤ 256
-  few = omega (arith, rows-count 5 (length cs / 5) cs, valid .most-corridors)
+  valid : Valid the
+  valid = store-valid (S .store)
+
+  whole : length cs ≡ number lines 1 * 5
+  whole = store-numbers (S .store) 1 (omega arith)
+
+  line-in : (i : ℕ) → i < number lines 1 → row 5 cs i ∈ the .corridors
+  line-in i l = mem-rows 5 (length cs / 5) cs i (omega (arith, whole))
+
+  pub few-lines : number lines 1 ≤ 256
+  few-lines = store-few (S .store) 1 (omega arith) .0
+
+  pub kinds-counted : length lines ≡ kindCount
+  kinds-counted = store-counts (S .store)
+
+  pub whole-store : length all ≡ storeRoom
+  whole-store = store-length (S .store)
+
+  pub head-at : (i : ℕ) → i < 4 → number all i ≡ number (the .head) i
+  head-at i h = head-number (S .store) i (omega arith)
+
+  pub few-places : number all 0 ≤ 64
+  few-places = omega (arith, head-at 0 (omega arith), valid .most-places)
+
+  pub few-steps : number all 1 ≤ 255
+  few-steps = omega (arith, head-at 1 (omega arith), valid .most-steps)
+
+  pub counted-at : {a b : List ℕ} → Counted (number lines 1) (number all 0) (number all 2) a b → Counted (number lines 1) (places the) (start the) a b
+  counted-at n = record { count = n .count; places = n .places ∙ head-at 0 (omega arith); start = n .start ∙ head-at 2 (omega arith); others = n .others }
+
+  pub corridor-at : (i : ℕ) → i < number lines 1 * 5 → number all (baseOf 1 + i) ≡ number cs i
+  corridor-at i h = sym (part-number lines all 1 i h)
 
   -- corridor i of the group, as its line
-  cross-at : (i t : ℕ) → i < length cs / 5 → Crossing the (from (row 5 cs i)) (to (row 5 cs i)) t (costOf (row 5 cs i))
+  cross-at : (i t : ℕ) → i < number lines 1 → Crossing the (from (row 5 cs i)) (to (row 5 cs i)) t (costOf (row 5 cs i))
   cross-at i t l = record { line = row 5 cs i; listed = line-in i l; leaves = refl; enters = refl; price = refl }
 
   line-number : (i q : ℕ) → q < 5 → getD cs (i * 5 + q) 0 ≡ number (row 5 cs i) q
   line-number i q l = sym (row-number 5 cs i q l)
 
-  pub layable : (net : List ℕ) → length cs % 5 ≡ 0 → 2436 ≤ length net → ((i : ℕ) → getD net i 0 ≡ 0) → Layable head cs net
-  layable net whole size blank =
-      record {
-        line = valid .wide;
-        places = valid .most-places;
-        few = omega (arith, few);
-        whole = whole;
-        ends = ends;
-        size = size;
-        blank = blank;
-      }
+  pub corridors-of : Corridors the cs (number lines 1)
+  corridors-of = record { few-places = valid .most-places; few = few-lines; whole = whole; ends = ends }
     where
-      ends : (q j : ℕ) → q < 2 → j < length cs / 5 → getD cs (j * 5 + q) 0 < 64
+      ends : (q j : ℕ) → q < 2 → j < number lines 1 → getD cs (j * 5 + q) 0 < 64
       ends zero j two l = omega (arith, line-number j 0 (omega arith), valid .corridors (row 5 cs j) (line-in j l) .from-place, valid .most-places)
       ends (suc zero) j two l = omega (arith, line-number j 1 (omega arith), valid .corridors (row 5 cs j) (line-in j l) .to-place, valid .most-places)
       ends (suc (suc q)) j two l = absurd (omega arith)
 
-  module _ (firsts net : List ℕ) (table : SinceTable os firsts) (laid : Laid head cs net) where
+  module _ (firsts net : List ℕ) (table : SinceTable (partOf lines all 2) firsts) (laid : LaidIn lines all net) where
     abbrev pub searched : Case
     searched = caseOf firsts net
 
@@ -83,8 +89,10 @@ module _ (head cs os : List ℕ) (valid : Valid (sheetOfGroups (groups head cs o
     within t l = omega (arith, valid .most-steps)
 
     waits-at : (v : ℕ) → v < placesOf net → waitOf the v ≡ waitIn net v
-    unfolding waitAt
-    waits-at v l = sym (laid .waits .each v (omega (arith, laid .places)) .of the refl)
+    waits-at v l = sym (laid .waits .each v (omega (arith, laid .places)))
+
+    count : countOf net ≡ number lines 1
+    count = omega (arith, laid .count, whole)
 
     link-line : (i : ℕ) → i < countOf net → linkAt net i ≡ record { from = from (row 5 cs i); to = to (row 5 cs i); cost = costOf (row 5 cs i) }
     unfolding costOf
@@ -96,7 +104,7 @@ module _ (head cs os : List ℕ) (valid : Valid (sheetOfGroups (groups head cs o
     crossing-of : (l : Link) → In l (linksOf net (countOf net)) → (t : ℕ) → Crossing the (l .from) (l .to) t (l .cost)
     crossing-of l m t =
         let f = links-find net (countOf net) m in
-        subst (λ (r : Link). Crossing the (r .from) (r .to) t (r .cost)) (sym (link-line (f .at) (f .upto)) ∙ f .fits) (cross-at (f .at) t (omega (arith, laid .count, f .upto)))
+        subst (λ (r : Link). Crossing the (r .from) (r .to) t (r .cost)) (sym (link-line (f .at) (f .upto)) ∙ f .fits) (cross-at (f .at) t (omega (arith, count, f .upto)))
 
     line-of : (u v t : ℕ) (c : Cost) → Crossing the u v t c → In (record { from = u; to = v; cost = c }) (linksOf net (countOf net))
     line-of u v t c x =
@@ -154,7 +162,7 @@ module _ (head cs os : List ℕ) (valid : Valid (sheetOfGroups (groups head cs o
           };
           intervals = omega (arith, table .size);
           size = laid .size;
-          few = omega (arith, laid .count, few);
+          few = omega (arith, count, few-lines);
           places = omega (arith, laid .places, valid .most-places);
           start = omega (arith, laid .start, laid .places, valid .start-place);
           out = laid .out;

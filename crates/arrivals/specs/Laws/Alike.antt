@@ -49,16 +49,7 @@ alike-arrives s r h a k =
     record { path = k .path; way = alike-way s r h (a .step) (k .path) (a .cost) (k .in-time) (k .way); stands = k .stands; in-time = omega (arith, k .in-time, h .within .horizon) }
 
 alike-together : (s r : Sheet) → Alike s r → (v t t′ : ℕ) → Together s v t t′ → Together r v t t′
-alike-together s r h v t t′ k =
-    record {
-      first-step = k .first-step;
-      last-step = k .last-step;
-      interval = same-interval s r (h .within) v (k .first-step) (k .last-step) (k .interval);
-      t-from = k .t-from;
-      t-to = k .t-to;
-      t′-from = k .t′-from;
-      t′-to = k .t′-to;
-    }
+alike-together s r h v t t′ k = (k .0, k .1, same-interval s r (h .within) v (k .0) (k .1) (k .2), k .3, k .4, k .5, k .6)
 
 alike-leads : (s r : Sheet) → Alike s r → (a b : Arrival) → Leads s a b → Leads r a b
 alike-leads s r h a b k =

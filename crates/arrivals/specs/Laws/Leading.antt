@@ -23,8 +23,8 @@ use Rattle.intervals.specs.Intervals.{Free, Run}
 use Rattle.intervals.specs.Computed.{runb}
 use Rattle.intervals.specs.Laws.Runs.{run-one, run-join, together-run, run-together, together-within, runb-true, run-runb}
 use Rattle.arrivals.specs.Ways.{Way}
-use Rattle.arrivals.specs.Computed.{walks, leadsb, atStep, arrivalsTo, arrivals, unledb, leading}
-use Rattle.arrivals.specs.Arrivals.{Arrival, arrival, keyOf, Arrives, waited, Leads, Leading}
+use Rattle.arrivals.specs.Computed.{arrival, waited, walks, leadsb, atStep, arrivalsTo, arrivals, unledb, leading}
+use Rattle.arrivals.specs.Arrivals.{Arrival, keyOf, Arrives, Leads, Leading}
 use Rattle.arrivals.specs.Laws.Trails.{Trail, walks-trail, trail-walks, trail-three, trail-way, way-trail}
 
 pub arrival-path : (a b : Arrival) → a .place ≡ b .place → a .step ≡ b .step → a .cost ≡ b .cost → a ≡ b

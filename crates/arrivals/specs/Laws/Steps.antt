@@ -13,7 +13,8 @@ use Rattle.costs.specs.Moves.{waitOf}
 use Rattle.costs.specs.Laws.Moves.{wait-three}
 use Rattle.intervals.specs.Intervals.{Free, Run}
 use Rattle.arrivals.specs.Ways.{Move, waits}
-use Rattle.arrivals.specs.Arrivals.{Arrival, arrival, Arrives, waited}
+use Rattle.arrivals.specs.Arrivals.{Arrival, Arrives}
+use Rattle.arrivals.specs.Computed.{arrival, waited}
 use Rattle.arrivals.specs.Laws.Trails.{Trail, way-on}
 use Rattle.arrivals.specs.Laws.Leading.{arrival-path, fig-waited, arrives-came, came-arrives, arrives-three}
 

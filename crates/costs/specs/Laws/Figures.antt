@@ -10,7 +10,9 @@ use lib.Dec.{ltb, leb, eqb}
 use lib.ListN.{length, set, length-set, List·getD-eq-default}
 use lib.Seq.{ext-getD, getD-set-same, getD-set-other}
 use borrow.Author.Tests.{ltb-true, ltb-false, leb-true, leb-false, eqb-true, eqb-false, le-leb, eq-eqb, not-true}
-use Rattle.sheet.specs.Lists.{number, numbersFrom, Lex, lexb}
+use Rattle.sheet.specs.Lists.{number, numbersFrom, Lex}
+use Rattle.sheet.specs.Computed.{lexb}
+use Rattle.sheet.specs.Laws.Decided.{from-length, from-at}
 use Rattle.sheet.specs.Laws.Order.{and-true, true-and, decided, Lex-irrefl, Lex-trans, lexb-true, lexb-false}
 use Rattle.costs.specs.Costs.{Cost, figures, fig, zeroCost, add, times, AtMost, Dominates}
 use Rattle.costs.specs.Priced.{Within}
@@ -267,15 +269,6 @@ is-add n r a b p q h = ext-getD 0 r (add a b) (h .sized ∙ sym (length-add a b 
 
 pub is-times : (n m : ℕ) (r a : Cost) → length a ≡ n → Stored n (λ k. m * fig a k) n r → r ≡ times m a
 is-times n m r a p h = ext-getD 0 r (times m a) (h .sized ∙ sym (length-times m a ∙ p)) (λ k l. h .so-far k (omega (arith, h .sized)) ∙ sym (fig-times m a k))
-
-pub from-length : (n i : ℕ) (l : List ℕ) → length (numbersFrom n i l) ≡ n
-from-length zero i l = refl
-from-length (suc n) i l = ap suc (from-length n (suc i) l)
-
-pub from-at : (n i : ℕ) (l : List ℕ) (k : ℕ) → k < n → number (numbersFrom n i l) k ≡ number l (i + k)
-from-at zero i l k h = absurd (omega arith)
-from-at (suc n) i l zero h = ap (number l) (omega arith)
-from-at (suc n) i l (suc k) h = from-at n (suc i) l k (omega arith) ∙ ap (number l) (omega arith)
 
 pub is-from : (n i : ℕ) (r l : List ℕ) → Stored n (λ k. number l (i + k)) n r → r ≡ numbersFrom n i l
 is-from n i r l h = ext-getD 0 r (numbersFrom n i l) (h .sized ∙ sym (from-length n i l)) (λ k q. h .so-far k (omega (arith, h .sized)) ∙ sym (from-at n i l k (omega (arith, h .sized))))

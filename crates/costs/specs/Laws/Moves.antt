@@ -13,6 +13,7 @@ use borrow.Author.Tests.{eqb-true, eq-eqb}
 use Rattle.sheet.specs.Lists.{_∈_, filter, number, numbersFrom}
 use Rattle.sheet.specs.Laws.Members.{filter-mem, mem-filter}
 use Rattle.sheet.specs.Laws.Ascending.{ascending-once}
+use Rattle.sheet.specs.Laws.Decided.{from-length}
 use Rattle.sheet.specs.Sheet.{Sheet, from, to}
 use Rattle.sheet.specs.Valid.{Valid}
 use Rattle.sheet.specs.declared.Place.{Place}
@@ -21,17 +22,13 @@ use Rattle.costs.specs.Costs.{Cost, figures, fig}
 use Rattle.costs.specs.Moves.{waitOf, costOf, Crossing}
 use Rattle.costs.specs.Computed.{leaving, between, firstCost, crossingAt}
 
-length-from : (n i : ℕ) (l : List ℕ) → length (numbersFrom n i l) ≡ n
-length-from zero i l = refl
-length-from (suc n) i l = ap suc (length-from n (suc i) l)
-
 pub wait-three : (s : Sheet) (v : ℕ) → length (waitOf s v) ≡ figures
 unfolding waitOf
-wait-three s v = length-from figures 4 (s .head)
+wait-three s v = from-length figures 4 (s .head)
 
 pub cost-three : (k : List ℕ) → length (costOf k) ≡ figures
 unfolding costOf
-cost-three k = length-from figures 2 k
+cost-three k = from-length figures 2 k
 
 pub crossing-three : {s : Sheet} {u v t : ℕ} {c : Cost} → Crossing s u v t c → length c ≡ figures
 crossing-three k = ap length (k .price) ∙ cost-three (k .line)

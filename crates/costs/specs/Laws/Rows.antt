@@ -1,28 +1,21 @@
 -- The rows of a table by their numbers: row k is the w numbers from k * w on. Each member is such a row; a test that the rows fail one by one
 -- leaves nothing of them, or what begins with the first row that passes.
-use mathlib.Core.Path.{_≡_, refl, sym, _∙_, ap, ap₂}
+use mathlib.Core.Path.{_≡_, refl, sym, _∙_, ap}
 use mathlib.Core.Logic.{inl, inr}
 use mathlib.Core.Bool.{Bool, true, false, _&&_}
 use mathlib.Core.List.{List, [], _∷_}
-use Prim.Native.Nat.{ℕ, zero, suc, _+_, _*_, _≤_, _<_}
+use Prim.Native.Nat.{ℕ, zero, suc, _+_, _*_, _<_}
 use native.Mathlib.Omega.{arith}
 use native.Mathlib.Nat.{suc-mul, zero-mul}
 use lib.ListN.{take, drop}
 use lib.Seq.{getD-take, getD-drop, drop-drop}
-use Rattle.sheet.specs.Lists.{_∈_, number, numbersFrom, rows, keep, filter}
+use Rattle.sheet.specs.Lists.{_∈_, number, rows, keep, filter}
 
 abbrev pub row : ℕ → List ℕ → ℕ → List ℕ
 row w l k = take w (drop (k * w) l)
 
 pub row-number : (w : ℕ) (l : List ℕ) (k j : ℕ) → j < w → number (row w l k) j ≡ number l (k * w + j)
 row-number w l k j h = getD-take w (drop (k * w) l) j 0 h ∙ getD-drop (k * w) l j 0
-
--- numbers of a row, from the table
-pub from-row : (w : ℕ) (l : List ℕ) (k n i : ℕ) → i + n ≤ w → numbersFrom n (k * w + i) l ≡ numbersFrom n i (row w l k)
-from-row w l k zero i h = refl
-from-row w l k (suc n) i h =
-    let e : suc (k * w + i) ≡ k * w + suc i = omega arith in
-    ap₂ _∷_ (sym (row-number w l k i (omega arith))) (ap (λ (m : ℕ). numbersFrom n m l) e ∙ from-row w l k n (suc i) (omega arith))
 
 -- the rows after the first
 pub row-later : (w : ℕ) (l : List ℕ) (k : ℕ) → row w (drop w l) k ≡ row w l (suc k)

@@ -7,7 +7,8 @@ use native.Mathlib.Omega.{arith}
 use lib.ListN.{length, take, drop}
 use borrow.Author.Needs.{needs}
 use Rattle.sheet.specs.Lists.{number}
-use Rattle.sheet.specs.Store.{partOf, SomeStore}
+use Rattle.sheet.specs.Kinds.{width, kindO}
+use Rattle.sheet.specs.Store.{baseOf, partOf, SomeStore}
 use Rattle.sheet.specs.Laws.Rows.{flat-length, flat-whole}
 use Rattle.sheet.specs.Laws.Store.{store-counts, store-few, store-part, store-wide, store-valid}
 use Rattle.intervals.specs.FirstSteps.{ValidGroup, SinceTable}
@@ -18,11 +19,11 @@ module _ (lines all : List ℕ) (q : SomeStore lines all) where
   few : number lines 2 ≤ 256
   few = store-few (q .store) 2 (omega arith) .0
 
-  inside : 1287 + number lines 2 * 3 ≤ length all
+  inside : baseOf 2 + number lines 2 * width kindO ≤ length all
   inside = store-few (q .store) 2 (omega arith) .1
 
-  part : partOf lines all 2 ≡ take (1287 + number lines 2 * 3 - 1287) (drop 1287 all)
-  part = let e : number lines 2 * 3 ≡ 1287 + number lines 2 * 3 - 1287 = omega arith in ap (λ (n : ℕ). take n (drop 1287 all)) e
+  part : partOf lines all 2 ≡ take (baseOf 2 + number lines 2 * width kindO - baseOf 2) (drop (baseOf 2) all)
+  part = let e : number lines 2 * width kindO ≡ baseOf 2 + number lines 2 * width kindO - baseOf 2 = omega arith in ap (λ (n : ℕ). take n (drop (baseOf 2) all)) e
 
   group : ValidGroup (partOf lines all 2)
   group =
@@ -31,8 +32,8 @@ module _ (lines all : List ℕ) (q : SomeStore lines all) where
       let w = store-wide (q .store) 2 (omega arith) in
       let e = store-part (q .store) 2 (omega arith) in
       record {
-        most = omega (arith, ap length e, flat-length 3 (s .occupancies) w, q .store .valid .most-occupancies);
-        whole = ap (λ (l : List ℕ). length l % 3) e ∙ flat-whole 3 (s .occupancies) w;
+        most = omega (arith, ap length e, flat-length (width kindO) (s .occupancies) w, q .store .valid .most-occupancies);
+        whole = ap (λ (l : List ℕ). length l % width kindO) e ∙ flat-whole (width kindO) (s .occupancies) w;
         place = λ o m. omega (arith, v .occupancies o m .place, v .most-places);
         step = λ o m. v .occupancies o m .in-day;
       }

@@ -141,14 +141,14 @@ interval-once s v a b c d t p q h k l m =
 
 -- two steps are in one safe interval exactly when all between are free
 pub together-run : (s : Sheet) (v t t′ : ℕ) → Together s v t t′ → Run s v t t′
-together-run s v t t′ h i p q = h .interval .free i (omega (arith, h .t-from)) (omega (arith, h .t′-to))
+together-run s v t t′ h i p q = h .2 .free i (omega (arith, h .3)) (omega (arith, h .6))
 
 pub run-together : (s : Sheet) (v t t′ : ℕ) → t ≤ t′ → t′ ≤ steps s → Run s v t t′ → Together s v t t′
 run-together s v t t′ h k r =
     let a = first-step s v t (r t (omega arith) h) in
     let i = interval-at s v t (omega arith) (r t (omega arith) h) in
     let b = last-step s v t (steps s - t) (r t (omega arith) h) in
-    record { first-step = firstOf s v t; last-step = lastOf s v t (steps s - t); interval = i; t-from = a .soon; t-to = b .late; t′-from = omega (arith, a .soon); t′-to = far (b .no-longer) (b .late) }
+    (firstOf s v t, lastOf s v t (steps s - t), i, a .soon, b .late, omega (arith, a .soon), far (b .no-longer) (b .late))
   where
     far : (lastOf s v t (steps s - t) ≡ t + (steps s - t)) ⊎ (freeb s v (lastOf s v t (steps s - t) + 1) ≡ false) → t ≤ lastOf s v t (steps s - t) → t′ ≤ lastOf s v t (steps s - t)
     far (inl e) l = omega (arith, e)
@@ -161,7 +161,7 @@ run-together s v t t′ h k r =
             absurd (true≢false (sym (r (lastOf s v t (steps s - t) + 1) (omega arith) (omega arith)) ∙ e))
 
 pub together-within : (s : Sheet) (v t t′ : ℕ) → Together s v t t′ → t′ ≤ steps s
-together-within s v t t′ h = omega (arith, h .interval .within, h .t′-to)
+together-within s v t t′ h = omega (arith, h .2 .within, h .6)
 
 pub together-is : (s : Sheet) (v t t′ : ℕ) → t ≤ t′ → t′ ≤ steps s → Together s v t t′ ↔ Run s v t t′
 together-is s v t t′ h k = (together-run s v t t′, run-together s v t t′ h k)

@@ -6,7 +6,8 @@ use mathlib.Core.List.{List, [], _∷_, _++_}
 use Prim.Native.Nat.{ℕ, zero, suc, _+_, _*_, _-_, _≤_, _<_}
 use lib.Dec.{eqb}
 use lib.ListN.{length, set}
-use Rattle.sheet.specs.Lists.{_∈_, pick, number, lexb}
+use Rattle.sheet.specs.Lists.{_∈_, pick, number}
+use Rattle.sheet.specs.Computed.{lexb}
 use Rattle.sheet.specs.Sorting.{Ascending}
 use Rattle.costs.specs.Costs.{Cost, fig}
 use Rattle.arrivals.specs.Rows.{costAt, rowAt}

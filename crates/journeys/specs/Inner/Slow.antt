@@ -4,7 +4,8 @@ use mathlib.Core.List.{List, [], _∷_}
 use Prim.Native.Nat.{ℕ, zero, suc}
 use lib.Dec.{eqb, ltb}
 use lib.ListN.{length}
-use Rattle.sheet.specs.Lists.{lexb, all, filter}
+use Rattle.sheet.specs.Lists.{all, filter}
+use Rattle.sheet.specs.Computed.{lexb}
 use Rattle.costs.specs.Costs.{Cost}
 use Rattle.costs.specs.Computed.{atMostb}
 use Rattle.arrivals.specs.Rows.{costAt, rowAt}

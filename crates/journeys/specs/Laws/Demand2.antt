@@ -24,15 +24,15 @@ use Rattle.sheet.specs.Laws.Judge.{loaded-inj}
 use Rattle.sheet.specs.Laws.RoundTrip.{write-read-calls, write-read-groups, read-write-calls}
 use Rattle.costs.specs.Costs.{Cost, figures}
 use Rattle.costs.specs.Laws.Figures.{is-from}
-use Rattle.arrivals.specs.Arrivals.{Arrival, arrival, keyOf, Leading}
-use Rattle.arrivals.specs.Computed.{leading}
+use Rattle.arrivals.specs.Arrivals.{Arrival, keyOf, Leading}
+use Rattle.arrivals.specs.Computed.{arrival, leading}
 use Rattle.arrivals.specs.Table.{arrivalRow, crowded, arrivalTable}
 use Rattle.arrivals.specs.Search.{arrivalRoom}
 use Rattle.journeys.specs.Journeys.{Journey, HasCost, Selected}
 use Rattle.journeys.specs.Front.{OnFront}
 use Rattle.journeys.specs.Computed.{self, journeyOf, arrivalOf, front}
 use Rattle.journeys.specs.Calls.{cleared, FrontEnd, frontServed, frontCall, JourneyEnd, journeyRefused, tooShort, journeyServed, journeyOn, journeyCall}
-use Rattle.journeys.specs.Demand2.{costAt, stepAt, Listed, Earliest, ListsFront, arrivalAt, ListsLeading, GivesJourney, Demand2}
+use Rattle.journeys.specs.Demand2.{costAt, stepAt, ListsFront, arrivalAt, ListsLeading, GivesJourney, Demand2}
 use Rattle.journeys.specs.Laws.Journeys.{has-three, journeyOf-selected, journey-length}
 use Rattle.journeys.specs.Laws.Front.{front-on, on-front, front-ascending, front-empty}
 use Rattle.arrivals.specs.Laws.Leading.{leading-is, is-leading, leading-ascending}
@@ -47,7 +47,7 @@ module _ {A : Type 0} (d : A) where
   position g (x ∷ l) (inl e) = (0, omega arith, sym e)
   position g (x ∷ l) (inr m) = let r = position g l m in (suc (r .0), omega (arith, r .1), r .2)
 
-  keys-ascend : (key : A → List ℕ) (l : List A) → Ascending key l → (i j : ℕ) → i < j → j < length l → Lex (key (getD l i d)) (key (getD l j d))
+  pub keys-ascend : (key : A → List ℕ) (l : List A) → Ascending key l → (i j : ℕ) → i < j → j < length l → Lex (key (getD l i d)) (key (getD l j d))
   keys-ascend key [] a i j h k = absurd (omega arith)
   keys-ascend key (x ∷ l) a i zero h k = absurd (omega arith)
   keys-ascend key (x ∷ l) a zero (suc j) h k = before-all key x l (a .0) (a .1) (getD l j d) (mem-at d l j (omega arith))
@@ -78,23 +78,14 @@ lex-as : (a b c d : Cost) → a ≡ c → b ≡ d → Lex c d → Lex a b
 lex-as a b c d p q h = subst (λ (x : Cost). Lex x b) (sym p) (subst (Lex c) (sym q) h)
 
 -- the tie rule selects an earliest journey
-earliest-of : (s : Sheet) (g : Cost) → HasCost s g → Earliest s g (arrivalOf s g)
-earliest-of s g h =
-    let p = journeyOf-selected s g h in
-    record {
-      path = journeyOf s g;
-      journey = p .journey;
-      arrives = journey-length s g h;
-      none-before = λ q j. omega (arith, journey-length s g h, shortest q j);
-    }
+no-shorter : (s : Sheet) (g : Cost) → HasCost s g → (p : List ℕ) → Journey s p g → suc (arrivalOf s g) ≤ length p
+no-shorter s g h p j =
+    let k = journey-length s g h in
+    ⊎-elim (λ e. omega (arith, k, ap (λ (l : List ℕ). length l) e)) (λ l. omega (arith, k, first (length (journeyOf s g)) (length p) (reverse (journeyOf s g)) (reverse p) l)) (journeyOf-selected s g h .first p j)
   where
     first : (a b : ℕ) (k l : List ℕ) → Lex (a ∷ k) (b ∷ l) → a ≤ b
     first a b k l (inl h) = omega (arith, h)
     first a b k l (inr h) = omega (arith, h .0)
-
-    shortest : (q : List ℕ) → Journey s q g → length (journeyOf s g) ≤ length q
-    shortest q j =
-        ⊎-elim (λ e. omega (arith, ap (λ (l : List ℕ). length l) e)) (first (length (journeyOf s g)) (length q) (reverse (journeyOf s g)) (reverse q)) (journeyOf-selected s g h .first q j)
 
 -- the served list is the front: its members by their numbers
 lists-front : (s : Sheet) (table list : List ℕ) → ListsFront s (frontServed s table list)
@@ -102,14 +93,18 @@ unfolding frontServed
 lists-front s table list =
     record {
       listed-on = λ i h. subst (OnFront s) (sym (cost-listed s table list i h)) (front-on s (getD (front s) i []) (member (front s) i h));
-      earliest = λ i h.
-          let g = getD (front s) i [] in
-          subst (λ (c : Cost). Earliest s c (stepAt e i)) (sym (cost-listed s table list i h))
-          (subst (Earliest s g) (sym (step-listed s table list i h)) (earliest-of s g (has-at s i h)));
-      on-listed = λ g o. at g (position [] g (front s) (on-front s g o));
+      on-listed = λ g o.
+          let r = position [] g (front s) (on-front s g o) in
+          (r .0, r .1, cost-listed s table list (r .0) (r .1) ∙ r .2);
       ascending = λ i j h k.
           lex-as (costAt e i) (costAt e j) (getD (front s) i []) (getD (front s) j [])
           (cost-listed s table list i (omega (arith, h, k))) (cost-listed s table list j k) (keys-ascend [] self (front s) (front-ascending s) i j h k);
+      arrives = λ i h.
+          let g = getD (front s) i [] in
+          let o = has-at s i h in
+          (journeyOf s g, subst (Journey s (journeyOf s g)) (sym (cost-listed s table list i h)) (journeyOf-selected s g o .journey), journey-length s g o ∙ ap suc (sym (step-listed s table list i h)));
+      no-sooner = λ i h p j.
+          omega (arith, step-listed s table list i h, no-shorter s (getD (front s) i []) (has-at s i h) p (subst (Journey s p) (cost-listed s table list i h) j));
       empty = (
         λ z p g j. front-empty s .0 (no-costs (front s) z) g (p, j),
         λ n. ap length (front-empty s .1 (λ g h. n (h .0) g (h .1))),
@@ -118,9 +113,6 @@ lists-front s table list =
   where
     e : FrontEnd
     e = frontServed s table list
-
-    at : (g : Cost) → (i : ℕ) × (i < length (front s)) × (getD (front s) i [] ≡ g) → Listed e g
-    at g r = record { at = r .0; inside = r .1; same = cost-listed s table list (r .0) (r .1) ∙ r .2 }
 
 -- the served table holds the leading arrivals, row by row
 module _ (s : Sheet) (table list : List ℕ) (h : length (leading s) ≤ arrivalRoom (length table)) where

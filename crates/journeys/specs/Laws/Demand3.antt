@@ -3,17 +3,17 @@
 use mathlib.Core.Path.{_≡_, refl, sym, _∙_, ap, subst}
 use mathlib.Core.Logic.{_↔_}
 use mathlib.Core.List.{List, [], _∷_}
-use Prim.Native.Nat.{ℕ, _<_}
+use Prim.Native.Nat.{ℕ, _+_, _*_, _<_}
 use native.Mathlib.Omega.{arith}
 use lib.ListN.{length, getD}
 use lib.Seq.{ext-getD}
-use Rattle.sheet.specs.Lists.{_∈_}
-use Rattle.sheet.specs.Sheet.{Sheet, Outcome, loaded, readOf}
+use Rattle.sheet.specs.Lists.{_∈_, number}
+use Rattle.sheet.specs.Sheet.{Sheet, Outcome, loaded, told, readOf}
 use Rattle.costs.specs.Costs.{Cost, figures, fig}
 use Rattle.journeys.specs.Journeys.{Meets}
 use Rattle.journeys.specs.Computed.{front}
 use Rattle.journeys.specs.Calls.{FrontEnd, frontServed, frontCall}
-use Rattle.journeys.specs.Demand3.{figureAt, SameLists, MeetsRead, CanMeet}
+use Rattle.journeys.specs.Demand3.{SameLists, CanMeet}
 use Rattle.journeys.specs.Laws.Journeys.{has-three}
 use Rattle.journeys.specs.Laws.Front.{front-on, same-front}
 use Rattle.journeys.specs.Laws.Served.{Served, served, member, listed}
@@ -21,7 +21,7 @@ use Rattle.journeys.specs.Laws.Served.{Served, served, member, listed}
 -- the end e of a call on the sheet s: the count and the figures of the front
 record Handed (s : Sheet) (e : FrontEnd) : Type 0 where
   pub counted : e .answer .costs ≡ length (front s)
-  pub figured : (i j : ℕ) → i < e .answer .costs → j < figures → figureAt e i j ≡ fig (getD (front s) i []) j
+  pub figured : (i j : ℕ) → i < e .answer .costs → j < figures → number (e .list) (i * 4 + j) ≡ fig (getD (front s) i []) j
 
 handed : (s : Sheet) (table list : List ℕ) (e : FrontEnd) → e ≡ frontServed s table list → Handed s e
 unfolding frontServed
@@ -60,6 +60,9 @@ allowances s r h (x ∷ []) l = absurd (omega (arith, l))
 allowances s r h (x ∷ y ∷ []) l = absurd (omega (arith, l))
 allowances s r h (x ∷ y ∷ z ∷ []) l = h x y z
 allowances s r h (x ∷ y ∷ z ∷ t ∷ a) l = absurd (omega (arith, l))
+
+abbrev MeetsRead : Outcome → ℕ → ℕ → ℕ → Type 0
+MeetsRead o x y z = told (λ k n. ⊥) (λ s. Meets s (x ∷ y ∷ z ∷ [])) o
 
 meets-as : (o : Outcome) (s : Sheet) → o ≡ loaded s → (x y z : ℕ) → MeetsRead o x y z ↔ Meets s (x ∷ y ∷ z ∷ [])
 meets-as o s e x y z = (λ m. subst (λ (o : Outcome). MeetsRead o x y z) e m, λ m. subst (λ (o : Outcome). MeetsRead o x y z) (sym e) m)

@@ -11,7 +11,8 @@ use Rattle.costs.specs.Costs.{Cost, zeroCost, fig, add, AtMost}
 use Rattle.costs.specs.Laws.Figures.{fig-add, add-assoc, zero-right, at-most-antisym, undominated-same}
 use Rattle.intervals.specs.Intervals.{Free, Run}
 use Rattle.arrivals.specs.Ways.{Move}
-use Rattle.arrivals.specs.Arrivals.{Arrival, arrival, Arrives, waited, Leading}
+use Rattle.arrivals.specs.Arrivals.{Arrival, Arrives, Leading}
+use Rattle.arrivals.specs.Computed.{arrival, waited}
 use Rattle.arrivals.specs.Laws.Leading.{arrival-path, arrives-three, Led, led}
 use Rattle.arrivals.specs.Laws.Steps.{arrives-on, arrives-until}
 use Rattle.journeys.specs.Journeys.{Counts, HasCost}

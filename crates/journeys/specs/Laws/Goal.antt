@@ -17,8 +17,8 @@ use Rattle.sheet.specs.Laws.Members.{filter-mem, mem-filter, map-mem, mem-map}
 use Rattle.sheet.specs.Laws.Ascending.{ascending-unique}
 use Rattle.costs.specs.Costs.{Cost, AtMost, Dominates}
 use Rattle.costs.specs.Laws.Figures.{undominated-same, at-most-dominates}
-use Rattle.arrivals.specs.Arrivals.{Arrival, arrival, Arrives, Leading}
-use Rattle.arrivals.specs.Computed.{leading}
+use Rattle.arrivals.specs.Arrivals.{Arrival, Arrives, Leading}
+use Rattle.arrivals.specs.Computed.{arrival, leading}
 use Rattle.arrivals.specs.Laws.Leading.{arrival-path, fig-waited, Led, led, leading-is, is-leading}
 use Rattle.journeys.specs.Journeys.{Counts, Journey, HasCost, rank, Selected}
 use Rattle.journeys.specs.Computed.{countsb, journeyOf, arrivalOf, self, frontOf, front}

@@ -21,8 +21,8 @@ use Rattle.sheet.specs.Laws.Rows.{Wide, bind-flat}
 use Rattle.costs.specs.Costs.{Cost, figures}
 use Rattle.costs.specs.Computed.{sameb}
 use Rattle.costs.specs.Laws.Figures.{sameb-true, sameb-refl}
-use Rattle.arrivals.specs.Arrivals.{Arrival, arrival, keyOf, Arrives}
-use Rattle.arrivals.specs.Computed.{leading}
+use Rattle.arrivals.specs.Arrivals.{Arrival, keyOf, Arrives}
+use Rattle.arrivals.specs.Computed.{arrival, leading}
 use Rattle.arrivals.specs.Table.{arrivalRow, arrivalTable}
 use Rattle.arrivals.specs.Laws.Leading.{arrival-path, leading-is, is-leading, leading-ascending, arrives-three}
 use Rattle.journeys.specs.Computed.{countsb, arrivalOf, frontOf, front}

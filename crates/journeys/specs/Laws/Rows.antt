@@ -17,8 +17,9 @@ use Rattle.sheet.specs.Laws.Rows.{rows-count, rows-at}
 use Rattle.costs.specs.Costs.{Cost, figures}
 use Rattle.costs.specs.Computed.{sameb}
 use Rattle.costs.specs.Laws.Figures.{sameb-true, sameb-refl}
-use Rattle.costs.specs.Laws.Rows.{row, row-number, row-later, rows-mem}
-use Rattle.arrivals.specs.Arrivals.{Arrival, arrival}
+use Rattle.costs.specs.Laws.Rows.{row, row-number, row-later, mem-rows, rows-mem}
+use Rattle.arrivals.specs.Arrivals.{Arrival}
+use Rattle.arrivals.specs.Computed.{arrival}
 use Rattle.arrivals.specs.Laws.Leading.{arrival-path}
 use Rattle.arrivals.specs.Rows.{costAt, rowAt}
 use Rattle.journeys.specs.Held.{rowOf, tableRows}
@@ -94,14 +95,21 @@ module _ (v last : ℕ) (xs : List ℕ) where
           let d : k ≢ n = eqb-false k n q in
           subst (λ (i : ℕ). rowAt xs k ∈ goalRows v last i xs) (add-one n) (goal-later n (rowAt xs k) (f (omega arith) e))
 
--- each goal row is a row of the table
+-- each arrival of the table is a row, and each row is one of them
+pub table-at : (n : ℕ) (xs : List ℕ) (a : Arrival) → a ∈ tableRows n xs → (k : ℕ) × (k < n) × (a ≡ rowAt xs k)
+table-at n xs a m =
+    let r = map-mem rowOf a (rows 5 n xs) m in
+    let q = rows-mem 5 n xs (r .0) (r .1) in
+    (q .0, q .1, r .2 ∙ ap rowOf (q .2) ∙ rowAt-is xs (q .0))
+
+pub at-table : (n : ℕ) (xs : List ℕ) (k : ℕ) → k < n → rowAt xs k ∈ tableRows n xs
+at-table n xs k h = subst (λ (a : Arrival). a ∈ tableRows n xs) (rowAt-is xs k) (mem-map rowOf (row 5 xs k) (rows 5 n xs) (mem-rows 5 n xs k h))
+
 pub goal-at : (v last n : ℕ) (xs : List ℕ) (a : Arrival) → a ∈ goalRows v last n xs → (k : ℕ) × (k < n) × (isGoalRow v last (rowAt xs k) ≡ true) × (a ≡ rowAt xs k)
 goal-at v last n xs a m =
     let f = filter-mem (isGoalRow v last) a (tableRows n xs) m in
-    let r = map-mem rowOf a (rows 5 n xs) (f .0) in
-    let q = rows-mem 5 n xs (r .0) (r .1) in
-    let e : a ≡ rowAt xs (q .0) = r .2 ∙ ap rowOf (q .2) ∙ rowAt-is xs (q .0) in
-    (q .0, q .1, ap (isGoalRow v last) (sym e) ∙ f .1, e)
+    let q = table-at n xs a (f .0) in
+    (q .0, q .1, ap (isGoalRow v last) (sym (q .2)) ∙ f .1, q .2)
 
 pub cost-at : (v last n : ℕ) (xs : List ℕ) (g : Cost) → g ∈ costsOf (goalRows v last n xs) → (k : ℕ) × (k < n) × (isGoalRow v last (rowAt xs k) ≡ true) × (g ≡ costAt xs k)
 cost-at v last n xs g m =

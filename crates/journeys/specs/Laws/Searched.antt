@@ -57,7 +57,7 @@ ready-is s table table′ n e c f =
       holds = subst (λ (i : ℕ). Holds s i table′) (sym c) (table-holds s table′ k (f ∙ ap (arrivalTable s) (sym z)));
     }
 
-module _ (s : Sheet) (table table′ : List ℕ) (b : Bool) (n : ℕ) (q : _≡_ {A = SearchEnd} (record { served = b; arrivals = n; table = table′ }) (searchOn s table)) where
+module _ (s : Sheet) (table : List ℕ) {table′ : List ℕ} {b : Bool} {n : ℕ} (q : _≡_ {A = SearchEnd} (record { served = b; arrivals = n; table = table′ }) (searchOn s table)) where
   by-room : (x : Bool) → crowded s (length table) ≡ x
       → searchOn s table
       ≡ pick x (record { served = false; arrivals = 0; table = filled (length table) [] }) (record { served = true; arrivals = length (leading s); table = arrivalTable s (length table) })

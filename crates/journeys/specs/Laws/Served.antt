@@ -21,7 +21,6 @@ use Rattle.arrivals.specs.Search.{arrivalRoom}
 use Rattle.journeys.specs.Computed.{journeyOf, arrivalOf, front}
 use Rattle.journeys.specs.Calls.{cleared, frontRow, overfull, FrontEnd, frontRefused, frontServed, frontOn, frontCall, journeyRefused, tooShort, journeyServed, journeyOn, journeyCall}
 use Rattle.journeys.specs.Held.{frontRoom}
-use Rattle.journeys.specs.Demand3.{figureAt}
 use Rattle.journeys.specs.Laws.Journeys.{has-three}
 use Rattle.journeys.specs.Laws.Front.{front-on}
 
@@ -126,7 +125,7 @@ list-length s =
     ap length (bind-flat (frontRow s) (front s)) ∙ flat-length 4 (map (frontRow s) (front s)) (rows-wide s) ∙ ap (λ (m : ℕ). m * 4) (length-map (front s) (frontRow s))
 
 -- the list as a served call returned it, number by number of its rows
-pub row-listed : (s : Sheet) (table list : List ℕ) (i j : ℕ) → i < length (front s) → j < 4 → figureAt (frontServed s table list) i j ≡ number (frontRow s (getD (front s) i [])) j
+pub row-listed : (s : Sheet) (table list : List ℕ) (i j : ℕ) → i < length (front s) → j < 4 → number (frontServed s table list .list) (i * 4 + j) ≡ number (frontRow s (getD (front s) i [])) j
 unfolding frontServed
 row-listed s table list i j h k =
     let r = bind (front s) (frontRow s) in
@@ -138,7 +137,7 @@ row-listed s table list i j h k =
     ∙ ap (λ (l : List ℕ). number l j) (getD-map (frontRow s) (front s) i [] [] h)
 
 -- and figure by figure
-pub listed : (s : Sheet) (table list : List ℕ) (i j : ℕ) → i < length (front s) → j < figures → figureAt (frontServed s table list) i j ≡ fig (getD (front s) i []) j
+pub listed : (s : Sheet) (table list : List ℕ) (i j : ℕ) → i < length (front s) → j < figures → number (frontServed s table list .list) (i * 4 + j) ≡ fig (getD (front s) i []) j
 listed s table list i j h k =
     let g = getD (front s) i [] in
     row-listed s table list i j h (omega (arith, k))

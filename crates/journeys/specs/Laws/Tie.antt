@@ -16,7 +16,8 @@ use Rattle.costs.specs.Costs.{Cost, add}
 use Rattle.costs.specs.Laws.Figures.{cancel-right}
 use Rattle.intervals.specs.Intervals.{Free}
 use Rattle.arrivals.specs.Ways.{Move}
-use Rattle.arrivals.specs.Arrivals.{arrival, Arrives}
+use Rattle.arrivals.specs.Arrivals.{Arrives}
+use Rattle.arrivals.specs.Computed.{arrival}
 use Rattle.arrivals.specs.Laws.Trails.{Begins, Trail, trail-three}
 use Rattle.arrivals.specs.Laws.Leading.{came-arrives}
 use Rattle.journeys.specs.Journeys.{Counts, Journey, rank, Selected}

@@ -5,7 +5,8 @@ use mathlib.Core.Logic.{_⊎_, inl, inr}
 use mathlib.Core.Bool.{Bool, true, false, true≢false}
 use mathlib.Core.List.{List, [], _∷_, _++_}
 use Prim.Native.Nat.{ℕ}
-use Rattle.sheet.specs.Lists.{_∈_, keep, filter, Lex, lexb}
+use Rattle.sheet.specs.Lists.{_∈_, keep, filter, Lex}
+use Rattle.sheet.specs.Computed.{lexb}
 use Rattle.sheet.specs.Sorting.{Before, Ascending, put, insert, sortUnique}
 use Rattle.sheet.specs.Laws.Order.{Lex-irrefl, Lex-trans, lexb-true, lexb-false, Lex-lexb}
 

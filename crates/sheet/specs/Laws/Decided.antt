@@ -9,7 +9,8 @@ use native.Mathlib.Decide.{decLt}
 use native.Mathlib.Nat.{not-suc-le-zero}
 use lib.ListN.{length, getD, set}
 use lib.Seq.{getD-set-same, getD-set-other}
-use Rattle.sheet.specs.Lists.{number, numbersFrom, Lex, lexb}
+use Rattle.sheet.specs.Lists.{number, numbersFrom, Lex}
+use Rattle.sheet.specs.Computed.{lexb}
 use Rattle.sheet.specs.Laws.Order.{lexb-true, Lex-lexb}
 
 -- a flag that decides a claim: true where the claim holds, false where it does not

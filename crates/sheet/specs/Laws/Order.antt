@@ -7,7 +7,8 @@ use Prim.Native.Nat.{ℕ}
 use native.Mathlib.Omega.{arith}
 use lib.Dec.{ltb, eqb}
 use borrow.Author.Tests.{ltb-true, ltb-false, eqb-true, eqb-false}
-use Rattle.sheet.specs.Lists.{Lex, after, lexb}
+use Rattle.sheet.specs.Lists.{Lex}
+use Rattle.sheet.specs.Computed.{after, lexb}
 
 -- tests
 pub split : (b : Bool) → (b ≡ true) ⊎ (b ≡ false)

@@ -10,7 +10,7 @@ use native.Mathlib.Omega.{arith}
 use lib.Seq.{append-snoc}
 use Rattle.sheet.specs.Lists.{pick, _∈_, any}
 use Rattle.sheet.specs.Lines.{Line}
-use Rattle.sheet.specs.Sheet.{group, misplaced, tooMany, outside, placesIn, unpaired, latest, notAbove, Test, tests, firstFailed, fault}
+use Rattle.sheet.specs.Sheet.{group, misplaced, tooMany, outside, placesIn, unpaired, latest, notAbove, tests, firstFailed, fault}
 use Rattle.sheet.specs.Laws.Judge.{Passes}
 
 -- tests that do not fail
@@ -31,24 +31,24 @@ false-any p [] f = refl
 false-any p (x ∷ ls) f = false-or (p x) (any p ls) (f x (inl refl)) (false-any p ls (λ l m. f l (inr m)))
 
 -- no test of the list fails
-abbrev NoneFails : List Test → Type 0
+abbrev NoneFails : List (ℕ × Bool) → Type 0
 NoneFails [] = Unit {0}
-NoneFails (t ∷ ts) = (t .fails ≡ false) × NoneFails ts
+NoneFails (t ∷ ts) = (t .1 ≡ false) × NoneFails ts
 
 -- the numbers of refusals begin with 1
-abbrev Numbered : List Test → Type 0
+abbrev Numbered : List (ℕ × Bool) → Type 0
 Numbered [] = Unit {0}
-Numbered (t ∷ ts) = (1 ≤ t .refusal) × Numbered ts
+Numbered (t ∷ ts) = (1 ≤ t .0) × Numbered ts
 
-none-fails : (ts : List Test) → Numbered ts → firstFailed ts ≡ 0 → NoneFails ts
+none-fails : (ts : List (ℕ × Bool)) → Numbered ts → firstFailed ts ≡ 0 → NoneFails ts
 none-fails [] h e = tt
-none-fails (t ∷ ts) h e = go (t .fails) refl e (none-fails ts (h .1))
+none-fails (t ∷ ts) h e = go (t .1) refl e (none-fails ts (h .1))
   where
-    go : (b : Bool) → t .fails ≡ b → pick b (t .refusal) (firstFailed ts) ≡ 0 → (firstFailed ts ≡ 0 → NoneFails ts) → NoneFails (t ∷ ts)
+    go : (b : Bool) → t .1 ≡ b → pick b (t .0) (firstFailed ts) ≡ 0 → (firstFailed ts ≡ 0 → NoneFails ts) → NoneFails (t ∷ ts)
     go true q d f = absurd (omega (arith, h .0))
     go false q d f = (q, f d)
 
-none-failed : (ts : List Test) → NoneFails ts → firstFailed ts ≡ 0
+none-failed : (ts : List (ℕ × Bool)) → NoneFails ts → firstFailed ts ≡ 0
 none-failed [] h = refl
 none-failed (t ∷ ts) h = rw (h .0) (none-failed ts (h .1))
 

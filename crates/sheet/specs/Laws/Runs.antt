@@ -11,7 +11,8 @@ use native.Mathlib.Omega.{arith}
 use lib.Dec.{ltb, eqb}
 use lib.ListN.{length, take, length-append}
 use borrow.Author.Tests.{leb-false, lt-leb, le-ltb, ne-eqb, not-false}
-use Rattle.sheet.specs.Lists.{number, _∈_, any, lexb}
+use Rattle.sheet.specs.Lists.{number, _∈_, any}
+use Rattle.sheet.specs.Computed.{lexb}
 use Rattle.sheet.specs.Sorting.{Before, Ascending}
 use Rattle.sheet.specs.Kinds.{Kind, kinds}
 use Rattle.sheet.specs.Lines.{Line, line}

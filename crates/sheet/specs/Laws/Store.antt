@@ -4,7 +4,7 @@ use mathlib.Core.List.{List, [], append-nil}
 use Prim.Native.Nat.{ℕ, _+_, _*_, _≤_, _<_}
 use native.Mathlib.Omega.{arith}
 use lib.ListN.{length, getD, take, drop}
-use lib.Seq.{take-at}
+use lib.Seq.{take-at, getD-take, getD-drop}
 use Rattle.sheet.specs.Lists.{number, filled, flat}
 use Rattle.sheet.specs.Kinds.{width, room, kindS}
 use Rattle.sheet.specs.Sheet.{Sheet, places, groupsOf}
@@ -15,6 +15,10 @@ use Rattle.sheet.specs.Laws.Rows.{Wide, flat-length, rows-flat}
 use Rattle.sheet.specs.Laws.Kinds.{width-some}
 use Rattle.sheet.specs.Laws.Cells.{Held, held-run, held-count, held-length, held-few, held-full, held-part}
 use Rattle.sheet.specs.Laws.Valid.{valid-runs}
+
+-- number i of the lines of a kind, where it stands in the array
+pub part-number : (lines all : List ℕ) (k i : ℕ) → i < number lines k * width (kindAt k) → number (partOf lines all k) i ≡ number all (baseOf k + i)
+part-number lines all k i h = getD-take (number lines k * width (kindAt k)) (drop (baseOf k) all) i 0 h ∙ getD-drop (baseOf k) all i 0
 
 module _ {s : Sheet} {lines all : List ℕ} (S : StoreOf s lines all) where
   store-held : Held (places s) (groupsOf s) lines all
@@ -40,6 +44,11 @@ module _ {s : Sheet} {lines all : List ℕ} (S : StoreOf s lines all) where
       flat-length (width (kindAt k)) g (store-wide k h) ∙ ap (λ (m : ℕ). m * width (kindAt k)) (sym (store-count k h)) in
       ap (take (number lines k * width (kindAt k))) (q .1) ∙ take-at (flat g) (q .0) (number lines k * width (kindAt k)) n
 
+  -- the lines of a kind are whole
+  pub store-numbers : (k : ℕ) → k < kindCount → length (partOf lines all k) ≡ number lines k * width (kindAt k)
+  store-numbers k h =
+      ap length (store-part k h) ∙ flat-length (width (kindAt k)) (getD (groupsOf s) k []) (store-wide k h) ∙ ap (λ (m : ℕ). m * width (kindAt k)) (sym (store-count k h))
+
   -- the whole room of a kind
   pub store-full : (k : ℕ) → k < kindCount → take (room (kindAt k)) (drop (baseOf k) all) ≡ filled (room (kindAt k)) (flat (getD (groupsOf s) k []))
   store-full = held-full store-held
@@ -62,3 +71,7 @@ module _ {s : Sheet} {lines all : List ℕ} (S : StoreOf s lines all) where
 
   pub store-head : take (room kindS) all ≡ partOf lines all 0
   store-head = ap (λ (n : ℕ). take (n * width kindS) all) (sym (store-count 0 (omega arith)))
+
+  -- number i of the S line, where it stands in the array
+  pub head-number : (i : ℕ) → i < width kindS → number all i ≡ number (partOf lines all 0) i
+  head-number i h = sym (getD-take (room kindS) all i 0 h) ∙ ap (λ (l : List ℕ). number l i) store-head

@@ -22,7 +22,7 @@ returns : tie.Need-returns
 returns c =
     let z = c .before .before .before .before .before .before .before .before .before .before .before in
     let r = c .before .before .before .before .before .read-into in
-    front-unread (z .args .sheet .now) (r .result) (r .ensures) (z .args .table .now) (z .args .list .now) (c .refuse-front .result) (c .refuse-front .ensures) (c .before .if1 .taken)
+    front-unread (z .args .sheet .now) (r .ensures) (z .args .table .now) (z .args .list .now) (c .refuse-front .ensures) (c .before .if1 .taken)
 
 slice-aggregate-front-stored : tie.Need-slice-aggregate-front-stored
 slice-aggregate-front-stored c = search needs
@@ -45,7 +45,7 @@ returns-2 : tie.Need-returns-2
 returns-2 c =
     let z = c .before .before .before .before .before .before .before .before .before .before .before .before .before .before .before .before .before .before .before in
     let r = c .before .before .before .before .before .before .before .before .before .before .before .before .before .read-into in
-    c .before .before .before .before .front-stored .ensures ∙ front-read (z .args .sheet .now) (r .result) (r .ensures) (z .args .table .now) (z .args .list .now) (c .before .before .before .before .before .before .before .before .before .if1 .left)
+    c .before .before .before .before .front-stored .ensures ∙ front-read (z .args .sheet .now) (r .ensures) (z .args .table .now) (z .args .list .now) (c .before .before .before .before .before .before .before .before .before .if1 .left)
 
 pub front-spec : {M : Type 1} → statement M
 front-spec =

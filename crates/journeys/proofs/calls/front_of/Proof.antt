@@ -11,13 +11,19 @@ use borrow.Author.Needs.{needs}
 use borrow.Author.Tests.{not-true, not-false}
 use Rattle.sheet.specs.Lists.{number, filled}
 use Rattle.sheet.specs.Store.{sheetIn}
-use Rattle.sheet.specs.Laws.Store.{store-length}
+use Rattle.sheet.specs.Laws.Store.{store-length, head-number}
 use Rattle.journeys.specs.Calls.{frontEnd}
 use Rattle.journeys.specs.Inner.{goalRows, offeredRows}
-use Rattle.journeys.specs.Laws.Searched.{search-full, search-ready}
-use Rattle.journeys.proofs.Ends.{head-at, front-eight, front-nine, front-end}
+use Rattle.journeys.specs.Laws.Searched.{Ready, search-full, search-ready}
+use Rattle.journeys.proofs.Ends.{front-eight, front-nine, front-end}
 use Rattle.journeys.proofs.calls.front_of.Statement.{statement}
 use Rattle.journeys.proofs.calls.front_of.Tie as tie
+
+-- where the search was served, the table is ready
+ready : (c : tie.Else1) → let z = c .before .before .before .before .before .before .before .before .before .before .before in Ready (sheetIn (z .args .lines .now) (z .args .all .now)) (z .args .table .now) (c .before .before .before .before .search .last .1 .1 .1 .0) (c .before .before .before .before .search .result .arrivals)
+ready c =
+    let q = c .before .before .before .before .search in
+    search-ready _ _ (q .ensures) (not-false (q .result .served) (c .if1 .left))
 
 search-requires : tie.Need-search-requires
 search-requires c κs = search needs
@@ -30,12 +36,10 @@ same-length c = search needs
 
 returns : tie.Need-returns
 returns c =
-    let z = c .before .before .before .before .before .before .before .before .before .before .before .before in
-    let d = z .pre in
-    let s = sheetIn (z .args .lines .now) (z .args .all .now) in
     let q = c .before .before .before .before .before .search in
-    let f = search-full s (z .args .table .now) (q .last .1 .1 .1 .0) (q .result .served) (q .result .arrivals) (q .ensures) (not-true (q .result .served) (c .before .if1 .taken)) in
-    front-eight s (z .args .table .now) (z .args .list .now) (c .refuse-front .result) (q .last .1 .1 .1 .0) (c .refuse-front .ensures) (f .1) (f .0)
+    let s = sheetIn (c .before .before .before .before .before .before .before .before .before .before .before .before .args .lines .now) (c .before .before .before .before .before .before .before .before .before .before .before .before .args .all .now) in
+    let f = search-full s (c .before .before .before .before .before .before .before .before .before .before .before .before .args .table .now) (q .ensures) (not-true (q .result .served) (c .before .if1 .taken)) in
+    front-eight s (c .before .before .before .before .before .before .before .before .before .before .before .before .args .table .now) (c .before .before .before .before .before .before .before .before .before .before .before .before .args .list .now) (c .refuse-front .ensures) (f .1) (f .0)
 
 shared-slice-read-t15 : tie.Need-shared-slice-read-t15
 shared-slice-read-t15 c = omega (arith, store-length (c .before .before .before .before .before .before .before .before .before .before .before .before .before .pre .store))
@@ -44,15 +48,7 @@ shared-slice-read-t18 : tie.Need-shared-slice-read-t18
 shared-slice-read-t18 c = omega (arith, store-length (c .before .before .before .before .before .before .before .before .before .before .before .before .before .before .pre .store))
 
 count-front-requires : tie.Need-count-front-requires
-count-front-requires c κs =
-    let z = c .before .before .before .before .before .before .before .before .before .before .before .before .before .before in
-    let d = z .pre in
-    let s = sheetIn (z .args .lines .now) (z .args .all .now) in
-    let q = c .before .before .before .before .before .before .before .search in
-    let p = search-ready s (z .args .table .now) (q .last .1 .1 .1 .0) (q .result .served) (q .result .arrivals) (q .ensures) (not-false (q .result .served) (c .before .before .before .if1 .left)) in
-    let v = head-at d 3 (omega arith) in
-    let w = head-at d 1 (omega arith) in
-    p .holds .room
+count-front-requires c κs = ready (c .before .before .before) .holds .room
 
 clear-from-requires : tie.Need-clear-from-requires
 clear-from-requires c κs = search needs
@@ -65,16 +61,9 @@ same-length-2 c = search needs
 
 returns-2 : tie.Need-returns-2
 returns-2 c =
-    let z = c .before .before .before .before .before .before .before .before .before .before .before .before .before .before .before .before .before .before .before .before .before .before .before in
-    let d = z .pre in
-    let s = sheetIn (z .args .lines .now) (z .args .all .now) in
-    let q = c .before .before .before .before .before .before .before .before .before .before .before .before .before .before .before .before .search in
-    let p = search-ready s (z .args .table .now) (q .last .1 .1 .1 .0) (q .result .served) (q .result .arrivals) (q .ensures) (not-false (q .result .served) (c .before .before .before .before .before .before .before .before .before .before .before .before .if1 .left)) in
-    let v = head-at d 3 (omega arith) in
-    let w = head-at d 1 (omega arith) in
     let k = c .before .before .before .before .before .before .before .before .count-front in
-    let t = c .before .before .before .clear-from .ensures ∙ ap (λ (xs : List ℕ). take 0 xs ++ replicate (length xs - 0) 0) (k .ensures .kept) in
-    front-nine s (z .args .table .now) (q .last .1 .1 .1 .0) (q .result .arrivals) p (number (z .args .all .now) 3) (number (z .args .all .now) 1) v w (z .args .list .now) (k .result) (k .ensures .counted) (c .refuse-front2 .result) (c .before .before .before .clear-from .last .0) (c .refuse-front2 .ensures) t (c .before .before .before .before .before .if2 .taken)
+    front-nine (ready (c .before .before .before .before .before .before .before .before .before .before .before .before)) (head-number (c .before .before .before .before .before .before .before .before .before .before .before .before .before .before .before .before .before .before .before .before .before .before .before .pre .store) 3 (omega arith)) (head-number (c .before .before .before .before .before .before .before .before .before .before .before .before .before .before .before .before .before .before .before .before .before .before .before .pre .store) 1 (omega arith)) (c .before .before .before .before .before .before .before .before .before .before .before .before .before .before .before .before .before .before .before .before .before .before .before .args .list .now) (k .ensures .counted)
+    (c .refuse-front2 .ensures) (c .before .before .before .clear-from .ensures ∙ ap (λ (xs : List ℕ). take 0 xs ++ replicate (length xs - 0) 0) (k .ensures .kept)) (c .before .before .before .before .before .if2 .taken)
 
 shared-slice-read-t15-2 : tie.Need-shared-slice-read-t15-2
 shared-slice-read-t15-2 c = omega (arith, store-length (c .before .before .before .before .before .before .before .before .before .before .before .before .before .before .before .before .before .before .before .before .pre .store))
@@ -84,16 +73,9 @@ shared-slice-read-t18-2 c = omega (arith, store-length (c .before .before .befor
 
 list-front-requires : tie.Need-list-front-requires
 list-front-requires c κs =
-    let z = c .before .before .before .before .before .before .before .before .before .before .before .before .before .before .before .before .before .before .before .before .before .before in
-    let d = z .pre in
-    let s = sheetIn (z .args .lines .now) (z .args .all .now) in
-    let q = c .before .before .before .before .before .before .before .before .before .before .before .before .before .before .before .search in
-    let p = search-ready s (z .args .table .now) (q .last .1 .1 .1 .0) (q .result .served) (q .result .arrivals) (q .ensures) (not-false (q .result .served) (c .before .before .before .before .before .before .before .before .before .before .before .if1 .left)) in
-    let v = head-at d 3 (omega arith) in
-    let w = head-at d 1 (omega arith) in
     let k = c .before .before .before .before .before .before .before .count-front in
-    let n = length (z .args .list .now) in
-    rw (k .ensures .kept) (record { room = p .holds .room; list-room = omega (arith, c .before .before .before .before .if2 .left, k .ensures .counted, div-add-mod' n 4) })
+    rw (k .ensures .kept)
+    (record { room = ready (c .before .before .before .before .before .before .before .before .before .before .before) .holds .room; list-room = omega (arith, c .before .before .before .before .if2 .left, k .ensures .counted, div-add-mod' (length (c .before .before .before .before .before .before .before .before .before .before .before .before .before .before .before .before .before .before .before .before .before .before .args .list .now)) 4) })
 
 same-length-3 : tie.Need-same-length-3
 same-length-3 c = search needs
@@ -103,18 +85,12 @@ same-length-4 c = search needs
 
 returns-3 : tie.Need-returns-3
 returns-3 c =
-    let z = c .before .before .before .before .before .before .before .before .before .before .before .before .before .before .before .before .before .before .before .before .before .before .before .before .before .before .before in
-    let d = z .pre in
-    let s = sheetIn (z .args .lines .now) (z .args .all .now) in
     let q = c .before .before .before .before .before .before .before .before .before .before .before .before .before .before .before .before .before .before .before .before .search in
-    let p = search-ready s (z .args .table .now) (q .last .1 .1 .1 .0) (q .result .served) (q .result .arrivals) (q .ensures) (not-false (q .result .served) (c .before .before .before .before .before .before .before .before .before .before .before .before .before .before .before .before .if1 .left)) in
-    let v = head-at d 3 (omega arith) in
-    let w = head-at d 1 (omega arith) in
     let k = c .before .before .before .before .before .before .before .before .before .before .before .before .count-front in
     let l = c .before .before .before .before .list-front in
-    let e = l .ensures .listed ∙ ap (λ (xs : List ℕ). filled (length (z .args .list .now)) (offeredRows (goalRows (number (z .args .all .now) 3) (number (z .args .all .now) 1) (q .result .arrivals) xs))) (k .ensures .kept) in
+    let e = l .ensures .listed ∙ ap (λ (xs : List ℕ). filled (length (c .before .before .before .before .before .before .before .before .before .before .before .before .before .before .before .before .before .before .before .before .before .before .before .before .before .before .before .args .list .now)) (offeredRows (goalRows (number (c .before .before .before .before .before .before .before .before .before .before .before .before .before .before .before .before .before .before .before .before .before .before .before .before .before .before .before .args .all .now) 3) (number (c .before .before .before .before .before .before .before .before .before .before .before .before .before .before .before .before .before .before .before .before .before .before .before .before .before .before .before .args .all .now) 1) (q .result .arrivals) xs))) (k .ensures .kept) in
     ap (λ (xs : List ℕ). frontEnd (record { refusal = 0; line = 0; costs = k .result; arrivals = q .result .arrivals }) xs (l .last .1 .1 .1 .1 .0)) (l .ensures .kept ∙ k .ensures .kept)
-    ∙ front-end s (z .args .table .now) (q .last .1 .1 .1 .0) (q .result .arrivals) p (number (z .args .all .now) 3) (number (z .args .all .now) 1) v w (z .args .list .now) (k .result) (k .ensures .counted) (l .last .1 .1 .1 .1 .0) e (c .before .before .before .before .before .before .before .before .before .if2 .left)
+    ∙ front-end (ready (c .before .before .before .before .before .before .before .before .before .before .before .before .before .before .before .before)) (head-number (c .before .before .before .before .before .before .before .before .before .before .before .before .before .before .before .before .before .before .before .before .before .before .before .before .before .before .before .pre .store) 3 (omega arith)) (head-number (c .before .before .before .before .before .before .before .before .before .before .before .before .before .before .before .before .before .before .before .before .before .before .before .before .before .before .before .pre .store) 1 (omega arith)) (c .before .before .before .before .before .before .before .before .before .before .before .before .before .before .before .before .before .before .before .before .before .before .before .before .before .before .before .args .list .now) (k .ensures .counted) e (c .before .before .before .before .before .before .before .before .before .if2 .left)
 
 pub front-of-spec : {M : Type 1} → statement M
 front-of-spec =

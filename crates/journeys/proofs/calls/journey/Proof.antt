@@ -22,7 +22,7 @@ returns : tie.Need-returns
 returns c =
     let z = c .before .before .before .before .before .before .before .before .before .before .before in
     let r = c .before .before .before .before .before .read-into in
-    journey-unread (z .args .sheet .now) (r .result) (r .ensures) (z .args .number) (z .args .table .now) (z .args .path .now) (c .refuse-journey .result) (c .refuse-journey .ensures) (c .before .if1 .taken)
+    journey-unread (z .args .sheet .now) (r .ensures) (z .args .number) (z .args .table .now) (z .args .path .now) (c .refuse-journey .ensures) (c .before .if1 .taken)
 
 slice-aggregate-journey-stored : tie.Need-slice-aggregate-journey-stored
 slice-aggregate-journey-stored c = search needs
@@ -45,7 +45,7 @@ returns-2 : tie.Need-returns-2
 returns-2 c =
     let z = c .before .before .before .before .before .before .before .before .before .before .before .before .before .before .before .before .before .before .before in
     let r = c .before .before .before .before .before .before .before .before .before .before .before .before .before .read-into in
-    c .before .before .before .before .journey-stored .ensures ∙ journey-read (z .args .sheet .now) (r .result) (r .ensures) (z .args .number) (z .args .table .now) (z .args .path .now) (c .before .before .before .before .before .before .before .before .before .if1 .left)
+    c .before .before .before .before .journey-stored .ensures ∙ journey-read (z .args .sheet .now) (r .ensures) (z .args .number) (z .args .table .now) (z .args .path .now) (c .before .before .before .before .before .before .before .before .before .if1 .left)
 
 pub journey-spec : {M : Type 1} → statement M
 journey-spec =

@@ -8,14 +8,20 @@ use native.Mathlib.Omega.{arith}
 use lib.ListN.{length}
 use borrow.Author.Needs.{needs}
 use borrow.Author.Tests.{not-true, not-false}
-use Rattle.sheet.specs.Lists.{number, filled}
+use Rattle.sheet.specs.Lists.{filled}
 use Rattle.sheet.specs.Store.{sheetIn}
-use Rattle.sheet.specs.Laws.Store.{store-length}
+use Rattle.sheet.specs.Laws.Store.{store-length, head-number}
 use Rattle.journeys.specs.Calls.{journeyEnd}
-use Rattle.journeys.specs.Laws.Searched.{search-full, search-ready}
-use Rattle.journeys.proofs.Ends.{head-at, journey-eight, journey-ten, journey-eleven, journey-end, layable}
+use Rattle.journeys.specs.Laws.Searched.{Ready, search-full, search-ready}
+use Rattle.journeys.proofs.Ends.{journey-eight, journey-ten, journey-eleven, journey-end, layable}
 use Rattle.journeys.proofs.calls.journey_of.Statement.{statement}
 use Rattle.journeys.proofs.calls.journey_of.Tie as tie
+
+-- where the search was served, the table is ready
+ready : (c : tie.Else1) → let z = c .before .before .before .before .before .before .before .before .before .before .before in Ready (sheetIn (z .args .lines .now) (z .args .all .now)) (z .args .table .now) (c .before .before .before .before .search .last .1 .1 .1 .0) (c .before .before .before .before .search .result .arrivals)
+ready c =
+    let q = c .before .before .before .before .search in
+    search-ready _ _ (q .ensures) (not-false (q .result .served) (c .if1 .left))
 
 search-requires : tie.Need-search-requires
 search-requires c κs = search needs
@@ -28,12 +34,10 @@ same-length c = search needs
 
 returns : tie.Need-returns
 returns c =
-    let z = c .before .before .before .before .before .before .before .before .before .before .before .before in
-    let d = z .pre in
-    let s = sheetIn (z .args .lines .now) (z .args .all .now) in
     let q = c .before .before .before .before .before .search in
-    let f = search-full s (z .args .table .now) (q .last .1 .1 .1 .0) (q .result .served) (q .result .arrivals) (q .ensures) (not-true (q .result .served) (c .before .if1 .taken)) in
-    journey-eight s (z .args .number) (z .args .table .now) (z .args .path .now) (c .refuse-journey .result) (q .last .1 .1 .1 .0) (c .refuse-journey .ensures) (f .1) (f .0)
+    let s = sheetIn (c .before .before .before .before .before .before .before .before .before .before .before .before .args .lines .now) (c .before .before .before .before .before .before .before .before .before .before .before .before .args .all .now) in
+    let f = search-full s (c .before .before .before .before .before .before .before .before .before .before .before .before .args .table .now) (q .ensures) (not-true (q .result .served) (c .before .if1 .taken)) in
+    journey-eight s (c .before .before .before .before .before .before .before .before .before .before .before .before .args .number) (c .before .before .before .before .before .before .before .before .before .before .before .before .args .table .now) (c .before .before .before .before .before .before .before .before .before .before .before .before .args .path .now) (c .refuse-journey .ensures) (f .1) (f .0)
 
 shared-slice-read-t18 : tie.Need-shared-slice-read-t18
 shared-slice-read-t18 c = omega (arith, store-length (c .before .before .before .before .before .before .before .before .before .before .before .before .before .pre .store))
@@ -42,15 +46,7 @@ shared-slice-read-t21 : tie.Need-shared-slice-read-t21
 shared-slice-read-t21 c = omega (arith, store-length (c .before .before .before .before .before .before .before .before .before .before .before .before .before .before .pre .store))
 
 nth-front-requires : tie.Need-nth-front-requires
-nth-front-requires c κs =
-    let z = c .before .before .before .before .before .before .before .before .before .before .before .before .before .before in
-    let d = z .pre in
-    let s = sheetIn (z .args .lines .now) (z .args .all .now) in
-    let q = c .before .before .before .before .before .before .before .search in
-    let p = search-ready s (z .args .table .now) (q .last .1 .1 .1 .0) (q .result .served) (q .result .arrivals) (q .ensures) (not-false (q .result .served) (c .before .before .before .if1 .left)) in
-    let v = head-at d 3 (omega arith) in
-    let w = head-at d 1 (omega arith) in
-    p .holds .room
+nth-front-requires c κs = ready (c .before .before .before) .holds .room
 
 refuse-searched-requires : tie.Need-refuse-searched-requires
 refuse-searched-requires c κs = search needs
@@ -60,17 +56,10 @@ same-length-2 c = search needs
 
 returns-2 : tie.Need-returns-2
 returns-2 c =
-    let z = c .before .before .before .before .before .before .before .before .before .before .before .before .before .before .before .before .before .before .before .before .before .before .before in
-    let d = z .pre in
-    let s = sheetIn (z .args .lines .now) (z .args .all .now) in
-    let q = c .before .before .before .before .before .before .before .before .before .before .before .before .before .before .before .before .search in
-    let p = search-ready s (z .args .table .now) (q .last .1 .1 .1 .0) (q .result .served) (q .result .arrivals) (q .ensures) (not-false (q .result .served) (c .before .before .before .before .before .before .before .before .before .before .before .before .if1 .left)) in
-    let v = head-at d 3 (omega arith) in
-    let w = head-at d 1 (omega arith) in
     let k = c .before .before .before .before .before .before .before .before .nth-front in
     let r = c .before .before .refuse-searched in
-    journey-ten s (z .args .table .now) (q .last .1 .1 .1 .0) (q .result .arrivals) p (number (z .args .all .now) 3) (number (z .args .all .now) 1) v w (z .args .number) (k .result) (k .ensures .numbered) (z .args .path .now) (r .result) (r .last .1 .0) (r .ensures .0)
-    (r .ensures .1 ∙ ap (λ (xs : List ℕ). filled (length xs) []) (k .ensures .kept)) (not-true (k .result .found) (c .before .before .before .before .if2 .taken))
+    journey-ten (ready (c .before .before .before .before .before .before .before .before .before .before .before .before)) (head-number (c .before .before .before .before .before .before .before .before .before .before .before .before .before .before .before .before .before .before .before .before .before .before .before .pre .store) 3 (omega arith)) (head-number (c .before .before .before .before .before .before .before .before .before .before .before .before .before .before .before .before .before .before .before .before .before .before .before .pre .store) 1 (omega arith)) (k .ensures .numbered) (c .before .before .before .before .before .before .before .before .before .before .before .before .before .before .before .before .before .before .before .before .before .before .before .args .path .now)
+    (r .ensures .0) (r .ensures .1 ∙ ap (λ (xs : List ℕ). filled (length xs) []) (k .ensures .kept)) (not-true (k .result .found) (c .before .before .before .before .if2 .taken))
 
 cast-if3 : tie.Need-cast-if3
 cast-if3 c = search needs
@@ -83,30 +72,16 @@ same-length-3 c = search needs
 
 returns-3 : tie.Need-returns-3
 returns-3 c =
-    let z = c .before .before .before .before .before .before .before .before .before .before .before .before .before .before .before .before .before .before .before .before .before .before .before .before in
-    let d = z .pre in
-    let s = sheetIn (z .args .lines .now) (z .args .all .now) in
-    let q = c .before .before .before .before .before .before .before .before .before .before .before .before .before .before .before .before .before .search in
-    let p = search-ready s (z .args .table .now) (q .last .1 .1 .1 .0) (q .result .served) (q .result .arrivals) (q .ensures) (not-false (q .result .served) (c .before .before .before .before .before .before .before .before .before .before .before .before .before .if1 .left)) in
-    let v = head-at d 3 (omega arith) in
-    let w = head-at d 1 (omega arith) in
-    let k = c .before .before .before .before .before .before .before .before .before .nth-front in
+    let k = c .before .before .before .before .before .before .before .before .before .before .before .nth-front in
     let r = c .before .before .refuse-searched2 in
-    journey-eleven s (z .args .table .now) (q .last .1 .1 .1 .0) (q .result .arrivals) p (number (z .args .all .now) 3) (number (z .args .all .now) 1) v w (z .args .number) (k .result) (k .ensures .numbered) (z .args .path .now) (r .result) (r .last .1 .0) (r .ensures .0)
-    (r .ensures .1 ∙ ap (λ (xs : List ℕ). filled (length xs) []) (k .ensures .kept)) (not-false (k .result .found) (c .before .before .before .before .before .if2 .left)) (c .before .before .before .before .if3 .taken)
+    journey-eleven (ready (c .before .before .before .before .before .before .before .before .before .before .before .before .before .before .before)) (head-number (c .before .before .before .before .before .before .before .before .before .before .before .before .before .before .before .before .before .before .before .before .before .before .before .before .before .before .pre .store) 3 (omega arith)) (head-number (c .before .before .before .before .before .before .before .before .before .before .before .before .before .before .before .before .before .before .before .before .before .before .before .before .before .before .pre .store) 1 (omega arith)) (k .ensures .numbered) (c .before .before .before .before .before .before .before .before .before .before .before .before .before .before .before .before .before .before .before .before .before .before .before .before .before .before .args .path .now)
+    (r .ensures .0) (r .ensures .1 ∙ ap (λ (xs : List ℕ). filled (length xs) []) (k .ensures .kept)) (not-false (k .result .found) (c .before .before .before .before .before .before .before .if2 .left)) (c .before .before .before .before .if3 .taken)
 
 lay-path-requires : tie.Need-lay-path-requires
 lay-path-requires c κs =
-    let z = c .before .before .before .before .before .before .before .before .before .before .before .before .before .before .before .before .before .before .before .before .before .before .before in
-    let d = z .pre in
-    let s = sheetIn (z .args .lines .now) (z .args .all .now) in
-    let q = c .before .before .before .before .before .before .before .before .before .before .before .before .before .before .before .before .search in
-    let p = search-ready s (z .args .table .now) (q .last .1 .1 .1 .0) (q .result .served) (q .result .arrivals) (q .ensures) (not-false (q .result .served) (c .before .before .before .before .before .before .before .before .before .before .before .before .if1 .left)) in
-    let v = head-at d 3 (omega arith) in
-    let w = head-at d 1 (omega arith) in
-    let k = c .before .before .before .before .before .before .before .before .nth-front in
+    let k = c .before .before .before .before .before .before .before .before .before .before .nth-front in
     rw (k .ensures .kept)
-    (layable d (z .args .table .now) (q .last .1 .1 .1 .0) (q .result .arrivals) p (number (z .args .all .now) 3) (number (z .args .all .now) 1) v w (z .args .number) (k .result) (k .ensures .numbered) (z .args .path .now) (not-false (k .result .found) (c .before .before .before .before .if2 .left)) (c .before .before .before .if3 .left))
+    (layable (c .before .before .before .before .before .before .before .before .before .before .before .before .before .before .before .before .before .before .before .before .before .before .before .before .before .pre) (ready (c .before .before .before .before .before .before .before .before .before .before .before .before .before .before)) (head-number (c .before .before .before .before .before .before .before .before .before .before .before .before .before .before .before .before .before .before .before .before .before .before .before .before .before .pre .store) 3 (omega arith)) (head-number (c .before .before .before .before .before .before .before .before .before .before .before .before .before .before .before .before .before .before .before .before .before .before .before .before .before .pre .store) 1 (omega arith)) (k .ensures .numbered) (c .before .before .before .before .before .before .before .before .before .before .before .before .before .before .before .before .before .before .before .before .before .before .before .before .before .args .path .now) (not-false (k .result .found) (c .before .before .before .before .before .before .if2 .left)) (c .before .before .before .if3 .left))
 
 same-length-4 : tie.Need-same-length-4
 same-length-4 c = search needs
@@ -116,17 +91,10 @@ same-length-5 c = search needs
 
 returns-4 : tie.Need-returns-4
 returns-4 c =
-    let z = c .before .before .before .before .before .before .before .before .before .before .before .before .before .before .before .before .before .before .before .before .before .before .before .before .before .before in
-    let d = z .pre in
-    let s = sheetIn (z .args .lines .now) (z .args .all .now) in
-    let q = c .before .before .before .before .before .before .before .before .before .before .before .before .before .before .before .before .before .before .before .search in
-    let p = search-ready s (z .args .table .now) (q .last .1 .1 .1 .0) (q .result .served) (q .result .arrivals) (q .ensures) (not-false (q .result .served) (c .before .before .before .before .before .before .before .before .before .before .before .before .before .before .before .if1 .left)) in
-    let v = head-at d 3 (omega arith) in
-    let w = head-at d 1 (omega arith) in
-    let k = c .before .before .before .before .before .before .before .before .before .before .before .nth-front in
+    let k = c .before .before .before .before .before .before .before .before .before .before .before .before .before .nth-front in
     let l = c .before .before .lay-path in
-    ap (λ (xs : List ℕ). journeyEnd (record { refusal = 0; line = 0; cost = k .result .cost; arrival = k .result .step }) xs (l .last .1 .1 .1 .1 .1 .1 .1 .0)) (k .ensures .kept)
-    ∙ journey-end s (z .args .table .now) (q .last .1 .1 .1 .0) (q .result .arrivals) p (number (z .args .all .now) 3) (number (z .args .all .now) 1) v w (z .args .number) (k .result) (k .ensures .numbered) (z .args .path .now) (l .last .1 .1 .1 .1 .1 .1 .1 .0) (not-false (k .result .found) (c .before .before .before .before .before .before .before .if2 .left)) (c .before .before .before .before .before .before .if3 .left) (l .ensures)
+    ap (λ (xs : List ℕ). journeyEnd (record { refusal = 0; line = 0; cost = k .result .cost; arrival = k .result .step .0 }) xs (l .last .1 .1 .1 .1 .1 .1 .1 .0)) (k .ensures .kept)
+    ∙ journey-end (ready (c .before .before .before .before .before .before .before .before .before .before .before .before .before .before .before .before .before)) (head-number (c .before .before .before .before .before .before .before .before .before .before .before .before .before .before .before .before .before .before .before .before .before .before .before .before .before .before .before .before .pre .store) 3 (omega arith)) (head-number (c .before .before .before .before .before .before .before .before .before .before .before .before .before .before .before .before .before .before .before .before .before .before .before .before .before .before .before .before .pre .store) 1 (omega arith)) (k .ensures .numbered) (c .before .before .before .before .before .before .before .before .before .before .before .before .before .before .before .before .before .before .before .before .before .before .before .before .before .before .before .before .args .path .now) (not-false (k .result .found) (c .before .before .before .before .before .before .before .before .before .if2 .left)) (c .before .before .before .before .before .before .if3 .left) (l .ensures)
 
 pub journey-of-spec : {M : Type 1} → statement M
 journey-of-spec =

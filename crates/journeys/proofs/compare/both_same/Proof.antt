@@ -7,13 +7,13 @@ use Rattle.journeys.proofs.compare.both_same.Statement.{statement}
 use Rattle.journeys.proofs.compare.both_same.Tie as tie
 
 returns : tie.Need-returns
-returns c = fails (λ h. c .if1 .taken (h .first-served))
+returns c = fails (λ h. c .if1 .taken (h .0))
 
 returns-2 : tie.Need-returns-2
-returns-2 c = fails (λ h. c .if2 .taken (h .second-served))
+returns-2 c = fails (λ h. c .if2 .taken (h .1))
 
 returns-3 : tie.Need-returns-3
-returns-3 c = fails (λ h. c .if3 .taken (h .lists .counts))
+returns-3 c = fails (λ h. c .if3 .taken (h .2 .counts))
 
 same-costs-requires : tie.Need-same-costs-requires
 same-costs-requires c κs =

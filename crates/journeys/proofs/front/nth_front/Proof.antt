@@ -50,17 +50,17 @@ row-cost-requires c κs = in-table {ys = c .before .before .before .before .befo
 cast-t16 : tie.Need-cast-t16
 cast-t16 c = search needs
 
-mul-t25 : tie.Need-mul-t25
-mul-t25 c = search needs
+mul-t26 : tie.Need-mul-t26
+mul-t26 c = search needs
 
-add-t26 : tie.Need-add-t26
-add-t26 c = search needs
+add-t27 : tie.Need-add-t27
+add-t27 c = search needs
 
-mul-t27 : tie.Need-mul-t27
-mul-t27 c = search needs
+mul-t28 : tie.Need-mul-t28
+mul-t28 c = search needs
 
-slice-read-t29 : tie.Need-slice-read-t29
-slice-read-t29 c = omega (arith, ap length (c .before .before .before .before .before .before .before .before .before .undo .ensures .of _ _ (c .before .before .before .before .before .before .before .before .before .before .before .before .before .pass-rows .ensures .on .of _ _ (c .before .before .before .before .before .before .before .before .before .before .before .before .before .before .before .before .before .begin .ensures .sweeps))), number-room _ (c .before .before .before .before .before .before .before .before .before .before .before .before .before .before .before .before .before .begin .ensures) (c .before .before .before .before .before .before .before .before .before .before .before .before .before .pass-rows .ensures) (c .before .before .before .before .before .if2 .left) .room)
+slice-read-t30 : tie.Need-slice-read-t30
+slice-read-t30 c = omega (arith, ap length (c .before .before .before .before .before .before .before .before .before .undo .ensures .of _ _ (c .before .before .before .before .before .before .before .before .before .before .before .before .before .pass-rows .ensures .on .of _ _ (c .before .before .before .before .before .before .before .before .before .before .before .before .before .before .before .before .before .begin .ensures .sweeps))), number-room _ (c .before .before .before .before .before .before .before .before .before .before .before .before .before .before .before .before .before .begin .ensures) (c .before .before .before .before .before .before .before .before .before .before .before .before .before .pass-rows .ensures) (c .before .before .before .before .before .if2 .left) .room)
 
 same-length-3 : tie.Need-same-length-3
 same-length-3 c = search needs
@@ -86,9 +86,9 @@ nth-front-spec =
     cast-row-cost
     row-cost-requires
     cast-t16
-    mul-t25
-    add-t26
-    mul-t27
-    slice-read-t29
+    mul-t26
+    add-t27
+    mul-t28
+    slice-read-t30
     same-length-3
     returns-3)

@@ -6,7 +6,7 @@ use mathlib.Core.Bool.{Bool, _&&_, _||_}
 use Prim.Native.Nat.{_-_, _≤_}
 use native.Mathlib.Omega.{arith}
 use borrow.Author.Needs.{needs}
-use Rattle.sheet.specs.Lists.{lexb}
+use Rattle.sheet.specs.Computed.{lexb}
 use Rattle.costs.specs.Costs.{Cost}
 use Rattle.journeys.specs.Inner.Slow.{inCount, countTo}
 use Rattle.journeys.proofs.Comparing.{count-yes, count-no}

@@ -4,7 +4,7 @@ use mathlib.Core.Path.{_∙_, ap, ap₂}
 use mathlib.Core.Bool.{Bool, _&&_, _||_}
 use lib.Dec.{ltb}
 use borrow.Author.Needs.{needs}
-use Rattle.sheet.specs.Lists.{lexb}
+use Rattle.sheet.specs.Computed.{lexb}
 use Rattle.costs.specs.Computed.{atMostb}
 use Rattle.journeys.specs.Inner.Slow.{keptOff}
 use Rattle.journeys.proofs.slow.is_kept_off.Statement.{statement}

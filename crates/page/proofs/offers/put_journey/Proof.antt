@@ -9,8 +9,8 @@ use Rattle.page.specs.Laws.Offers.{printable-row, printable-short, print
 use Rattle.page.proofs.offers.put_journey.Statement.{statement}
 use Rattle.page.proofs.offers.put_journey.Tie as tie
 
-shared-slice-read-arrival : tie.Need-shared-slice-read-arrival
-shared-slice-read-arrival c = omega (arith, printable-row (c .before .before .before .before .before .before .before .pre))
+shared-slice-read-t15 : tie.Need-shared-slice-read-t15
+shared-slice-read-t15 c = omega (arith, printable-row (c .before .before .before .before .before .before .before .pre))
 
 cost-from-requires : tie.Need-cost-from-requires
 cost-from-requires c κs = omega (arith, printable-row (c .before .before .before .before .before .before .before .pre))
@@ -25,31 +25,31 @@ put-row-requires : tie.Need-put-row-requires
 put-row-requires c κs = first-fits (c .before .before .before .before .before .before .before .before .before .before .before .before .pre)
 
 cast-e : tie.Need-cast-e
-cast-e c = omega (arith, printable-short (c .before .before .before .before .before .before .before .before .before .before .before .before .before .before .before .pre))
+cast-e c = omega (arith, printable-short (c .before .before .before .before .before .before .before .before .before .before .before .before .before .before .before .before .pre))
 
 add-e : tie.Need-add-e
-add-e c = omega (arith, printable-short (c .before .before .before .before .before .before .before .before .before .before .before .before .before .before .before .pre))
+add-e c = omega (arith, printable-short (c .before .before .before .before .before .before .before .before .before .before .before .before .before .before .before .before .pre))
 
 array-share-prefix-path : tie.Need-array-share-prefix-path
-array-share-prefix-path c = omega (arith, printable-short (c .before .before .before .before .before .before .before .before .before .before .before .before .before .before .before .before .pre), printable-path (c .before .before .before .before .before .before .before .before .before .before .before .before .before .before .before .before .pre) _ (c .before .before .before .before .before .before .before .before .cost-from .ensures) _ (c .before .before .before .before .before .before .lay-path .ensures))
+array-share-prefix-path c = omega (arith, printable-short (c .before .before .before .before .before .before .before .before .before .before .before .before .before .before .before .before .before .pre), printable-path (c .before .before .before .before .before .before .before .before .before .before .before .before .before .before .before .before .before .pre) _ (c .before .before .before .before .before .before .before .before .before .cost-from .ensures) _ (c .before .before .before .before .before .before .before .lay-path .ensures))
 
 slice-aggregate-put-row : tie.Need-slice-aggregate-put-row
-slice-aggregate-put-row c = sym (length-take-le _ _ (omega (arith, printable-short (c .before .before .before .before .before .before .before .before .before .before .before .before .before .before .before .before .before .pre), printable-path (c .before .before .before .before .before .before .before .before .before .before .before .before .before .before .before .before .before .pre) _ (c .before .before .before .before .before .before .before .before .before .cost-from .ensures) _ (c .before .before .before .before .before .before .before .lay-path .ensures))))
+slice-aggregate-put-row c = sym (length-take-le _ _ (omega (arith, printable-short (c .before .before .before .before .before .before .before .before .before .before .before .before .before .before .before .before .before .before .pre), printable-path (c .before .before .before .before .before .before .before .before .before .before .before .before .before .before .before .before .before .before .pre) _ (c .before .before .before .before .before .before .before .before .before .before .cost-from .ensures) _ (c .before .before .before .before .before .before .before .before .lay-path .ensures))))
 
 put-row-requires-2 : tie.Need-put-row-requires-2
-put-row-requires-2 c κs = second-fits (c .before .before .before .before .before .before .before .before .before .before .before .before .before .before .before .before .before .pre) _ (c .before .before .before .before .before .before .before .before .before .cost-from .ensures) _ (c .before .before .before .before .before .before .before .lay-path .ensures) (c .before .before .before .before .put-row .ensures)
+put-row-requires-2 c κs = second-fits (c .before .before .before .before .before .before .before .before .before .before .before .before .before .before .before .before .before .before .pre) _ (c .before .before .before .before .before .before .before .before .before .before .cost-from .ensures) _ (c .before .before .before .before .before .before .before .before .lay-path .ensures) (c .before .before .before .before .before .put-row .ensures)
 
 same-length : tie.Need-same-length
 same-length c = search needs
 
 returns : tie.Need-returns
-returns c = prints (c .before .before .before .before .before .before .before .before .before .before .before .before .before .before .before .before .before .before .before .before .pre) _ (c .before .before .before .before .before .before .before .before .before .before .before .before .cost-from .ensures) _ (c .before .before .before .before .before .before .before .before .before .before .lay-path .ensures) (c .before .before .before .before .before .before .before .put-row .ensures) (c .before .before .put-row2 .ensures)
+returns c = prints (c .before .before .before .before .before .before .before .before .before .before .before .before .before .before .before .before .before .before .before .before .before .pre) _ (c .before .before .before .before .before .before .before .before .before .before .before .before .before .cost-from .ensures) _ (c .before .before .before .before .before .before .before .before .before .before .before .lay-path .ensures) (c .before .before .before .before .before .before .before .before .put-row .ensures) (c .before .before .put-row2 .ensures)
 
 pub put-journey-spec : {M : Type 1} → statement M
 put-journey-spec =
     tie.close
     (tie.spec
-    shared-slice-read-arrival
+    shared-slice-read-t15
     cost-from-requires
     slice-aggregate-lay-path
     lay-path-requires

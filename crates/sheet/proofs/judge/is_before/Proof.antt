@@ -5,7 +5,7 @@ use Prim.Native.Nat.{_-_, _≤_}
 use native.Mathlib.Omega.{arith}
 use lib.ListN.{length, take, drop}
 use borrow.Author.Needs.{needs}
-use Rattle.sheet.specs.Lists.{lexb}
+use Rattle.sheet.specs.Computed.{lexb}
 use Rattle.sheet.proofs.Passing.{lexFrom, lex-below, lex-above, lex-same, lex-none}
 use Rattle.sheet.proofs.judge.is_before.Statement.{statement}
 use Rattle.sheet.proofs.judge.is_before.Tie as tie

@@ -1,4 +1,4 @@
--- `sheet::kinds::row_of` meets its contract: each row is that of its kind, by computing.
+-- `sheet::kinds::row_of` meets its contract: each kind's own row is the one that is picked for its number.
 -- Assumes nothing.
 use mathlib.Core.Path.{_≡_}
 use native.Mathlib.Omega.{arith}
@@ -6,17 +6,33 @@ use borrow.Author.Needs.{needs}
 use Rattle.sheet.proofs.kinds.row_of.Statement.{statement}
 use Rattle.sheet.proofs.kinds.row_of.Tie as tie
 
+head-row-requires : tie.Need-head-row-requires
+head-row-requires c κs = search needs
+
 returns : tie.Need-returns
-returns c = rw (c .if1 .taken) (search needs)
+returns c = rw (c .before .if1 .taken) (c .head-row .ensures)
+
+corridor-row-requires : tie.Need-corridor-row-requires
+corridor-row-requires c κs = search needs
 
 returns-2 : tie.Need-returns-2
-returns-2 c = rw (c .if2 .taken) (search needs)
+returns-2 c = rw (c .before .if2 .taken) (c .corridor-row .ensures)
+
+occupancy-row-requires : tie.Need-occupancy-row-requires
+occupancy-row-requires c κs = search needs
 
 returns-3 : tie.Need-returns-3
 returns-3 c =
-    let s = c .before .before in
-    let e : s .args .k ≡ 2 = omega arith in
-    rw e (search needs)
+    let e : c .before .before .before .args .k ≡ 2 = omega arith in
+    rw e (c .occupancy-row .ensures)
 
 pub row-of-spec : {M : Type 1} → statement M
-row-of-spec = tie.close (tie.spec returns returns-2 returns-3)
+row-of-spec =
+    tie.close
+    (tie.spec
+    head-row-requires
+    returns
+    corridor-row-requires
+    returns-2
+    occupancy-row-requires
+    returns-3)

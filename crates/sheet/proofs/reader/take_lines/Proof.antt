@@ -1,5 +1,9 @@
--- `sheet::reader::take_lines` meets its contract: a walk of its MIR, by hand. The loop holds the reader: a turn asks `next_line` where the reader's next line ends, `take_next` takes it, and `after_line` moves the reader behind it; or the turn returns. All that the proof knows of the four callees is that they meet their contracts.
--- The loop's invariant is a state: the reader's position, the lists of the two slices, and the number of the next line, up to which the sheet is read. What is left of the text is the variant. In a turn each `&mut` slice is lent again for a lifetime that is made for the call, and comes back at the list that the call left (`Again.antt`); what is Copy is had twice, and one copy is kept.
+-- `sheet::reader::take_lines` meets its contract: a walk of its MIR, by hand. The loop holds the reader: a turn asks `next_line` where the reader's next line
+-- ends, `take_next` takes it, and `after_line` moves the reader behind it; or the turn returns. All that the proof knows of the four callees is that they meet
+-- their contracts.
+-- The loop's invariant is a state: the reader's position, the lists of the two slices, and the number of the next line, up to which the sheet is read. What is
+-- left of the text is the variant. In a turn each `&mut` slice is lent again for a lifetime that is made for the call, and comes back at the list that the call
+-- left (`Again.antt`); what is Copy is had twice, and one copy is kept.
 -- Assumes nothing.
 use mathlib.Core.Path.{_≡_, refl, sym, _∙_, ap, subst}
 use mathlib.Core.Bool.{Bool, true, false, not}
