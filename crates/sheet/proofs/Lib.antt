@@ -14,3 +14,4 @@ pub mod Reading
 pub mod Writing
 pub mod Written
 pub mod PutText
+pub mod Again

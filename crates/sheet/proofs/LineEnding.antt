@@ -1,29 +1,24 @@
--- Where the line from a position on ends: the lines of what is left of a text go by what the search for the line feed finds, and the next line is
--- what its bytes stand for.
+-- Where the line from a position on ends: the lines of what is left of a text go by what the search for the line feed finds.
 -- Assumes nothing.
 use mathlib.Core.Path.{_≡_, refl, sym, _∙_, ap, subst}
-use mathlib.Core.Logic.{_≢_, ⊎-elim}
-use mathlib.Core.Bool.{Bool, true, false, true≢false}
+use mathlib.Core.Logic.{_≢_}
+use mathlib.Core.Bool.{Bool, true, false}
 use mathlib.Core.List.{List, [], _∷_}
-use mathlib.Core.Option.{Option, none}
+use mathlib.Core.Option.{none}
 use Prim.Native.Nat.{ℕ, suc, _+_, _-_, _≤_, _<_}
 use native.Mathlib.Omega.{arith}
 use lib.Dec.{leb, eqb}
 use lib.ListN.{length, take, drop, length-drop, drop-of-length-le}
 use lib.Seq.{take-all, drop-drop}
-use types.Run.{OneOf}
-use denote.Enum.Declared.{tagOf}
 use borrow.Author.Tests.{leb-true, leb-false, eqb-false, le-leb, lt-leb, eq-eqb, ne-eqb}
 use Rattle.sheet.specs.Lists.{pick}
 use Rattle.sheet.specs.Bytes.{lineFeed, split}
 use Rattle.sheet.specs.Kinds.{Kind}
-use Rattle.sheet.specs.Lines.{Line, lineOf, linesOf, textLines}
-use Rattle.sheet.specs.Inner.{spanOf, LineIs}
-use Rattle.sheet.specs.LineEnds.{feedFrom, lineEndAt, EndIs, NextIs}
-use Rattle.sheet.specs.declared.lines.Parsed.{Parsed}
+use Rattle.sheet.specs.Lines.{lineOf, linesOf, textLines}
+use Rattle.sheet.specs.Inner.{spanOf}
+use Rattle.sheet.specs.LineEnds.{feedFrom, lineEndAt, EndIs}
 use Rattle.sheet.specs.declared.line_reader.LineEnd.{LineEnd}
 use Rattle.sheet.specs.declared.line_reader.LineEnd.the-variants.{At, Missing, Over}
-use Rattle.sheet.proofs.line_reader.LineEnd as row
 use Rattle.sheet.proofs.Parts.{span-le, parts-none, parts-here, split-step}
 
 unended : (most : ℕ) (ks : List Kind) (s : List ℕ) → 1 ≤ length s → linesOf most ks (s ∷ []) ≡ none ∷ []
@@ -93,29 +88,3 @@ module _ (src : List ℕ) (at : ℕ) where
           found = rw (lt-leb (length src) at h, ne-eqb (feedFrom src at) (length src) (λ z. q (d ∙ z))) (ap At d);
           lines = λ most ks. text-line most ks (drop at src) l ∙ rw (drop-drop (suc (spanOf lineFeed (drop at src))) at src, m, n);
         }
-
--- the next line, by where it ends
-module _ (most : ℕ) (letters widths src : List ℕ) (at : ℕ) where
-  -- no line feed, where something is left
-  pub next-cut : at < length src → (r : LineEnd) → OneOf (1 ∷ 2 ∷ []) (tagOf row.the-type r) → EndIs src at r → (v : List ℕ)
-      → NextIs most letters widths src at (record { ok = false; end = length src; kind = 0; values = v })
-  next-cut h (At e) k E v = absurd (⊎-elim (λ (z : _≡_ {A = ℕ} 0 1). omega (arith, z)) (λ (z : _≡_ {A = ℕ} 0 2). omega (arith, z)) k)
-  next-cut h Missing k E v =
-      record {
-        ended = λ t. absurd (true≢false (sym t));
-        known = λ t. absurd (true≢false (sym t));
-        bad = λ ks F b. ([], E .lines most ks);
-        good = λ ks F t. absurd (true≢false (sym t));
-      }
-  next-cut h Over k E v = absurd (omega (arith, end-inside src at Over (E .found)))
-
-  pub next-line : (e : ℕ) → EndIs src at (At e) → (r : Parsed) → LineIs most letters widths (take (e - at) (drop at src)) r
-      → NextIs most letters widths src at (record { ok = r .ok; end = e; kind = r .kind; values = r .values })
-  next-line e E r L =
-      let rest : List Kind → List (Option Line) = λ ks. textLines most ks (drop (e + 1) src) in
-      record {
-        ended = λ t. E .found;
-        known = L .known;
-        bad = λ ks F b. (rest ks, E .lines most ks ∙ ap (λ (o : Option Line). o ∷ rest ks) (sym (L .of ks F) ∙ rw b));
-        good = λ ks F t. E .lines most ks ∙ ap (λ (o : Option Line). o ∷ rest ks) (sym (L .of ks F) ∙ rw t);
-      }

@@ -1,29 +1,31 @@
--- Reading line after line: what the next line of a text makes of what was reached, and the sheet in the array at its end. The lines in the array are
--- at most those that the kinds allow, so their count stays small.
+-- Reading line after line: what became of the next line of a text, by where it ends and what its bytes stand for, and the sheet in the array at its
+-- end. The lines in the array are at most those that the kinds allow, so their count stays small.
 -- Assumes nothing.
 use mathlib.Core.Path.{_≡_, refl, sym, _∙_, ap, subst}
 use mathlib.Core.Bool.{Bool, true, false, true≢false}
 use mathlib.Core.List.{List, [], _∷_, map}
-use mathlib.Core.Option.{Option, some}
-use Prim.Native.Nat.{ℕ, _+_, _≤_, _<_}
+use mathlib.Core.Option.{Option, some, none}
+use Prim.Native.Nat.{ℕ, _+_, _-_, _≤_, _<_}
 use native.Mathlib.Omega.{arith}
-use lib.ListN.{length, drop, length-append, length-map}
+use lib.ListN.{length, take, drop, length-append, length-map}
 use borrow.Author.Tests.{lt-ltb}
 use Rattle.sheet.specs.Decimal.{mostDigits}
 use Rattle.sheet.specs.Kinds.{Kind, kinds}
-use Rattle.sheet.specs.Lines.{Line, line, textLines}
+use Rattle.sheet.specs.Lines.{Line, line}
 use Rattle.sheet.specs.Sheet.{places, sheetOf, groupsOf, linesFrom, lacking, Outcome, refused, loaded, judge, readOf}
 use Rattle.sheet.specs.Calls.{readAnswer, readCall}
 use Rattle.sheet.specs.Store.{spread, StoreOf, VerdictIs, Blank}
-use Rattle.sheet.specs.Inner.{lineAt, Stored, Reached, LacksIs, Forms}
-use Rattle.sheet.specs.LineEnds.{NextIs}
+use Rattle.sheet.specs.Inner.{lineAt, Stored, Reached, Takes, LacksIs, Forms, LineIs, asParsed}
+use Rattle.sheet.specs.LineEnds.{linesBy, EndIs, left, ReadUpTo, stopped, OverIs, TurnIs}
 use Rattle.sheet.specs.Laws.Groups.{passes-groups, lines-sheet}
 use Rattle.sheet.specs.Laws.Runs.{AllRuns}
 use Rattle.sheet.specs.Laws.Valid.{passes-valid, lines-runs}
 use Rattle.sheet.specs.Laws.RoundTrip.{read-judge}
-use Rattle.sheet.specs.declared.lines.Next.{Next}
-use Rattle.sheet.proofs.LineEnding.{text-over}
-use Rattle.sheet.proofs.Reached.{reached-start, reached-bad}
+use Rattle.sheet.specs.declared.lines.Parsed.{Parsed}
+use Rattle.sheet.specs.declared.line_reader.LineEnd.{LineEnd}
+use Rattle.sheet.specs.declared.line_reader.LineEnd.the-variants.{At, Missing, Over}
+use Rattle.sheet.specs.declared.reader.Turn.{Turn}
+use Rattle.sheet.proofs.Reached.{reached-start, reached-next, reached-fault, reached-bad}
 
 -- lines of groups are at most as many as their kinds allow
 abbrev mostLines : List Kind → ℕ
@@ -79,31 +81,46 @@ pub read-long : (src : List ℕ) → 10240 < length src → readOf src ≡ refus
 unfolding readOf
 read-long src h = rw (lt-ltb 10240 (length src) h)
 
--- the lines left of a text
-abbrev pub left : List ℕ → ℕ → List (Option Line)
-left src at = textLines mostDigits kinds (drop at src)
+pub text-start : (src : List ℕ) {lines all : List ℕ} → Blank lines all → length src ≤ 10240 → ReadUpTo src 0 lines all 1
+text-start src {lines} {all} b h = subst (λ (o : Outcome). Reached o (left src 0) lines all 1) (sym (read-judge src h)) (reached-start b (left src 0))
 
-pub text-start : (src : List ℕ) {lines all : List ℕ} → Blank lines all → length src ≤ 10240 → (at : ℕ) → at ≡ 0 → Reached (readOf src) (left src at) lines all 1
-text-start src {lines} {all} b h at e =
-    subst (λ (o : Outcome). Reached o (left src at) lines all 1) (ap (λ (i : ℕ). judge [] (left src i)) e ∙ sym (read-judge src h)) (reached-start b (left src at))
+-- what became of a line, where reading is over with it
+module _ {src : List ℕ} {at : ℕ} {lines all : List ℕ} (k n : ℕ) (v : Turn) (q : v ≡ stopped k n) where
+  turn-ends : OverIs src lines all (stopped k n) → TurnIs src at lines all v
+  turn-ends o = subst (TurnIs src at lines all) (sym q) (record { ended = λ t. absurd (true≢false (sym t)); taken = λ t. absurd (true≢false (sym t)); over = λ t. o })
 
-module _ (src : List ℕ) (at : ℕ) {lines all letters widths : List ℕ} {n : ℕ} (f : Forms kinds letters widths) (R : Reached (readOf src) (left src at) lines all n)
-    (r : Next) (N : NextIs mostDigits letters widths src at r) where
-  pub text-bad : r .ok ≡ false → readOf src ≡ refused 2 n
-  text-bad e =
-      let b = N .bad kinds f e in
-      reached-bad (subst (λ (t : List (Option Line)). Reached (readOf src) t lines all n) (b .1) R)
+  turn-refuses : 1 ≤ k → readOf src ≡ refused k n → TurnIs src at lines all v
+  turn-refuses h r = turn-ends (record { refuses = λ z. r; reaches = λ z. absurd (omega (arith, h)) })
 
-  pub text-line : r .ok ≡ true → Reached (readOf src) (some (lineAt (r .kind) (r .values)) ∷ left src (r .end + 1)) lines all n
-  text-line e = subst (λ (t : List (Option Line)). Reached (readOf src) t lines all n) (N .good kinds f e) R
+module _ (src : List ℕ) (at : ℕ) {lines all : List ℕ} {n : ℕ} (R : ReadUpTo src at lines all n) where
+  -- the lines left, by where the next one ends
+  left-by : (r : LineEnd) → EndIs src at r → Reached (readOf src) (linesBy mostDigits kinds src at r) lines all n
+  left-by r E = subst (λ (t : List (Option Line)). Reached (readOf src) t lines all n) (E .lines mostDigits kinds) R
 
--- nothing is left
-pub text-end : (src : List ℕ) (at : ℕ) {lines all : List ℕ} {n : ℕ} → length src ≤ at → Reached (readOf src) (left src at) lines all n → Reached (readOf src) [] lines all n
-text-end src at {lines} {all} {n} h R = subst (λ (t : List (Option Line)). Reached (readOf src) t lines all n) (text-over mostDigits kinds src at h) R
+  pub turn-over : EndIs src at Over → (v : Turn) → v ≡ stopped 0 n → TurnIs src at lines all v
+  turn-over E v q = turn-ends 0 n v q (record { refuses = λ z. absurd (z refl); reaches = λ z. left-by Over E })
 
--- reading goes on from another name of the position
-pub text-on : (src : List ℕ) (e at : ℕ) {lines all : List ℕ} {n : ℕ} → at ≡ e → Reached (readOf src) (left src e) lines all n → Reached (readOf src) (left src at) lines all n
-text-on src e at {lines} {all} {n} q R = subst (λ (i : ℕ). Reached (readOf src) (left src i) lines all n) (sym q) R
+  pub turn-cut : EndIs src at Missing → (v : Turn) → v ≡ stopped 2 n → TurnIs src at lines all v
+  turn-cut E v q = turn-refuses 2 n v q (omega arith) (reached-bad (left-by Missing E))
+
+  module _ (e : ℕ) (E : EndIs src at (At e)) {letters widths : List ℕ} (F : Forms kinds letters widths) (l : Parsed) (L : LineIs mostDigits letters widths (take (e - at) (drop at src)) l) where
+    line-read : (o : Option Line) → asParsed kinds l ≡ o → Reached (readOf src) (o ∷ left src (e + 1)) lines all n
+    line-read o a = subst (λ (x : Option Line). Reached (readOf src) (x ∷ left src (e + 1)) lines all n) (sym (L .of kinds F) ∙ a) (left-by (At e) E)
+
+    pub turn-bad : l .ok ≡ false → (v : Turn) → v ≡ stopped 2 n → TurnIs src at lines all v
+    turn-bad b v q = turn-refuses 2 n v q (omega arith) (reached-bad (line-read none (rw b)))
+
+    module _ (b : l .ok ≡ true) {lines′ all′ : List ℕ} (r : ℕ) (t : Takes lines all (lineAt (l .kind) (l .values)) lines′ all′ r) where
+      pub turn-fault : (r ≡ 0 → ⊥) → (v : Turn) → v ≡ stopped r n → TurnIs src at lines′ all′ v
+      turn-fault z v q = turn-refuses r n v q (omega (arith, z)) (reached-fault (line-read (some (lineAt (l .kind) (l .values))) (rw b)) (t .fault-is) z)
+
+      pub turn-taken : r ≡ 0 → TurnIs src at lines′ all′ (record { more = true; end = e; refusal = 0; line = n + 1 })
+      turn-taken z =
+          record {
+            ended = λ y. E .found;
+            taken = λ y. reached-next (line-read (some (lineAt (l .kind) (l .values))) (rw b)) t z;
+            over = λ y. absurd (true≢false y);
+          }
 
 -- the reader's answer is that of the outcome
 pub answered : (src : List ℕ) (o : Outcome) → readOf src ≡ o → readAnswer o ≡ readCall src

@@ -4,17 +4,20 @@
 use mathlib.Core.Path.{_≡_}
 use mathlib.Core.Bool.{true, false}
 use mathlib.Core.List.{List, [], _∷_}
-use mathlib.Core.Option.{Option, some, none}
-use Prim.Native.Nat.{ℕ, _+_, _-_, _<_}
+use mathlib.Core.Option.{Option, none}
+use Prim.Native.Nat.{ℕ, _+_, _-_}
 use lib.Dec.{leb, eqb}
 use lib.ListN.{length, take, drop}
 use denote.Ref.{RefT}
 use Rattle.sheet.specs.Lists.{pick}
 use Rattle.sheet.specs.Bytes.{lineFeed}
-use Rattle.sheet.specs.Kinds.{Kind}
+use Rattle.sheet.specs.Decimal.{mostDigits}
+use Rattle.sheet.specs.Kinds.{Kind, kinds}
 use Rattle.sheet.specs.Lines.{Line, lineOf, textLines}
-use Rattle.sheet.specs.Inner.{spanOf, Forms, lineOfKinds}
-use Rattle.sheet.specs.declared.lines.Next.{Next}
+use Rattle.sheet.specs.Sheet.{readOf}
+use Rattle.sheet.specs.Inner.{spanOf, Reached, SoFar}
+use Rattle.sheet.specs.declared.reader.Verdict.{Verdict}
+use Rattle.sheet.specs.declared.reader.Turn.{Turn}
 use Rattle.sheet.specs.declared.line_reader.LineReader.{LineReader}
 use Rattle.sheet.specs.declared.line_reader.LineEnd.{LineEnd}
 use Rattle.sheet.specs.declared.line_reader.LineEnd.the-variants.{At, Missing, Over}
@@ -42,13 +45,31 @@ pub record EndIs (src : List ℕ) (at : ℕ) (r : LineEnd) : Type 0 where
   pub found : r ≡ lineEndAt src at
   pub lines : (most : ℕ) (ks : List Kind) → textLines most ks (drop at src) ≡ linesBy most ks src at r
 
--- r is the next line of the text from `at` on, where something is left: up to its line feed, or refused by test 2
-pub record NextIs (most : ℕ) (letters widths src : List ℕ) (at : ℕ) (r : Next) : Type 0 where
-  pub ended : r .ok ≡ true → EndsAt src at (r .end)
-  pub known : r .ok ≡ true → r .kind < length letters
-  pub bad : (ks : List Kind) → Forms ks letters widths → r .ok ≡ false → (ls : List (Option Line)) × (textLines most ks (drop at src) ≡ none ∷ ls)
-  pub good : (ks : List Kind) → Forms ks letters widths → r .ok ≡ true
-      → textLines most ks (drop at src) ≡ some (lineOfKinds ks (r .kind) (r .values)) ∷ textLines most ks (drop (r .end + 1) src)
+-- the lines left of a sheet's bytes from `at` on
+abbrev pub left : List ℕ → ℕ → List (Option Line)
+left src at = textLines mostDigits kinds (drop at src)
+
+-- the lines before `at` stand in the array, and n is the number of the next one
+abbrev pub ReadUpTo : List ℕ → ℕ → List ℕ → List ℕ → ℕ → Type 0
+ReadUpTo src at lines all n = Reached (readOf src) (left src at) lines all n
+
+-- reading is over, at line n
+abbrev pub stopped : ℕ → ℕ → Turn
+stopped k n = record { more = false; end = 0; refusal = k; line = n }
+
+-- what t tells of how lines were judged
+abbrev pub judgedBy : Turn → Verdict
+judgedBy t = record { refusal = t .refusal; line = t .line }
+
+-- t tells that reading is over: with a refusal; or with 0, and every line stands in the array
+abbrev pub OverIs : List ℕ → List ℕ → List ℕ → Turn → Type 0
+OverIs src lines all t = SoFar (readOf src) [] lines all (judgedBy t)
+
+-- t tells what became of the line from `at` on: it ends at the line feed found and stands in the array, or reading is over
+pub record TurnIs (src : List ℕ) (at : ℕ) (lines all : List ℕ) (t : Turn) : Type 0 where
+  pub ended : t .more ≡ true → EndsAt src at (t .end)
+  pub taken : t .more ≡ true → ReadUpTo src (t .end + 1) lines all (t .line)
+  pub over : t .more ≡ false → OverIs src lines all t
 
 -- the reader of a sheet's bytes, and the same bytes after the line feed at e
 abbrev pub opened : RefT (List ℕ) → LineReader

@@ -1,5 +1,5 @@
 // The line reader: a sheet's bytes and a position in them (document 01, "The line reader goes on from the byte after the last line feed").
-// The functions over the struct are thin, and the work is done on slices and numbers. Other files call `begin`, `line_from` and `go_on`.
+// The functions over the struct are thin, and the work is done on slices and numbers.
 ghost use mathlib.Core.Path.{_≡_};
 ghost use Prim.Native.Nat.{_+_, _<_, _^_};
 ghost use Rattle.sheet.specs.Inner.{kindTable};
@@ -64,29 +64,4 @@ pub fn after_line<'a>(r: LineReader<'a>, end: usize) -> LineReader<'a>
 {
     let at = after_feed(end);
     LineReader { src: r.src, at }
-}
-
-// The position at which reading begins: that of the reader of src.
-pub fn begin(src: &[u8]) -> usize
-    ensures { λ r. ⌜ r ≡ 0 ⌝ }
-{
-    let r = open(src);
-    r.at
-}
-
-// Where the line from `at` on ends: the next line of the reader at `at`. Time grows with the bytes of the line.
-pub fn line_from(kinds: &[u8; 256], src: &[u8], at: usize) -> LineEnd
-    requires { ⌜ now kinds ≡ kindTable ⌝ }
-    ensures { λ r. ⌜ EndIs (now (src .entry)) at r ⌝ }
-{
-    next_line(kinds, LineReader { src, at })
-}
-
-// The position at which reading goes on after the line from `at` to the line feed at `end`: that of the reader after it.
-pub fn go_on(src: &[u8], at: usize, end: usize) -> usize
-    requires { ⌜ EndsAt (now src) at end ⌝ }
-    ensures { λ r. ⌜ r ≡ end + 1 ⌝ }
-{
-    let r = after_line(LineReader { src, at }, end);
-    r.at
 }

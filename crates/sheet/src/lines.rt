@@ -6,13 +6,10 @@ ghost use lib.ListN.{length};
 ghost use Rattle.sheet.specs.Bytes.{comma};
 ghost use Rattle.sheet.specs.Lines.{numbersOf};
 ghost use Rattle.sheet.specs.Inner.{kindTable, partsFrom, asNumbers, SomeForms, positionOf, LineIs, DigitsAre, FieldIs};
-ghost use Rattle.sheet.specs.LineEnds.{NextIs};
 use crate::bytes::COMMA;
 use crate::bytes::DIGIT;
 use crate::bytes::kind_of;
 use crate::bytes::until;
-use crate::line_reader::LineEnd;
-use crate::line_reader::line_from;
 
 // The field of a line from some position on: ok where it is read, then with its end and its value.
 pub struct Field {
@@ -156,43 +153,4 @@ pub fn line_in(kinds: &[u8; 256], l: &[u8], letters: &[u8], widths: &[usize], mo
         return bad_line();
     }
     numbers_in(kinds, l, k, widths[k], most)
-}
-
-// The next line of a text: its end, its kind and its numbers, where test 2 passed it.
-pub struct Next {
-    pub ok: bool,
-    pub end: usize,
-    pub kind: usize,
-    pub values: [u32; 8],
-}
-
-// The line of src from `at` on, where something is left, among lines with these letters and counts of numbers of at most `most` digits.
-pub fn parsed_line(
-    kinds: &[u8; 256],
-    src: &[u8],
-    at: usize,
-    letters: &[u8],
-    widths: &[usize],
-    most: usize,
-) -> Next
-    requires { ⌜ (now kinds ≡ kindTable) × (at < length (now src)) × (SomeForms (now letters) (now widths)) × (most ≤ 8) ⌝ }
-    ensures { λ r. ⌜ NextIs most (now (letters .entry)) (now (widths .entry)) (now (src .entry)) at r ⌝ }
-{
-    let found = line_from(kinds, src, at);
-    let LineEnd::At(e) = found else {
-        return Next {
-            ok: false,
-            end: src.len(),
-            kind: 0,
-            values: [0u32; 8],
-        };
-    };
-    let l = line_in(kinds, &src[at..e], letters, widths, most);
-    let values = l.values;
-    Next {
-        ok: l.ok,
-        end: e,
-        kind: l.kind,
-        values,
-    }
 }

@@ -5,7 +5,8 @@ ghost use Rattle.sheet.specs.Kinds.{kinds};
 ghost use Rattle.sheet.specs.Sheet.{refused, readOf};
 ghost use Rattle.sheet.specs.Calls.{readAnswer, readCall};
 ghost use Rattle.sheet.specs.Store.{kindCount, Blank, SomeStore, VerdictIs};
-ghost use Rattle.sheet.specs.Inner.{Forms, AnswerIs, NoneSoFar, EndedIs};
+ghost use Rattle.sheet.specs.Inner.{kindTable, Forms, AnswerIs, NoneSoFar, EndedIs};
+ghost use Rattle.sheet.specs.LineEnds.{EndIs, ReadUpTo, stopped, TurnIs, OverIs};
 use crate::SheetRead;
 use crate::bytes::table;
 use crate::judge::lacks;
@@ -18,9 +19,11 @@ use crate::kinds::KINDS;
 use crate::kinds::OCCUPANCIES;
 use crate::kinds::STORE;
 use crate::kinds::row_of;
-use crate::line_reader::begin;
-use crate::line_reader::go_on;
-use crate::lines::parsed_line;
+use crate::line_reader::LineEnd;
+use crate::line_reader::after_line;
+use crate::line_reader::next_line;
+use crate::line_reader::open;
+use crate::lines::line_in;
 use crate::store::take_line;
 
 // How lines were judged: the refusal with its line; or 0, and what is handed on of the lines.
@@ -79,6 +82,91 @@ fn forms() -> FormsOfLines
     FormsOfLines { letters, widths }
 }
 
+// What became of the reader's next line: it was taken, it ends at the line feed at `end`, and the next has the number `line`; or reading is over, and
+// refusal and line are how the lines were judged.
+pub struct Turn {
+    pub more: bool,
+    pub end: usize,
+    pub refusal: u32,
+    pub line: u32,
+}
+
+// Reading is over: with a refusal and its line, or with 0 and the number of the line after the last.
+fn stop(refusal: u32, line: u32) -> Turn
+    ensures { λ r. ⌜ r ≡ stopped refusal line ⌝ }
+{
+    Turn {
+        more: false,
+        end: 0,
+        refusal,
+        line,
+    }
+}
+
+// The line of src from `at` on, number n, which ends at e: judged after the lines in the array, and stored after those of its kind if it has no fault.
+fn take_next(
+    bytes: &[u8; 256],
+    f: FormsOfLines,
+    src: &[u8],
+    at: usize,
+    e: LineEnd,
+    lines: &mut [u32],
+    all: &mut [u32],
+    n: u32,
+) -> Turn
+    requires { ⌜ (now bytes ≡ kindTable) × Forms kinds (f .letters) (f .widths) × EndIs (now src) at e × ReadUpTo (now src) at (now lines) (now all) n ⌝ }
+    ensures { λ r. ⌜ TurnIs (now (src .entry)) at (now (lines .exit)) (now (all .exit)) r ⌝ }
+{
+    match e {
+        LineEnd::Over => stop(0, n),
+        LineEnd::Missing => stop(2, n),
+        LineEnd::At(end) => {
+            let letters = f.letters;
+            let widths = f.widths;
+            let l = line_in(bytes, &src[at..end], &letters, &widths, DIGITS);
+            if !l.ok {
+                return stop(2, n);
+            }
+            let values = l.values;
+            let fault = take_line(lines, all, l.kind, values);
+            if fault != 0 {
+                return stop(fault, n);
+            }
+            Turn {
+                more: true,
+                end,
+                refusal: 0,
+                line: n + 1,
+            }
+        }
+    }
+}
+
+// Takes the lines of src, one after another, until none is left or one has a fault.
+fn take_lines<'k, 'a, 'l, 's>(
+    bytes: &'k [u8; 256],
+    f: FormsOfLines,
+    src: &'a [u8],
+    lines: &'l mut [u32],
+    all: &'s mut [u32],
+) -> Turn
+    requires { ⌜ (now bytes ≡ kindTable) × Forms kinds (f .letters) (f .widths) × ReadUpTo (now src) 0 (now lines) (now all) 1 ⌝ }
+    ensures { λ r. ⌜ OverIs (now (src .entry)) (now (lines .exit)) (now (all .exit)) r ⌝ }
+{
+    let mut r = open(src);
+    let mut n: u32 = 1;
+    loop {
+        let e = next_line(bytes, r);
+        let t = take_next(bytes, f, r.src, r.at, e, lines, all, n);
+        if t.more {
+            r = after_line(r, t.end);
+            n = t.line;
+        } else {
+            return t;
+        }
+    }
+}
+
 // Reads a sheet into the array of all groups, with the counts of lines: 0, or a refusal with the line at fault. No byte is looked at more than a fixed
 // number of times.
 pub fn read_into(src: &[u8], lines: &mut [u32], all: &mut [u32]) -> Verdict
@@ -93,30 +181,12 @@ pub fn read_into(src: &[u8], lines: &mut [u32], all: &mut [u32]) -> Verdict
     }
     let bytes = table();
     let f = forms();
-    let letters = f.letters;
-    let widths = f.widths;
-    let mut n: u32 = 1;
-    let mut at = begin(src);
-    while at < src.len() {
-        let l = parsed_line(&bytes, src, at, &letters, &widths, DIGITS);
-        if !l.ok {
-            return Verdict {
-                refusal: 2,
-                line: n,
-            };
-        }
-        let values = l.values;
-        let fault = take_line(lines, all, l.kind, values);
-        if fault != 0 {
-            return Verdict {
-                refusal: fault,
-                line: n,
-            };
-        }
-        at = go_on(src, at, l.end);
-        n += 1;
-    }
-    ended(lines, passed(n))
+    let t = take_lines(&bytes, f, src, lines, all);
+    let judged = Verdict {
+        refusal: t.refusal,
+        line: t.line,
+    };
+    ended(lines, judged)
 }
 
 // A refusal: its number, its line, and zeros.

@@ -1,5 +1,8 @@
--- `sheet::line_reader::after_line` meets its contract: a walk of its MIR, by hand. `after_feed` is called on the number, and a struct is made anew of the slice that the one passed holds and the number that comes back. All that the proof knows of `after_feed` is that it meets its contract.
--- The struct's next line ends at the number passed, so a byte stands there, and the number after it fits. The callee names no lifetime: what the struct owns and the token are kept. The struct is Copy: at the exit what it owns is had twice, one copy is the parameter's, and in the other the new number's facts take the place of at's.
+-- `sheet::line_reader::after_line` meets its contract: a walk of its MIR, by hand. `after_feed` is called on the number, and a struct is made anew of the slice
+-- that the one passed holds and the number that comes back. All that the proof knows of `after_feed` is that it meets its contract.
+-- The struct's next line ends at the number passed, so a byte stands there, and the number after it fits. The callee names no lifetime: what the struct owns
+-- and the token are kept. The struct is Copy: at the exit what it owns is had twice, one copy is the parameter's, and in the other the new number's facts take
+-- the place of at's.
 -- Assumes nothing.
 use mathlib.Core.Path.{_≡_, refl, ap}
 use Prim.Native.Nat.{ℕ, _+_, _<_, _^_}

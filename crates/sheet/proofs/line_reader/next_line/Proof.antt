@@ -1,5 +1,7 @@
--- `sheet::line_reader::next_line` meets its contract: a walk of its MIR, by hand. The struct is taken apart, and `end_at` is called on the table, the slice and the number. All that the proof knows of `end_at` is that it meets its contract.
--- The struct and the table's reference are Copy: what each owns is had twice, and one copy is kept for the exit. `end_at` takes the table and then the fields in their order, so of the other copies what they own together is what it asks. Both lifetimes' tokens go to it, and come back.
+-- `sheet::line_reader::next_line` meets its contract: a walk of its MIR, by hand. The struct is taken apart, and `end_at` is called on the table, the slice and
+-- the number. All that the proof knows of `end_at` is that it meets its contract.
+-- The struct and the table's reference are Copy: what each owns is had twice, and one copy is kept for the exit. `end_at` takes the table and then the fields
+-- in their order, so of the other copies what they own together is what it asks. Both lifetimes' tokens go to it, and come back.
 -- Assumes nothing.
 use mathlib.Core.Path.{_≡_, refl}
 use Prim.Native.Nat.{ℕ}
