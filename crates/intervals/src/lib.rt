@@ -73,7 +73,8 @@ fn fill_run(since: &mut [u16], place: usize, marked: usize)
 
 // Writes the first steps of the free runs that begin after an occupancy, into the table of marks.
 fn turn(occupancies: &[u32], since: &mut [u16])
-    requires { ⌜ (ValidGroup (now occupancies)) × (length (now since) ≡ 16384) × (Marked (now occupancies) (length (now occupancies) / width kindO) (now since)) ⌝ }
+    requires { ⌜ (ValidGroup (now occupancies)) × (length (now since) ≡ 16384)
+        × (Marked (now occupancies) (length (now occupancies) / width kindO) (now since)) ⌝ }
     ensures { λ _. ⌜ SinceTable (now (occupancies .entry)) (now (since .exit)) ⌝ }
 {
     let n = occupancies.len() / OCCUPANCY;

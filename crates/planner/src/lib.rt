@@ -52,7 +52,8 @@ pub extern "C" fn planner_journey(
     arrivals: &mut [u32],
     path: &mut [u32],
 ) -> JourneyAnswer
-    ensures { λ r. ⌜ journeyEnd r (now (arrivals .exit)) (now (path .exit)) ≡ journeyCall (now (sheet .entry)) number (now (arrivals .entry)) (now (path .entry)) ⌝ }
+    ensures { λ r. ⌜ journeyEnd r (now (arrivals .exit)) (now (path .exit))
+        ≡ journeyCall (now (sheet .entry)) number (now (arrivals .entry)) (now (path .entry)) ⌝ }
 {
     journey(sheet, number, arrivals, path)
 }

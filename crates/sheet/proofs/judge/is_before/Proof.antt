@@ -1,5 +1,6 @@
 -- `sheet::judge::is_before` meets its contract. The loop's invariant: the first i numbers of both are the same, so the order of what is left is
--- the order of the whole. The measure is what is left of n. Assumes nothing.
+-- the order of the whole. The measure is what is left of n.
+-- Assumes nothing.
 use mathlib.Core.Path.{_≡_, refl, sym, _∙_}
 use Prim.Native.Nat.{_-_, _≤_}
 use native.Mathlib.Omega.{arith}

@@ -1,5 +1,6 @@
 -- `sheet::judge::is_misplaced` meets its contract. The loop's invariant: the counts from j on decide the same as all the later ones.
--- The measure is what is left of the kinds. Assumes nothing.
+-- The measure is what is left of the kinds.
+-- Assumes nothing.
 use mathlib.Core.Path.{_≡_, sym, _∙_, ap}
 use mathlib.Core.Bool.{Bool, true, false, not}
 use Prim.Native.Nat.{suc, _-_, _≤_}

@@ -1,5 +1,6 @@
 -- `sheet::judge::is_outside` meets its contract. The loop's invariant: the first i numbers are within their limits, so what is left is outside
--- exactly where the whole is. The measure is what is left of w. Assumes nothing.
+-- exactly where the whole is. The measure is what is left of w.
+-- Assumes nothing.
 use mathlib.Core.Path.{_≡_, refl, sym, _∙_}
 use mathlib.Core.List.{map}
 use Prim.Native.Nat.{_-_, _≤_}

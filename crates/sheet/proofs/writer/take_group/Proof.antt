@@ -1,4 +1,5 @@
--- `sheet::writer::take_group` meets its contract: a refusal is handed on; else the lines are taken one by one. Invariant: the first i lines of the group were taken, and the array holds them.
+-- `sheet::writer::take_group` meets its contract: a refusal is handed on; else the lines are taken one by one. Invariant: the first i lines of
+-- the group were taken, and the array holds them.
 -- Assumes nothing.
 use mathlib.Core.Path.{_≡_, refl, sym, _∙_, ap, subst}
 use Prim.Native.Nat.{ℕ, _+_, _*_, _/_, _-_, _≤_, _<_}
