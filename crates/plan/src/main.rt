@@ -3,6 +3,7 @@
 // fails there is no sheet and no page.
 ghost use Rattle.plan.specs.Inner.{Within};
 use page::page_of;
+use sheet::kinds::MOST_BYTES;
 
 // What standard input gave: so many bytes, or a read that failed.
 enum Input {
@@ -30,7 +31,7 @@ fn read_sheet(buffer: &mut [u8]) -> Input
 }
 
 fn main() {
-    let mut sheet = [0u8; 10241];
+    let mut sheet = [0u8; MOST_BYTES + 1];
     let input = read_sheet(&mut sheet);
     let Input::Bytes(n) = input else {
         io::write_all(2, b"plan: the sheet cannot be read\n");
