@@ -1,5 +1,5 @@
-// The kinds of lines, a number for each in the order of kinds. One row for each, as specs/Kinds.antt has it; and the lengths of groups
-// of lines. A row is told by tests of the kind's number, since a constant table is made anew wherever it is named.
+// The kinds of lines, a number for each in the order of kinds. One row for each, as specs/Kinds.antt has it; and the lengths of groups of lines. A row
+// is told by tests of the kind's number, since a constant table is made anew wherever it is named.
 ghost use Prim.Native.Nat.{_<_};
 ghost use Rattle.sheet.specs.Store.{kindCount};
 ghost use Rattle.sheet.specs.Inner.{RowIs};

@@ -18,7 +18,10 @@ returns-3 c = fails (λ h. c .if3 .taken (h .2 .counts))
 same-costs-requires : tie.Need-same-costs-requires
 same-costs-requires c κs =
     let s = c .before .before .before .before .before .before .before .before .before in
-    (omega (arith, s .pre .0 (c .before .before .before .before .before .if1 .left)), omega (arith, s .pre .1 (c .before .before .before .if2 .left), c .if3 .left))
+    let p = s .pre .0 (c .before .before .before .before .before .if1 .left) in
+    let q = s .pre .1 (c .before .before .before .if2 .left) in
+    let e = c .if3 .left in
+    (omega (arith, p, q, e), omega (arith, p, q, e))
 
 returns-4 : tie.Need-returns-4
 returns-4 c = both-decided _ _ _ (c .before .before .before .before .before .before .if1 .left) (c .before .before .before .before .if2 .left) (c .before .if3 .left) (c .same-costs .ensures)
