@@ -1,8 +1,9 @@
 // The program: a sheet on standard input, its page on standard output (document 01, "The program reads a sheet on standard input ..."). It reads one
-// byte more than a sheet may have, so that a longer input is seen and refused with 1 (`page-cut` in crates/page/specs/Laws/Page.antt). Where a read
-// fails there is no sheet and no page.
+// byte more than a sheet may have, so that a longer input is seen and refused with 1 (`page-cut` in crates/page/specs/Laws/Page.antt): its buffer
+// is made from the limit that the reader tests. Where a read fails there is no sheet and no page.
 ghost use Rattle.plan.specs.Inner.{Within};
 use page::page_of;
+use sheet::kinds::MOST_BYTES;
 
 // What standard input gave: so many bytes, or a read that failed.
 enum Input {
@@ -30,7 +31,7 @@ fn read_sheet(buffer: &mut [u8]) -> Input
 }
 
 fn main() {
-    let mut sheet = [0u8; 10241];
+    let mut sheet = [0u8; MOST_BYTES + 1];
     let input = read_sheet(&mut sheet);
     let Input::Bytes(n) = input else {
         io::write_all(2, b"plan: the sheet cannot be read\n");

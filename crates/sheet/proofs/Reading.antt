@@ -12,7 +12,7 @@ use borrow.Author.Tests.{lt-ltb}
 use Rattle.sheet.specs.Decimal.{mostDigits}
 use Rattle.sheet.specs.Kinds.{Kind, kinds}
 use Rattle.sheet.specs.Lines.{Line, line}
-use Rattle.sheet.specs.Sheet.{places, sheetOf, groupsOf, linesFrom, lacking, Outcome, refused, loaded, judge, readOf}
+use Rattle.sheet.specs.Sheet.{places, sheetOf, groupsOf, linesFrom, lacking, Outcome, refused, loaded, judge, mostBytes, readOf}
 use Rattle.sheet.specs.Calls.{readAnswer, readCall}
 use Rattle.sheet.specs.Store.{spread, StoreOf, VerdictIs, Blank}
 use Rattle.sheet.specs.Inner.{lineAt, Stored, Reached, Takes, LacksIs, Forms, LineIs, asParsed}
@@ -77,11 +77,11 @@ verdict-holds {end} {lines} {all} r b l e =
     }
 
 -- the text too long
-pub read-long : (src : List ℕ) → 10240 < length src → readOf src ≡ refused 1 0
+pub read-long : (src : List ℕ) → mostBytes < length src → readOf src ≡ refused 1 0
 unfolding readOf
-read-long src h = rw (lt-ltb 10240 (length src) h)
+read-long src h = rw (lt-ltb mostBytes (length src) h)
 
-pub text-start : (src : List ℕ) {lines all : List ℕ} → Blank lines all → length src ≤ 10240 → ReadUpTo src 0 lines all 1
+pub text-start : (src : List ℕ) {lines all : List ℕ} → Blank lines all → length src ≤ mostBytes → ReadUpTo src 0 lines all 1
 text-start src {lines} {all} b h = subst (λ (o : Outcome). Reached o (left src 0) lines all 1) (sym (read-judge src h)) (reached-start b (left src 0))
 
 -- what became of a line, where reading is over with it

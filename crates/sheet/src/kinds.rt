@@ -25,6 +25,9 @@ pub const FIRST_OCCUPANCY: usize = FIRST_CORRIDOR + CORRIDORS;
 
 pub const STORE: usize = FIRST_OCCUPANCY + OCCUPANCIES;
 
+// The most bytes of a sheet: `mostBytes` of specs/Sheet.antt.
+pub const MOST_BYTES: usize = 10240;
+
 // The most digits of a number.
 pub const DIGITS: usize = 5;
 

@@ -16,6 +16,7 @@ use crate::kinds::FIRST_CORRIDOR;
 use crate::kinds::FIRST_OCCUPANCY;
 use crate::kinds::HEAD;
 use crate::kinds::KINDS;
+use crate::kinds::MOST_BYTES;
 use crate::kinds::OCCUPANCIES;
 use crate::kinds::STORE;
 use crate::kinds::row_of;
@@ -173,7 +174,7 @@ pub fn read_into(src: &[u8], lines: &mut [u32], all: &mut [u32]) -> Verdict
     requires { ⌜ Blank (now lines) (now all) ⌝ }
     ensures { λ r. ⌜ VerdictIs (readOf (now (src .entry))) (now (lines .exit)) (now (all .exit)) r ⌝ }
 {
-    if 10240 < src.len() {
+    if MOST_BYTES < src.len() {
         return Verdict {
             refusal: 1,
             line: 0,

@@ -1,11 +1,11 @@
 -- The boundary cases of document 01 for sheets, computed: what each text reads as, and what calls of the writer hand back and leave.
 use mathlib.Core.Path.{_≡_, refl}
 use mathlib.Core.List.{List, [], _∷_, _++_, map}
-use Prim.Native.Nat.{ℕ, zero, suc}
+use Prim.Native.Nat.{ℕ, zero, suc, _+_}
 use Prim.Native.String.{String}
 use lib.ListN.{replicate}
 use Rattle.sheet.specs.Decimal.{digitsOf}
-use Rattle.sheet.specs.Sheet.{Outcome, refused, loaded, readOf}
+use Rattle.sheet.specs.Sheet.{Outcome, refused, loaded, mostBytes, readOf}
 use Rattle.sheet.specs.Calls.{WriteEnd, writeGroups, writeCall}
 use Rattle.sheet.specs.Laws.Ascii.{bytes}
 
@@ -30,7 +30,7 @@ occupancies (suc n) = occupancies n ++ (79 ∷ 44 ∷ 48 ∷ 44 ∷ 48 ∷ 44 �
 abbrev pub texts : List Judged
 texts =
     -- 1: more than 10,240 bytes
-    record { input = replicate 10241 10; number = 1; line = 0 }
+    record { input = replicate (mostBytes + 1) 10; number = 1; line = 0 }
     -- empty input is 3 at line 1; a line feed alone, one too many, one missing: 2 at that line
     ∷ reads "" 3 1
     ∷ reads "\n" 2 1
