@@ -12,7 +12,7 @@ use borrow.Author.Tests.{lt-ltb}
 use Rattle.sheet.specs.Decimal.{mostDigits}
 use Rattle.sheet.specs.Kinds.{Kind, kinds}
 use Rattle.sheet.specs.Lines.{Line, line}
-use Rattle.sheet.specs.Sheet.{places, sheetOf, groupsOf, linesFrom, lacking, Outcome, refused, loaded, judge, mostBytes, readOf}
+use Rattle.sheet.specs.Sheet.{sheetOf, groupsOf, linesFrom, lacking, Outcome, refused, loaded, judge, mostBytes, readOf}
 use Rattle.sheet.specs.Calls.{readAnswer, readCall}
 use Rattle.sheet.specs.Store.{spread, StoreOf, VerdictIs, Blank}
 use Rattle.sheet.specs.Inner.{lineAt, Stored, Reached, Takes, LacksIs, Forms, LineIs, asParsed}
@@ -32,7 +32,7 @@ abbrev mostLines : List Kind → ℕ
 mostLines [] = 0
 mostLines (k ∷ ks) = k .most + mostLines ks
 
-runs-count : (p : ℕ) (ks : List Kind) (gs : List (List (List ℕ))) → AllRuns p ks gs → length (linesFrom ks gs) ≤ mostLines ks
+runs-count : (p : List ℕ) (ks : List Kind) (gs : List (List (List ℕ))) → AllRuns p ks gs → length (linesFrom ks gs) ≤ mostLines ks
 runs-count p [] gs r = omega arith
 runs-count p (k ∷ ks) [] r = omega arith
 runs-count p (k ∷ ks) (g ∷ gs) r =
@@ -44,7 +44,7 @@ stored-few (l ∷ ls) lines all s =
     let h = sheetOf (l ∷ ls) in
     omega (
       arith,
-      runs-count (places h) kinds (groupsOf h) (lines-runs (l ∷ ls) (s .shaped) (s .passes) (omega arith)),
+      runs-count (h .head) kinds (groupsOf h) (lines-runs (l ∷ ls) (s .shaped) (s .passes) (omega arith)),
       ap length (lines-sheet (l ∷ ls) (s .shaped) (s .passes) (omega arith)),
     )
 

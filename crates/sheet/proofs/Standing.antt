@@ -14,7 +14,7 @@ use borrow.Author.Tests.{eq-eqb}
 use Rattle.sheet.specs.Lists.{number, _∈_, filter, flat}
 use Rattle.sheet.specs.Kinds.{Kind, width, kindS, kinds}
 use Rattle.sheet.specs.Lines.{Line}
-use Rattle.sheet.specs.Sheet.{group, linesFrom, placesIn, latest, lacking}
+use Rattle.sheet.specs.Sheet.{group, linesFrom, headIn, latest, lacking}
 use Rattle.sheet.specs.Laws.Groups.{isKind, groupsIn, head-group, passes-sorted, lines-groups}
 use Rattle.sheet.specs.Store.{kindCount, kindAt, baseOf, storeRoom}
 use Rattle.sheet.specs.Inner.{Stored, RowIs, RowFits}
@@ -55,13 +55,13 @@ group-at before (j ∷ ks) zero h = refl
 group-at before (j ∷ ks) (suc k) h = group-at before ks k (omega arith)
 
 module _ {before : List Line} {lines all : List ℕ} (S : Stored before lines all) where
-  pub stored-held : Held (placesIn before) (groupsIn kinds before) lines all
+  pub stored-held : Held (headIn before) (groupsIn kinds before) lines all
   stored-held =
       let e : linesFrom kinds (groupsIn kinds before) ≡ before =
       lines-groups kinds before kinds-ascend (passes-sorted before (S .passes)) (λ l i. S .shaped l i .known) in
       record {
         each = refl;
-        runs = subst (λ (ls : List Line). AllRuns (placesIn ls) kinds (groupsIn kinds before)) e
+        runs = subst (λ (ls : List Line). AllRuns (headIn ls) kinds (groupsIn kinds before)) e
             (passes-runs kinds (groupsIn kinds before) kinds-ascend (subst AllShaped (sym e) (S .shaped)) (subst (Passes []) (sym e) (S .passes)));
         counts = S .counts;
         cells = S .cells;

@@ -15,11 +15,11 @@ use Rattle.sheet.specs.Lists.{pick, number, any, flat}
 use Rattle.sheet.specs.Computed.{lexb}
 use Rattle.sheet.specs.Kinds.{width, kindS}
 use Rattle.sheet.specs.Lines.{Line}
-use Rattle.sheet.specs.Sheet.{group, misplaced, tooMany, outside, placesIn, unpaired, latest, notAbove}
+use Rattle.sheet.specs.Sheet.{group, misplaced, tooMany, outside, headIn, unpaired, latest, notAbove}
 use Rattle.sheet.specs.Store.{kindCount, kindAt}
 use Rattle.sheet.specs.Inner.{limitAt, pairAt, lineAt, misplacedBy, notAboveBy, RowIs, Stored}
 use Rattle.sheet.specs.Laws.Passed.{or-false, any-false, false-any}
-use Rattle.sheet.specs.Laws.Kinds.{order-at, kind-at, order-below, width-some, key-inside}
+use Rattle.sheet.specs.Laws.Kinds.{order-at, kind-at, order-below, key-inside}
 use Rattle.sheet.specs.Laws.Groups.{group-none, first-head, head-group}
 use Rattle.sheet.specs.declared.kinds.Row.{Row}
 use Rattle.sheet.proofs.Passing.{counted}
@@ -118,24 +118,25 @@ module _ {before : List Line} {lines all : List ℕ} (S : Stored before lines al
           rw (last-is S h (omega (arith, eqb-false (number lines k) 0 q)), R .key-is, R .base-is, R .width-is, take-take (kindAt k .key) (width (kindAt k)) v i)
           (ap (λ (l : List ℕ). not (lexb l (take (kindAt k .key) v))) (take-take (kindAt k .key) (width (kindAt k)) _ i))
 
--- test 4
-places-is : {before : List Line} {lines all : List ℕ} → Stored before lines all → {k : ℕ} → k < kindCount → (v : List ℕ)
-    → misplaced before (lineAt k v) ≡ false → placesIn (before ++ (lineAt k v ∷ [])) ≡ pick (eqb k 0) (number v 0) (number all 0)
-places-is {before = []} S {k = k} h v e =
+-- a number of the S line, which is this line or stands first in the array
+head-is : {before : List Line} {lines all : List ℕ} → Stored before lines all → {k : ℕ} → k < kindCount → (v : List ℕ) (i : ℕ) → i < width kindS
+    → misplaced before (lineAt k v) ≡ false → number (headIn (before ++ (lineAt k v ∷ []))) i ≡ pick (eqb k 0) (number v i) (number all i)
+head-is {before = []} S {k = k} h v i b e =
     let z : k ≡ 0 = sym (order-at k h) ∙ eqb-true (kindAt k .order) 0 (not-false (eqb (kindAt k .order) 0) e) in
-    rw (eq-eqb k 0 z) (getD-take (width (kindAt k)) v 0 0 (width-some k h))
-places-is {before = m ∷ before} S {k = k} h v e =
+    rw (eq-eqb k 0 z) (getD-take (width (kindAt k)) v i 0 (omega (arith, b, ap (λ (j : ℕ). width (kindAt j)) z)))
+head-is {before = m ∷ before} S {k = k} h v i b e =
     let f : m .kind ≡ kindS = first-head m before (S .shaped) (S .passes) in
     let q = part-is S {k = 0} (omega arith) in
     let g = head-group m before (S .shaped) (S .passes) in
-    let w : 0 < length (m .numbers) = omega (arith, S .shaped m (inl refl) .count, ap width f) in
+    let w : i < length (m .numbers) = omega (arith, S .shaped m (inl refl) .count, ap width f) in
     rw (ne-eqb k 0 (λ z. eqb-false (kindAt k .order) 0 (or-false (eqb (kindAt k .order) 0) _ e .0) (order-at k h ∙ z)))
     (sym
-    (ap (λ (l : List ℕ). number l 0) (q .1 ∙ ap (λ (x : List (List ℕ)). flat x ++ q .0) g ∙ append-assoc (m .numbers) [] (q .0))
-    ∙ List·getD-append (m .numbers) (q .0) 0 0 w))
+    (ap (λ (l : List ℕ). number l i) (q .1 ∙ ap (λ (x : List (List ℕ)). flat x ++ q .0) g ∙ append-assoc (m .numbers) [] (q .0))
+    ∙ List·getD-append (m .numbers) (q .0) 0 i w))
 
+-- test 4
 pub outside-is : {before : List Line} {lines all : List ℕ} → Stored before lines all → {k : ℕ} → k < kindCount → {r : Row} → RowIs k r → (v : List ℕ) {p : ℕ}
     → p ≡ pick (eqb k 0) (number v 0) (number all 0) → misplaced before (lineAt k v) ≡ false
-    → outside (placesIn (before ++ (lineAt k v ∷ []))) (kindAt k .limits) (take (width (kindAt k)) v)
+    → outside (number (headIn (before ++ (lineAt k v ∷ []))) 0) (kindAt k .limits) (take (width (kindAt k)) v)
     ≡ outside p (map limitAt (take (r .width) (r .limits))) (take (r .width) v)
-outside-is S h R v e m = rw (R .limits-are, R .width-is, e, places-is S h v m)
+outside-is S h R v e m = rw (R .limits-are, R .width-is, e, head-is S h v 0 (omega arith) m)

@@ -90,10 +90,10 @@ outside p [] ns = false
 outside p (x ∷ xs) [] = false
 outside p (x ∷ xs) (n ∷ ns) = beyond p x n || outside p xs ns
 
--- the places of the sheet that begins with these lines
-abbrev pub placesIn : List Line → ℕ
-placesIn [] = 0
-placesIn (l ∷ ls) = number (l .numbers) 0
+-- the numbers of the S line of the sheet that begins with these lines: the first of them is its places
+abbrev pub headIn : List Line → List ℕ
+headIn [] = []
+headIn (l ∷ ls) = l .numbers
 
 -- test 6: a corridor from a place to itself, or last below first
 abbrev pub unpaired : Pair → List ℕ → Bool
@@ -117,7 +117,7 @@ unfoldable pub tests : List Line → Line → List (ℕ × Bool)
 tests before l =
     (3, misplaced before l)
     ∷ (7, tooMany before l)
-    ∷ (4, outside (placesIn (before ++ (l ∷ []))) (l .kind .limits) (l .numbers))
+    ∷ (4, outside (number (headIn (before ++ (l ∷ []))) 0) (l .kind .limits) (l .numbers))
     ∷ (6, unpaired (l .kind .pair) (l .numbers))
     ∷ (5, notAbove (l .kind .key) (latest (group (l .kind) before)) (l .numbers))
     ∷ []

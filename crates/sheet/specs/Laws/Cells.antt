@@ -88,30 +88,30 @@ cells-store (j ∷ ks) (f ∷ gs) r (suc k) at v g h w e =
     ∙ ap (λ (l : List ℕ). filled (room j) (flat f) ++ l) (cells-store ks gs (r .1) k at v g (omega arith) w e))
 
 -- runs have room; the run at a position
-run-room : {p : ℕ} {k : Kind} {g : List (List ℕ)} → Run p k g → length (flat g) ≤ room k
+run-room : {p : List ℕ} {k : Kind} {g : List (List ℕ)} → Run p k g → length (flat g) ≤ room k
 run-room {k = k} {g = g} r = omega (arith, flat-length (width k) g (r .count), mul-le-mul-right (width k) (r .few))
 
-runs-roomy : (p : ℕ) (ks : List Kind) (gs : List (List (List ℕ))) → length gs ≡ length ks → AllRuns p ks gs → Roomy ks gs
+runs-roomy : (p : List ℕ) (ks : List Kind) (gs : List (List (List ℕ))) → length gs ≡ length ks → AllRuns p ks gs → Roomy ks gs
 runs-roomy p [] [] e r = tt
 runs-roomy p [] (g ∷ gs) e r = absurd (omega arith)
 runs-roomy p (k ∷ ks) [] e r = absurd (omega arith)
 runs-roomy p (k ∷ ks) (g ∷ gs) e r = (run-room (r .0), runs-roomy p ks gs (omega arith) (r .1))
 
-run-at : (p : ℕ) (ks : List Kind) (gs : List (List (List ℕ))) → length gs ≡ length ks → AllRuns p ks gs → (k : ℕ) → k < length ks
+run-at : (p : List ℕ) (ks : List Kind) (gs : List (List (List ℕ))) → length gs ≡ length ks → AllRuns p ks gs → (k : ℕ) → k < length ks
     → Run p (getD ks k kindS) (getD gs k [])
 run-at p [] gs e r k h = absurd (omega arith)
 run-at p (j ∷ ks) [] e r k h = absurd (omega arith)
 run-at p (j ∷ ks) (g ∷ gs) e r zero h = r .0
 run-at p (j ∷ ks) (g ∷ gs) e r (suc k) h = run-at p ks gs (omega arith) (r .1) k (omega arith)
 
--- groups on a sheet of p places that stand in the array, with these counts of lines
-pub record Held (p : ℕ) (gs : List (List (List ℕ))) (lines all : List ℕ) : Type 0 where
+-- groups on a sheet whose S line has the numbers p that stand in the array, with these counts of lines
+pub record Held (p : List ℕ) (gs : List (List (List ℕ))) (lines all : List ℕ) : Type 0 where
   pub each : length gs ≡ kindCount
   pub runs : AllRuns p kinds gs
   pub counts : lines ≡ map length gs
   pub cells : all ≡ spread kinds gs
 
-module _ {p : ℕ} {gs : List (List (List ℕ))} {lines all : List ℕ} (H : Held p gs lines all) where
+module _ {p : List ℕ} {gs : List (List (List ℕ))} {lines all : List ℕ} (H : Held p gs lines all) where
   pub held-roomy : Roomy kinds gs
   held-roomy = runs-roomy p kinds gs (H .each) (H .runs)
 

@@ -8,9 +8,9 @@ use mathlib.Core.Option.{some}
 use Prim.Native.Nat.{ℕ, _≤_}
 use native.Mathlib.Omega.{arith}
 use lib.Seq.{append-snoc}
-use Rattle.sheet.specs.Lists.{pick, _∈_, any}
+use Rattle.sheet.specs.Lists.{pick, number, _∈_, any}
 use Rattle.sheet.specs.Lines.{Line}
-use Rattle.sheet.specs.Sheet.{group, misplaced, tooMany, outside, placesIn, unpaired, latest, notAbove, tests, firstFailed, fault}
+use Rattle.sheet.specs.Sheet.{group, misplaced, tooMany, outside, headIn, unpaired, latest, notAbove, tests, firstFailed, fault}
 use Rattle.sheet.specs.Laws.Judge.{Passes}
 
 -- tests that do not fail
@@ -56,7 +56,7 @@ none-failed (t ∷ ts) h = rw (h .0) (none-failed ts (h .1))
 pub record Passed (before : List Line) (l : Line) : Type 0 where
   pub placed : misplaced before l ≡ false
   pub few : tooMany before l ≡ false
-  pub inside : outside (placesIn (before ++ (l ∷ []))) (l .kind .limits) (l .numbers) ≡ false
+  pub inside : outside (number (headIn (before ++ (l ∷ []))) 0) (l .kind .limits) (l .numbers) ≡ false
   pub paired : unpaired (l .kind .pair) (l .numbers) ≡ false
   pub above : notAbove (l .kind .key) (latest (group (l .kind) before)) (l .numbers) ≡ false
 
@@ -82,19 +82,19 @@ append-passes before [] ms p q = rw append-nil at q
 append-passes before (l ∷ ls) ms p q =
     (p .0, append-passes (before ++ (l ∷ [])) ls ms (p .1) (subst (λ (b : List Line). Passes b ms) (sym (append-snoc before l ls)) q))
 
--- the places are those of the first line
-pub places-first : (before : List Line) (l : Line) (ls : List Line) → placesIn (before ++ (l ∷ [])) ≡ placesIn (before ++ (l ∷ ls))
-places-first [] l ls = refl
-places-first (m ∷ before) l ls = refl
+-- the S line is the first line
+pub head-first : (before : List Line) (l : Line) (ls : List Line) → headIn (before ++ (l ∷ [])) ≡ headIn (before ++ (l ∷ ls))
+head-first [] l ls = refl
+head-first (m ∷ before) l ls = refl
 
 -- each line at its position: its numbers inside their limits, and paired
-pub passes-inside : (before ls : List Line) → Passes before ls → (l : Line) → l ∈ ls → outside (placesIn (before ++ ls)) (l .kind .limits) (l .numbers) ≡ false
+pub passes-inside : (before ls : List Line) → Passes before ls → (l : Line) → l ∈ ls → outside (number (headIn (before ++ ls)) 0) (l .kind .limits) (l .numbers) ≡ false
 passes-inside before [] p l m = absurd m
 passes-inside before (x ∷ ls) p l (inl e) =
-    subst (λ (k : Line). outside (placesIn (before ++ (x ∷ ls))) (k .kind .limits) (k .numbers) ≡ false) (sym e)
-    (subst (λ (n : ℕ). outside n (x .kind .limits) (x .numbers) ≡ false) (places-first before x ls) (fault-passed before x (p .0) .inside))
+    subst (λ (k : Line). outside (number (headIn (before ++ (x ∷ ls))) 0) (k .kind .limits) (k .numbers) ≡ false) (sym e)
+    (subst (λ (h : List ℕ). outside (number h 0) (x .kind .limits) (x .numbers) ≡ false) (head-first before x ls) (fault-passed before x (p .0) .inside))
 passes-inside before (x ∷ ls) p l (inr m) =
-    subst (λ (k : List Line). outside (placesIn k) (l .kind .limits) (l .numbers) ≡ false) (append-snoc before x ls)
+    subst (λ (k : List Line). outside (number (headIn k) 0) (l .kind .limits) (l .numbers) ≡ false) (append-snoc before x ls)
     (passes-inside (before ++ (x ∷ [])) ls (p .1) l m)
 
 pub passes-paired : (before ls : List Line) → Passes before ls → (l : Line) → l ∈ ls → unpaired (l .kind .pair) (l .numbers) ≡ false

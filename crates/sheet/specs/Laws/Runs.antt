@@ -16,7 +16,7 @@ use Rattle.sheet.specs.Computed.{lexb}
 use Rattle.sheet.specs.Sorting.{Before, Ascending}
 use Rattle.sheet.specs.Kinds.{Kind, kinds}
 use Rattle.sheet.specs.Lines.{Line, line}
-use Rattle.sheet.specs.Sheet.{group, linesFrom, placesIn, unpaired, latest, notAbove}
+use Rattle.sheet.specs.Sheet.{group, linesFrom, headIn, unpaired, latest, notAbove}
 use Rattle.sheet.specs.Laws.Order.{lexb-true, Lex-lexb}
 use Rattle.sheet.specs.Laws.Members.{mem-left, mem-right, mem-append, mem-map, map-mem}
 use Rattle.sheet.specs.Laws.Kinds.{orderKey}
@@ -26,10 +26,10 @@ use Rattle.sheet.specs.Laws.Passed.{false-or, false-any, Passed, fault-p
 use Rattle.sheet.specs.Laws.Groups.{group-append, group-own, group-none, of-kind, group-other, later-kinds}
 use Rattle.sheet.specs.Laws.Limits.{Within, inside-within, within-inside}
 
--- the numbers of the lines of kind k, on a sheet of p places
-pub record Run (p : ℕ) (k : Kind) (ns : List (List ℕ)) : Type 0 where
+-- the numbers of the lines of kind k, on a sheet whose S line has the numbers p
+pub record Run (p : List ℕ) (k : Kind) (ns : List (List ℕ)) : Type 0 where
   pub count : (n : List ℕ) → n ∈ ns → length n ≡ length (k .limits)
-  pub within : (n : List ℕ) → n ∈ ns → Within p (k .limits) n
+  pub within : (n : List ℕ) → n ∈ ns → Within (number p 0) (k .limits) n
   pub paired : (n : List ℕ) → n ∈ ns → unpaired (k .pair) n ≡ false
   pub few : length ns ≤ k .most
   pub ascend : Ascending (take (k .key)) ns
@@ -64,27 +64,27 @@ lines-ascend before k (m ∷ n ∷ ns) p =
 
 -- the lines of one kind, ahead of other lines
 pub passes-run : (before : List Line) (k : Kind) (ns : List (List ℕ)) (rest : List Line) → group k before ≡ [] → AllShaped (map (line k) ns)
-    → Passes before (map (line k) ns ++ rest) → Run (placesIn (before ++ (map (line k) ns ++ rest))) k ns
+    → Passes before (map (line k) ns ++ rest) → Run (headIn (before ++ (map (line k) ns ++ rest))) k ns
 passes-run before k ns rest e s q =
     let own = passes-append before (map (line k) ns) rest q .0 in
     let all = map (line k) ns ++ rest in
     let there : (n : List ℕ) → n ∈ ns → line k n ∈ all = λ n m. mem-left (line k n) (map (line k) ns) rest (mem-map (line k) n ns m) in
     record {
       count = λ n m. s (line k n) (mem-map (line k) n ns m) .count;
-      within = λ n m. inside-within (placesIn (before ++ all)) (k .limits) n (passes-inside before all q (line k n) (there n m));
+      within = λ n m. inside-within (number (headIn (before ++ all)) 0) (k .limits) n (passes-inside before all q (line k n) (there n m));
       paired = λ n m. passes-paired before all q (line k n) (there n m);
       few = let z = ap length e in let r = few-lines before k ns own (omega arith) in omega arith;
       ascend = lines-ascend before k ns own;
     }
 
 -- the lines of a run are in shape, if the kind is one of the sheet's
-pub run-shaped : (p : ℕ) (k : Kind) (ns : List (List ℕ)) → k ∈ kinds → Run p k ns → AllShaped (map (line k) ns)
+pub run-shaped : (p : List ℕ) (k : Kind) (ns : List (List ℕ)) → k ∈ kinds → Run p k ns → AllShaped (map (line k) ns)
 run-shaped p k ns m r l i =
     let f = map-mem (line k) l ns i in
     subst Shaped (sym (f .2)) (record { known = m; count = r .count (f .0) (f .1) })
 
 -- a run without its first line
-pub run-tail : (p : ℕ) (k : Kind) (n : List ℕ) (ns : List (List ℕ)) → Run p k (n ∷ ns) → Run p k ns
+pub run-tail : (p : List ℕ) (k : Kind) (n : List ℕ) (ns : List (List ℕ)) → Run p k (n ∷ ns) → Run p k ns
 run-tail p k n ns r =
     record {
       count = λ m i. r .count m (inr i);
@@ -120,12 +120,12 @@ ready-next before k n ns r a = record { orders = λ m i. order m (mem-append m b
     begins [] h = tt
     begins (m ∷ ns) h = rw (latest-group before k n, Lex-lexb (take (k .key) n) (take (k .key) m) h)
 
-run-passes-after : (b : Line) (before : List Line) (k : Kind) (ns : List (List ℕ)) → 1 ≤ k .order → Ready (b ∷ before) k ns → Run (number (b .numbers) 0) k ns
+run-passes-after : (b : Line) (before : List Line) (k : Kind) (ns : List (List ℕ)) → 1 ≤ k .order → Ready (b ∷ before) k ns → Run (b .numbers) k ns
     → Passes (b ∷ before) (map (line k) ns)
 run-passes-after b before k [] o a r = tt
 run-passes-after b before k (n ∷ ns) o a r = (
   passed-fault (b ∷ before) (line k n) passed,
-  run-passes-after b (before ++ (line k n ∷ [])) k ns o (ready-next (b ∷ before) k n ns a (r .ascend)) (run-tail (number (b .numbers) 0) k n ns r),
+  run-passes-after b (before ++ (line k n ∷ [])) k ns o (ready-next (b ∷ before) k n ns a (r .ascend)) (run-tail (b .numbers) k n ns r),
 )
   where
     passed : Passed (b ∷ before) (line k n)
@@ -142,7 +142,7 @@ run-passes-after b before k (n ∷ ns) o a r = (
 
 -- after lines of earlier kinds, at least one, every run passes
 pub run-passes : (b : Line) (before : List Line) (k : Kind) (ns : List (List ℕ)) → ((m : Line) → m ∈ (b ∷ before) → m .kind .order < k .order)
-    → Run (number (b .numbers) 0) k ns → Passes (b ∷ before) (map (line k) ns)
+    → Run (b .numbers) k ns → Passes (b ∷ before) (map (line k) ns)
 run-passes b before k ns f r =
     run-passes-after b before k ns (omega (arith, f b (inl refl)))
     (record {
@@ -160,21 +160,21 @@ run-passes b before k ns f r =
     begins (n ∷ ns) = rw (group-none k (b ∷ before) other)
 
 -- runs of one kind each, in the order of kinds
-abbrev pub AllRuns : ℕ → List Kind → List (List (List ℕ)) → Type 0
+abbrev pub AllRuns : List ℕ → List Kind → List (List (List ℕ)) → Type 0
 AllRuns p [] gs = Unit {0}
 AllRuns p (k ∷ ks) [] = Unit {0}
 AllRuns p (k ∷ ks) (g ∷ gs) = Run p k g × AllRuns p ks gs
 
 -- lines that pass are such runs
-passes-runs-after : (p : ℕ) (before : List Line) (ks : List Kind) (gs : List (List (List ℕ))) → Ascending orderKey ks → ((k : Kind) → k ∈ ks → group k before ≡ [])
-    → AllShaped (linesFrom ks gs) → Passes before (linesFrom ks gs) → placesIn (before ++ linesFrom ks gs) ≡ p → AllRuns p ks gs
+passes-runs-after : (p : List ℕ) (before : List Line) (ks : List Kind) (gs : List (List (List ℕ))) → Ascending orderKey ks → ((k : Kind) → k ∈ ks → group k before ≡ [])
+    → AllShaped (linesFrom ks gs) → Passes before (linesFrom ks gs) → headIn (before ++ linesFrom ks gs) ≡ p → AllRuns p ks gs
 passes-runs-after p before [] gs a f s q e = tt
 passes-runs-after p before (k ∷ ks) [] a f s q e = tt
 passes-runs-after p before (k ∷ ks) (g ∷ gs) a f s q e = (
-  subst (λ (n : ℕ). Run n k g) e (passes-run before k g (linesFrom ks gs) (f k (inl refl)) (λ l i. s l (mem-left l (map (line k) g) (linesFrom ks gs) i)) q),
+  subst (λ (h : List ℕ). Run h k g) e (passes-run before k g (linesFrom ks gs) (f k (inl refl)) (λ l i. s l (mem-left l (map (line k) g) (linesFrom ks gs) i)) q),
   passes-runs-after p (before ++ map (line k) g) ks gs (a .1) none-yet (λ l i. s l (mem-right l (map (line k) g) (linesFrom ks gs) i))
       (passes-append before (map (line k) g) (linesFrom ks gs) q .1)
-      (ap placesIn (append-assoc before (map (line k) g) (linesFrom ks gs)) ∙ e),
+      (ap headIn (append-assoc before (map (line k) g) (linesFrom ks gs)) ∙ e),
 )
   where
     none-yet : (j : Kind) → j ∈ ks → group j (before ++ map (line k) g) ≡ []
@@ -183,18 +183,18 @@ passes-runs-after p before (k ∷ ks) (g ∷ gs) a f s q e = (
         ∙ ap₂ (λ (x y : List (List ℕ)). x ++ y) (f j (inr m)) (group-other j k g (λ d. omega (arith, later-kinds k ks a j m)))
 
 pub passes-runs : (ks : List Kind) (gs : List (List (List ℕ))) → Ascending orderKey ks → AllShaped (linesFrom ks gs) → Passes [] (linesFrom ks gs)
-    → AllRuns (placesIn (linesFrom ks gs)) ks gs
-passes-runs ks gs a s q = passes-runs-after (placesIn (linesFrom ks gs)) [] ks gs a (λ k m. refl) s q refl
+    → AllRuns (headIn (linesFrom ks gs)) ks gs
+passes-runs ks gs a s q = passes-runs-after (headIn (linesFrom ks gs)) [] ks gs a (λ k m. refl) s q refl
 
 -- the lines of such runs are in shape, and pass after lines of earlier kinds
-pub runs-shaped : (p : ℕ) (ks : List Kind) (gs : List (List (List ℕ))) → ((k : Kind) → k ∈ ks → k ∈ kinds) → AllRuns p ks gs → AllShaped (linesFrom ks gs)
+pub runs-shaped : (p : List ℕ) (ks : List Kind) (gs : List (List (List ℕ))) → ((k : Kind) → k ∈ ks → k ∈ kinds) → AllRuns p ks gs → AllShaped (linesFrom ks gs)
 runs-shaped p [] gs f r l m = absurd m
 runs-shaped p (k ∷ ks) [] f r l m = absurd m
 runs-shaped p (k ∷ ks) (g ∷ gs) f r l m =
     ⊎-elim (run-shaped p k g (f k (inl refl)) (r .0) l) (runs-shaped p ks gs (λ j i. f j (inr i)) (r .1) l) (mem-append l (map (line k) g) (linesFrom ks gs) m)
 
 pub runs-pass : (b : Line) (before : List Line) (ks : List Kind) (gs : List (List (List ℕ))) → Ascending orderKey ks
-    → ((m : Line) → m ∈ (b ∷ before) → (k : Kind) → k ∈ ks → m .kind .order < k .order) → AllRuns (number (b .numbers) 0) ks gs → Passes (b ∷ before) (linesFrom ks gs)
+    → ((m : Line) → m ∈ (b ∷ before) → (k : Kind) → k ∈ ks → m .kind .order < k .order) → AllRuns (b .numbers) ks gs → Passes (b ∷ before) (linesFrom ks gs)
 runs-pass b before [] gs a f r = tt
 runs-pass b before (k ∷ ks) [] a f r = tt
 runs-pass b before (k ∷ ks) (g ∷ gs) a f r =

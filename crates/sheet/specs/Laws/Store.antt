@@ -7,7 +7,7 @@ use lib.ListN.{length, getD, take, drop}
 use lib.Seq.{take-at, getD-take, getD-drop}
 use Rattle.sheet.specs.Lists.{number, filled, flat}
 use Rattle.sheet.specs.Kinds.{width, room, kindS}
-use Rattle.sheet.specs.Sheet.{Sheet, places, groupsOf}
+use Rattle.sheet.specs.Sheet.{Sheet, groupsOf}
 use Rattle.sheet.specs.Calls.{groups, groupRows, sheetOfGroups}
 use Rattle.sheet.specs.Valid.{Valid}
 use Rattle.sheet.specs.Store.{kindCount, kindAt, baseOf, storeRoom, StoreOf, partOf, sheetIn}
@@ -21,7 +21,7 @@ pub part-number : (lines all : List ℕ) (k i : ℕ) → i < number lines k * wi
 part-number lines all k i h = getD-take (number lines k * width (kindAt k)) (drop (baseOf k) all) i 0 h ∙ getD-drop (baseOf k) all i 0
 
 module _ {s : Sheet} {lines all : List ℕ} (S : StoreOf s lines all) where
-  store-held : Held (places s) (groupsOf s) lines all
+  store-held : Held (s .head) (groupsOf s) lines all
   store-held = record { each = refl; runs = valid-runs s (S .valid); counts = S .counts; cells = S .cells }
 
   pub store-wide : (k : ℕ) → k < kindCount → Wide (width (kindAt k)) (getD (groupsOf s) k [])

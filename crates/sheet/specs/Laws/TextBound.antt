@@ -10,11 +10,11 @@ use native.Mathlib.Nat.{mul-le-mul-right}
 use lib.Dec.{ltb}
 use lib.ListN.{length, length-append}
 use borrow.Author.Tests.{ltb-true, ltb-false, leb-true}
-use Rattle.sheet.specs.Lists.{pick, bind}
+use Rattle.sheet.specs.Lists.{pick, number, bind}
 use Rattle.sheet.specs.Decimal.{digitsOf, mostDigits}
 use Rattle.sheet.specs.Kinds.{Limit, Kind, kinds}
 use Rattle.sheet.specs.Lines.{Line, line}
-use Rattle.sheet.specs.Sheet.{places, sheetOf, groupsOf, linesFrom, mostBytes}
+use Rattle.sheet.specs.Sheet.{sheetOf, groupsOf, linesFrom, mostBytes}
 use Rattle.sheet.specs.Text.{numberText, lineText}
 use Rattle.sheet.specs.Laws.Judge.{Passes}
 use Rattle.sheet.specs.Laws.Shape.{AllShaped}
@@ -69,11 +69,11 @@ line-text : (p : ℕ) → p ≤ 64 → (l : Line) → length (l .numbers) ≡ le
 unfolding lineRoom lineText
 line-text p h l e w = omega (arith, printed-length mostDigits (l .kind .letter) (l .numbers), numbers-text p h (l .kind .limits) (l .numbers) e w)
 
-run-text : (p : ℕ) → p ≤ 64 → (k : Kind) (ns : List (List ℕ)) → Run p k ns → length (bind (map (line k) ns) (lineText mostDigits)) ≤ length ns * lineRoom k
+run-text : (p : List ℕ) → number p 0 ≤ 64 → (k : Kind) (ns : List (List ℕ)) → Run p k ns → length (bind (map (line k) ns) (lineText mostDigits)) ≤ length ns * lineRoom k
 run-text p h k [] r = omega arith
 run-text p h k (n ∷ ns) r =
     let a = length-append (lineText mostDigits (line k n)) (bind (map (line k) ns) (lineText mostDigits)) in
-    let b = line-text p h (line k n) (r .count n (inl refl)) (r .within n (inl refl)) in
+    let b = line-text (number p 0) h (line k n) (r .count n (inl refl)) (r .within n (inl refl)) in
     let c = run-text p h k ns (run-tail p k n ns r) in
     omega arith
 
@@ -83,7 +83,7 @@ unfolding lineRoom
 textRoom [] = 0
 textRoom (k ∷ ks) = k .most * lineRoom k + textRoom ks
 
-runs-text : (p : ℕ) → p ≤ 64 → (ks : List Kind) (gs : List (List (List ℕ))) → AllRuns p ks gs → length (bind (linesFrom ks gs) (lineText mostDigits)) ≤ textRoom ks
+runs-text : (p : List ℕ) → number p 0 ≤ 64 → (ks : List Kind) (gs : List (List (List ℕ))) → AllRuns p ks gs → length (bind (linesFrom ks gs) (lineText mostDigits)) ≤ textRoom ks
 unfolding textRoom
 runs-text p h [] gs r = omega arith
 runs-text p h (k ∷ ks) [] r = omega arith
@@ -102,4 +102,4 @@ text-bound ls f p h =
     let s = sheetOf ls in
     let r = lines-runs ls f p h in
     let q = ap (λ (k : List Line). length (bind k (lineText mostDigits))) (lines-sheet ls f p h) in
-    omega (arith, runs-text (places s) (runs-valid s r .most-places) kinds (groupsOf s) r, q, text-room)
+    omega (arith, runs-text (s .head) (runs-valid s r .most-places) kinds (groupsOf s) r, q, text-room)

@@ -12,7 +12,7 @@ use borrow.Author.Tests.{ltb-false, eqb-false, le-ltb, ne-eqb}
 use Rattle.sheet.specs.Lists.{number, _∈_}
 use Rattle.sheet.specs.Kinds.{place, Kind, width, kindS, kindC, kindO, kinds}
 use Rattle.sheet.specs.Lines.{Line, line}
-use Rattle.sheet.specs.Sheet.{Sheet, places, from, to, first, last, sheetOf, groupsOf, sheetLines, placesIn, unpaired}
+use Rattle.sheet.specs.Sheet.{Sheet, places, from, to, first, last, sheetOf, groupsOf, sheetLines, headIn, unpaired}
 use Rattle.sheet.specs.Valid.{ValidCorridor, ValidOccupancy, Valid}
 use Rattle.sheet.specs.Laws.Kinds.{kinds-ascend}
 use Rattle.sheet.specs.Laws.Judge.{Passes}
@@ -24,7 +24,7 @@ use Rattle.sheet.specs.Laws.Runs.{AllRuns, passes-runs, runs-shaped, run
 
 -- the runs of a sheet
 abbrev pub Runs : Sheet → Type 0
-Runs s = AllRuns (places s) kinds (groupsOf s)
+Runs s = AllRuns (s .head) kinds (groupsOf s)
 
 -- each line: what its run says of it is what a valid sheet says
 corridor-valid : (s : Sheet) (k : List ℕ) → length k ≡ width kindC → Within (places s) (kindC .limits) k → unpaired (kindC .pair) k ≡ false → ValidCorridor s k
@@ -73,14 +73,14 @@ pub passes-valid : (ls : List Line) → AllShaped ls → Passes [] ls → 1 ≤ 
 passes-valid ls f p h = runs-valid (sheetOf ls) (lines-runs ls f p h)
 
 -- each number of a line that passes is within its limit, on at most 64 places
-pub places-at-most : (ls : List Line) → AllShaped ls → Passes [] ls → 1 ≤ length ls → placesIn ls ≤ 64
-places-at-most ls f p h = subst (λ (k : List Line). placesIn k ≤ 64) (lines-sheet ls f p h) (passes-valid ls f p h .most-places)
+pub places-at-most : (ls : List Line) → AllShaped ls → Passes [] ls → 1 ≤ length ls → number (headIn ls) 0 ≤ 64
+places-at-most ls f p h = subst (λ (k : List Line). number (headIn k) 0 ≤ 64) (lines-sheet ls f p h) (passes-valid ls f p h .most-places)
 
 pub numbers-below : (ls : List Line) → AllShaped ls → Passes [] ls → (l : Line) → l ∈ ls → (n : ℕ) → n ∈ l .numbers → n < 100000
 numbers-below [] f p l m n i = absurd m
 numbers-below (x ∷ ls) f p l m n i =
-    within-below 100000 (placesIn (x ∷ ls)) (places-at-most (x ∷ ls) f p (omega arith)) (l .kind .limits) (l .numbers) (f l m .count)
-    (inside-within (placesIn (x ∷ ls)) (l .kind .limits) (l .numbers) (passes-inside [] (x ∷ ls) p l m))
+    within-below 100000 (number (headIn (x ∷ ls)) 0) (places-at-most (x ∷ ls) f p (omega arith)) (l .kind .limits) (l .numbers) (f l m .count)
+    (inside-within (number (headIn (x ∷ ls)) 0) (l .kind .limits) (l .numbers) (passes-inside [] (x ∷ ls) p l m))
     (five-digits (l .kind) (f l m .known))
     n
     i
@@ -139,7 +139,7 @@ valid-runs s g = (
     sole P (inl e) p = subst P (sym e) p
 
 pub valid-shaped : (s : Sheet) → Valid s → AllShaped (sheetLines s)
-valid-shaped s g = runs-shaped (places s) kinds (groupsOf s) (λ k m. m) (valid-runs s g)
+valid-shaped s g = runs-shaped (s .head) kinds (groupsOf s) (λ k m. m) (valid-runs s g)
 
 pub valid-passes : (s : Sheet) → Valid s → Passes [] (sheetLines s)
 valid-passes s g = (
