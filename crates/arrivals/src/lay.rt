@@ -14,11 +14,13 @@ use crate::rows::put_figures;
 use costs::at_most;
 use costs::wait_at;
 use sheet::Place;
+use sheet::kinds::C_LINE;
 use sheet::kinds::CORRIDOR;
 use sheet::kinds::FIRST_CORRIDOR;
 ghost use mathlib.Core.Path.{_≡_};
 ghost use Prim.Native.Nat.{_+_, _<_, _≤_};
 ghost use lib.ListN.{length};
+ghost use Rattle.sheet.specs.Kinds.{kindC};
 ghost use Rattle.sheet.specs.Store.{partOf, sheetIn};
 ghost use Rattle.arrivals.specs.Inner.Network.{netRoom, countOf, linkOf};
 ghost use Rattle.arrivals.specs.Inner.Chains.{Chained};
@@ -39,9 +41,9 @@ pub fn lay_waits(lines: &[u32], all: &[u32], net: &mut [u32])
 // The corridors.
 pub fn lay_links(lines: &[u32], all: &[u32], net: &mut [u32])
     requires { ⌜ Layable (now lines) (now all) (now net) ⌝ }
-    ensures { λ _. ⌜ LinksLaid (partOf (now (lines .entry)) (now (all .entry)) 1) (now (net .entry)) (now (net .exit)) ⌝ }
+    ensures { λ _. ⌜ LinksLaid (partOf (now (lines .entry)) (now (all .entry)) (kindC .order)) (now (net .entry)) (now (net .exit)) ⌝ }
 {
-    for i in 0..lines[1] as usize * CORRIDOR {
+    for i in 0..lines[C_LINE] as usize * CORRIDOR {
         net[LINKS + i] = all[FIRST_CORRIDOR + i];
     }
 }
@@ -108,7 +110,7 @@ pub fn lay(lines: &[u32], all: &[u32], net: &mut [u32])
 {
     lay_waits(lines, all, net);
     lay_links(lines, all, net);
-    lay_counts(net, lines[1], all[0], Place(all[2]));
+    lay_counts(net, lines[C_LINE], all[0], Place(all[2]));
     chain(net, 0);
     chain(net, 1);
     weigh(net);

@@ -25,7 +25,7 @@ use Rattle.costs.specs.Laws.Rows.{row, row-number, filter-both, filter-n
 
 -- where line k of the corridors begins in the array
 abbrev pub lineAt : ℕ → ℕ
-lineAt k = baseOf 1 + k * width kindC
+lineAt k = baseOf (kindC .order) + k * width kindC
 
 -- line k leads from u to v
 abbrev pub endsb : List ℕ → ℕ → ℕ → ℕ → Bool
@@ -33,26 +33,26 @@ endsb all u v k = eqb (number all (lineAt k)) u && eqb (number all (lineAt k + 1
 
 module _ {lines all : List ℕ} (S : SomeStore lines all) where
   abbrev corridors : List ℕ
-  corridors = partOf lines all 1
+  corridors = partOf lines all (kindC .order)
 
-  count : length corridors / 5 ≡ number lines 1
-  count = omega (arith, store-numbers (S .store) 1 (omega arith))
+  count : length corridors / 5 ≡ number lines (kindC .order)
+  count = omega (arith, store-numbers (S .store) (kindC .order) (omega arith))
 
   pub kinds-counted : length lines ≡ kindCount
   kinds-counted = store-counts (S .store)
 
-  pub few-lines : number lines 1 ≤ 256
-  few-lines = store-few (S .store) 1 (omega arith) .0
+  pub few-lines : number lines (kindC .order) ≤ 256
+  few-lines = store-few (S .store) (kindC .order) (omega arith) .0
 
   pub whole-store : length all ≡ storeRoom
   whole-store = store-length (S .store)
 
-  line-number : (k j : ℕ) → k < number lines 1 → j < 5 → number (row 5 corridors k) j ≡ number all (lineAt k + j)
+  line-number : (k j : ℕ) → k < number lines (kindC .order) → j < 5 → number (row 5 corridors k) j ≡ number all (lineAt k + j)
   line-number k j h l =
-      let e : baseOf 1 + (k * 5 + j) ≡ lineAt k + j = omega arith in
-      row-number 5 corridors k j l ∙ part-number lines all 1 (k * 5 + j) (omega arith) ∙ ap (number all) e
+      let e : baseOf (kindC .order) + (k * 5 + j) ≡ lineAt k + j = omega arith in
+      row-number 5 corridors k j l ∙ part-number lines all (kindC .order) (k * 5 + j) (omega arith) ∙ ap (number all) e
 
-  pub line-cost : (k : ℕ) → k < number lines 1 → numbersFrom figures (lineAt k + 2) all ≡ costOf (row 5 corridors k)
+  pub line-cost : (k : ℕ) → k < number lines (kindC .order) → numbersFrom figures (lineAt k + 2) all ≡ costOf (row 5 corridors k)
   unfolding costOf
   line-cost k h =
       sym (from-same figures 2 (lineAt k + 2) (row 5 corridors k) all
@@ -62,7 +62,7 @@ module _ {lines all : List ℕ} (S : SomeStore lines all) where
     abbrev passes : List ℕ → Bool
     passes k = eqb (from k) (u .0) && eqb (to k) (v .0)
 
-    passes-row : (k : ℕ) → k < number lines 1 → passes (row 5 corridors k) ≡ endsb all (u .0) (v .0) k
+    passes-row : (k : ℕ) → k < number lines (kindC .order) → passes (row 5 corridors k) ≡ endsb all (u .0) (v .0) k
     passes-row k h =
         let e : lineAt k + 0 ≡ lineAt k = omega arith in
         ap₂ (λ (m n : ℕ). eqb m (u .0) && eqb n (v .0)) (line-number k 0 h (omega arith) ∙ ap (number all) e) (line-number k 1 h (omega arith))
@@ -71,11 +71,11 @@ module _ {lines all : List ℕ} (S : SomeStore lines all) where
     unfolding crossingAt between leaving
     whole = ap firstCost (filter-both (λ k. eqb (to k) (v .0)) (λ k. eqb (from k) (u .0)) (groupRows kindC corridors))
 
-    pub crossing-none : ((k : ℕ) → k < number lines 1 → endsb all (u .0) (v .0) k ≡ false) → none ≡ crossingAt (sheetIn lines all) u v t
+    pub crossing-none : ((k : ℕ) → k < number lines (kindC .order) → endsb all (u .0) (v .0) k ≡ false) → none ≡ crossingAt (sheetIn lines all) u v t
     crossing-none h =
         sym (whole ∙ ap firstCost (filter-none 5 (length corridors / 5) corridors passes (λ k b. passes-row k (omega (arith, count)) ∙ h k (omega (arith, count)))))
 
-    pub crossing-found : (i : ℕ) → i < number lines 1 → ((k : ℕ) → k < i → endsb all (u .0) (v .0) k ≡ false) → endsb all (u .0) (v .0) i ≡ true
+    pub crossing-found : (i : ℕ) → i < number lines (kindC .order) → ((k : ℕ) → k < i → endsb all (u .0) (v .0) k ≡ false) → endsb all (u .0) (v .0) i ≡ true
         → some (numbersFrom figures (lineAt i + 2) all) ≡ crossingAt (sheetIn lines all) u v t
     crossing-found i b h p =
         let f = filter-first 5 (length corridors / 5) corridors passes i (omega (arith, count)) (λ k c. passes-row k (omega arith) ∙ h k c) (passes-row i b ∙ p) in

@@ -10,6 +10,7 @@ ghost use Rattle.costs.specs.Priced.{Within, asCrossing};
 ghost use Rattle.costs.specs.Computed.{atMostb, waitAt, crossingAt};
 use sheet::Place;
 use sheet::Step;
+use sheet::kinds::C_LINE;
 use sheet::kinds::CORRIDOR;
 use sheet::kinds::FIRST_CORRIDOR;
 
@@ -111,7 +112,7 @@ pub fn crossing_at(lines: &[u32], all: &[u32], u: Place, v: Place, t: Step) -> C
     requires { ⌜ SomeStore (now lines) (now all) ⌝ }
     ensures { λ r. ⌜ asCrossing r ≡ crossingAt (sheetIn (now (lines .entry)) (now (all .entry))) u v t ⌝ }
 {
-    let n = lines[1] as usize;
+    let n = lines[C_LINE] as usize;
     let from = u.0;
     let to = v.0;
     let mut k = 0;

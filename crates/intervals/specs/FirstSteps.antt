@@ -26,7 +26,7 @@ pub record SinceTable (occupancies since : List ℕ) : Type 0 where
 pub record Derived (lines all since : List ℕ) : Type 0 where
   pub sheet : Sheet
   pub store : StoreOf sheet lines all
-  pub firsts : SinceTable (partOf lines all 2) since
+  pub firsts : SinceTable (partOf lines all (kindO .order)) since
 
 abbrev pub some-derived : {lines all since : List ℕ} → Derived lines all since → SomeStore lines all
 some-derived d = record { sheet = d .sheet; store = d .store }

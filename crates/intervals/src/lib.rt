@@ -11,6 +11,7 @@ ghost use Rattle.intervals.specs.FirstSteps.{Derived, SinceTable, ValidG
 use sheet::Place;
 use sheet::Step;
 use sheet::kinds::FIRST_OCCUPANCY;
+use sheet::kinds::O_LINE;
 use sheet::kinds::OCCUPANCY;
 
 // Sets every entry to 0.
@@ -104,7 +105,7 @@ pub fn derive(lines: &[u32], all: &[u32], since: &mut [u16; 16384])
     requires { ⌜ SomeStore (now lines) (now all) ⌝ }
     ensures { λ _. ⌜ Derived (now (lines .entry)) (now (all .entry)) (now (since .exit)) ⌝ }
 {
-    let e = FIRST_OCCUPANCY + lines[2] as usize * OCCUPANCY;
+    let e = FIRST_OCCUPANCY + lines[O_LINE] as usize * OCCUPANCY;
     fill_since(&all[FIRST_OCCUPANCY..e], since);
 }
 

@@ -16,6 +16,7 @@ use crate::kinds::DIFFERENT;
 use crate::kinds::KINDS;
 use crate::kinds::PLACE;
 use crate::kinds::Row;
+use crate::kinds::S_LINE;
 use crate::kinds::STEP;
 use crate::kinds::row_of;
 
@@ -24,10 +25,10 @@ fn is_misplaced(lines: &[u32], kind: usize) -> bool
     requires { ⌜ (length (now lines) ≡ kindCount) × (kind < kindCount) ⌝ }
     ensures { λ r. ⌜ r ≡ misplacedBy (now (lines .entry)) kind ⌝ }
 {
-    if kind == 0 {
-        return lines[0] != 0;
+    if kind == S_LINE {
+        return lines[S_LINE] != 0;
     }
-    if lines[0] == 0 {
+    if lines[S_LINE] == 0 {
         return true;
     }
     let mut j = kind + 1;
@@ -76,7 +77,7 @@ fn places_with(all: &[u32], kind: usize, values: [u32; 8]) -> u32
     requires { ⌜ 1 ≤ length (now all) ⌝ }
     ensures { λ r. ⌜ r ≡ pick (eqb kind 0) (getD values 0 0) (getD (now (all .entry)) 0 0) ⌝ }
 {
-    if kind == 0 {
+    if kind == S_LINE {
         return values[0];
     }
     all[0]
@@ -157,5 +158,5 @@ pub fn lacks(lines: &[u32]) -> bool
     requires { ⌜ length (now lines) ≡ kindCount ⌝ }
     ensures { λ r. ⌜ LacksIs (now (lines .entry)) r ⌝ }
 {
-    lines[0] == 0
+    lines[S_LINE] == 0
 }

@@ -1,10 +1,16 @@
-// The kinds of lines, a number for each in the order of kinds: S 0, C 1, O 2. One row for each, as specs/Kinds.antt has it; and the lengths of groups
-// of lines. A row is told by tests of the kind's number, since a constant table is made anew wherever it is named.
+// The kinds of lines, a number for each in the order of kinds. One row for each, as specs/Kinds.antt has it; and the lengths of groups of lines. A row
+// is told by tests of the kind's number, since a constant table is made anew wherever it is named.
 ghost use Prim.Native.Nat.{_<_};
 ghost use Rattle.sheet.specs.Store.{kindCount};
 ghost use Rattle.sheet.specs.Inner.{RowIs};
 
-// How many kinds there are.
+// The number of each kind, its `order` in specs/Kinds.antt, and how many kinds there are.
+pub const S_LINE: usize = 0;
+
+pub const C_LINE: usize = 1;
+
+pub const O_LINE: usize = 2;
+
 pub const KINDS: usize = 3;
 
 // The numbers of a line of each kind, and of the most lines of it.
@@ -117,10 +123,10 @@ pub fn row_of(k: usize) -> Row
     requires { ⌜ k < kindCount ⌝ }
     ensures { λ r. ⌜ RowIs k r ⌝ }
 {
-    if k == 0 {
+    if k == S_LINE {
         return head_row();
     }
-    if k == 1 {
+    if k == C_LINE {
         return corridor_row();
     }
     occupancy_row()

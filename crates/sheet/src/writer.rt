@@ -8,10 +8,13 @@ ghost use Rattle.sheet.specs.Calls.{groups, judgedGroups, writeCall, wri
 ghost use Rattle.sheet.specs.Store.{kindCount, Blank, SomeStore, VerdictIs, WrittenIs};
 ghost use Rattle.sheet.specs.Inner.{Ready, GroupTaken};
 use crate::SheetWritten;
+use crate::kinds::C_LINE;
 use crate::kinds::CORRIDOR;
 use crate::kinds::HEAD;
 use crate::kinds::KINDS;
+use crate::kinds::O_LINE;
 use crate::kinds::OCCUPANCY;
+use crate::kinds::S_LINE;
 use crate::kinds::STORE;
 use crate::kinds::row_of;
 use crate::reader::Verdict;
@@ -76,9 +79,9 @@ fn take_groups(
     ensures { λ r. ⌜ VerdictIs (judgedGroups (groups (now (head .entry)) (now (corridors .entry)) (now (occupancies .entry))))
         (now (lines .exit)) (now (all .exit)) r ⌝ }
 {
-    let s = take_group(lines, all, 0, head, passed(1));
-    let c = take_group(lines, all, 1, corridors, s);
-    let o = take_group(lines, all, 2, occupancies, c);
+    let s = take_group(lines, all, S_LINE, head, passed(1));
+    let c = take_group(lines, all, C_LINE, corridors, s);
+    let o = take_group(lines, all, O_LINE, occupancies, c);
     ended(lines, o)
 }
 

@@ -8,6 +8,7 @@ use native.Mathlib.Decide.{ℕ-discrete}
 use lib.ListN.{length, getD, set, length-set}
 use lib.Seq.{getD-set-same, getD-set-other}
 use Rattle.sheet.specs.Lists.{number}
+use Rattle.sheet.specs.Kinds.{kindC}
 use Rattle.sheet.specs.Sheet.{Sheet, places, start}
 use Rattle.sheet.specs.Store.{SomeStore, partOf, sheetIn}
 use Rattle.sheet.specs.Laws.Decided.{lt-or-le, from-same}
@@ -262,4 +263,4 @@ module _ (s : Sheet) (corridors : List ℕ) (m : ℕ) (n0 n1 n2 n3 : List ℕ) (
 
 -- the network of the sheet in the array
 abbrev pub LaidIn : List ℕ → List ℕ → List ℕ → Type 0
-LaidIn lines all net = Laid (sheetIn lines all) (partOf lines all 1) net
+LaidIn lines all net = Laid (sheetIn lines all) (partOf lines all (kindC .order)) net

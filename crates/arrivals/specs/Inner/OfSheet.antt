@@ -5,6 +5,7 @@ use Prim.Native.Nat.{ℕ, zero, suc, _+_, _*_, _≤_, _<_, _/_}
 use native.Mathlib.Omega.{arith}
 use lib.ListN.{length, getD}
 use Rattle.sheet.specs.Lists.{_∈_, number}
+use Rattle.sheet.specs.Kinds.{kindC, kindO}
 use Rattle.sheet.specs.Sheet.{Sheet, places, steps, start, from, to}
 use Rattle.sheet.specs.Store.{kindCount, baseOf, storeRoom, SomeStore, partOf, sheetIn}
 use Rattle.sheet.specs.Valid.{Valid}
@@ -28,19 +29,19 @@ module _ {lines all : List ℕ} (S : SomeStore lines all) where
   the = sheetIn lines all
 
   abbrev cs : List ℕ
-  cs = partOf lines all 1
+  cs = partOf lines all (kindC .order)
 
   valid : Valid the
   valid = store-valid (S .store)
 
-  whole : length cs ≡ number lines 1 * 5
-  whole = store-numbers (S .store) 1 (omega arith)
+  whole : length cs ≡ number lines (kindC .order) * 5
+  whole = store-numbers (S .store) (kindC .order) (omega arith)
 
-  line-in : (i : ℕ) → i < number lines 1 → row 5 cs i ∈ the .corridors
+  line-in : (i : ℕ) → i < number lines (kindC .order) → row 5 cs i ∈ the .corridors
   line-in i l = mem-rows 5 (length cs / 5) cs i (omega (arith, whole))
 
-  pub few-lines : number lines 1 ≤ 256
-  few-lines = store-few (S .store) 1 (omega arith) .0
+  pub few-lines : number lines (kindC .order) ≤ 256
+  few-lines = store-few (S .store) (kindC .order) (omega arith) .0
 
   pub kinds-counted : length lines ≡ kindCount
   kinds-counted = store-counts (S .store)
@@ -57,28 +58,28 @@ module _ {lines all : List ℕ} (S : SomeStore lines all) where
   pub few-steps : number all 1 ≤ 255
   few-steps = omega (arith, head-at 1 (omega arith), valid .most-steps)
 
-  pub counted-at : {a b : List ℕ} → Counted (number lines 1) (number all 0) (number all 2) a b → Counted (number lines 1) (places the) (start the) a b
+  pub counted-at : {a b : List ℕ} → Counted (number lines (kindC .order)) (number all 0) (number all 2) a b → Counted (number lines (kindC .order)) (places the) (start the) a b
   counted-at n = record { count = n .count; places = n .places ∙ head-at 0 (omega arith); start = n .start ∙ head-at 2 (omega arith); others = n .others }
 
-  pub corridor-at : (i : ℕ) → i < number lines 1 * 5 → number all (baseOf 1 + i) ≡ number cs i
-  corridor-at i h = sym (part-number lines all 1 i h)
+  pub corridor-at : (i : ℕ) → i < number lines (kindC .order) * 5 → number all (baseOf (kindC .order) + i) ≡ number cs i
+  corridor-at i h = sym (part-number lines all (kindC .order) i h)
 
   -- corridor i of the group, as its line
-  cross-at : (i t : ℕ) → i < number lines 1 → Crossing the (from (row 5 cs i)) (to (row 5 cs i)) t (costOf (row 5 cs i))
+  cross-at : (i t : ℕ) → i < number lines (kindC .order) → Crossing the (from (row 5 cs i)) (to (row 5 cs i)) t (costOf (row 5 cs i))
   cross-at i t l = record { line = row 5 cs i; listed = line-in i l; leaves = refl; enters = refl; price = refl }
 
   line-number : (i q : ℕ) → q < 5 → getD cs (i * 5 + q) 0 ≡ number (row 5 cs i) q
   line-number i q l = sym (row-number 5 cs i q l)
 
-  pub corridors-of : Corridors the cs (number lines 1)
+  pub corridors-of : Corridors the cs (number lines (kindC .order))
   corridors-of = record { few-places = valid .most-places; few = few-lines; whole = whole; ends = ends }
     where
-      ends : (q j : ℕ) → q < 2 → j < number lines 1 → getD cs (j * 5 + q) 0 < 64
+      ends : (q j : ℕ) → q < 2 → j < number lines (kindC .order) → getD cs (j * 5 + q) 0 < 64
       ends zero j two l = omega (arith, line-number j 0 (omega arith), valid .corridors (row 5 cs j) (line-in j l) .from-place, valid .most-places)
       ends (suc zero) j two l = omega (arith, line-number j 1 (omega arith), valid .corridors (row 5 cs j) (line-in j l) .to-place, valid .most-places)
       ends (suc (suc q)) j two l = absurd (omega arith)
 
-  module _ (firsts net : List ℕ) (table : SinceTable (partOf lines all 2) firsts) (laid : LaidIn lines all net) where
+  module _ (firsts net : List ℕ) (table : SinceTable (partOf lines all (kindO .order)) firsts) (laid : LaidIn lines all net) where
     abbrev pub searched : Case
     searched = caseOf firsts net
 
@@ -91,7 +92,7 @@ module _ {lines all : List ℕ} (S : SomeStore lines all) where
     waits-at : (v : ℕ) → v < placesOf net → waitOf the v ≡ waitIn net v
     waits-at v l = sym (laid .waits .each v (omega (arith, laid .places)))
 
-    count : countOf net ≡ number lines 1
+    count : countOf net ≡ number lines (kindC .order)
     count = omega (arith, laid .count, whole)
 
     link-line : (i : ℕ) → i < countOf net → linkAt net i ≡ record { from = from (row 5 cs i); to = to (row 5 cs i); cost = costOf (row 5 cs i) }

@@ -10,13 +10,14 @@ use lib.ListN.{length}
 use borrow.Author.Count.{below-none, below-more}
 use borrow.Author.Needs.{needs}
 use Rattle.sheet.specs.Lists.{number}
+use Rattle.sheet.specs.Kinds.{kindC}
 use Rattle.sheet.specs.Store.{storeRoom}
 use Rattle.costs.proofs.Crossings.{endsb, kinds-counted, few-lines, whole-store, crossing-none, crossing-found}
 use Rattle.costs.proofs.crossing_at.Statement.{statement}
 use Rattle.costs.proofs.crossing_at.Tie as tie
 
 abbrev Inv-loop : tie.InvT-loop
-Inv-loop lines all n from to k₀ k = (k ≤ n) × (n ≡ number lines 1) × (n ≤ 256) × (length all ≡ storeRoom) × ((j : ℕ) → j < k → endsb all from to j ≡ false)
+Inv-loop lines all n from to k₀ k = (k ≤ n) × (n ≡ number lines (kindC .order)) × (n ≤ 256) × (length all ≡ storeRoom) × ((j : ℕ) → j < k → endsb all from to j ≡ false)
 
 abbrev μ-loop : tie.MeasureT-loop
 μ-loop lines all n from to k₀ k = n - k

@@ -16,21 +16,21 @@ use Rattle.intervals.proofs.derive.Statement.{statement}
 use Rattle.intervals.proofs.derive.Tie as tie
 
 module _ (lines all : List ℕ) (q : SomeStore lines all) where
-  few : number lines 2 ≤ 256
-  few = store-few (q .store) 2 (omega arith) .0
+  few : number lines (kindO .order) ≤ 256
+  few = store-few (q .store) (kindO .order) (omega arith) .0
 
-  inside : baseOf 2 + number lines 2 * width kindO ≤ length all
-  inside = store-few (q .store) 2 (omega arith) .1
+  inside : baseOf (kindO .order) + number lines (kindO .order) * width kindO ≤ length all
+  inside = store-few (q .store) (kindO .order) (omega arith) .1
 
-  part : partOf lines all 2 ≡ take (baseOf 2 + number lines 2 * width kindO - baseOf 2) (drop (baseOf 2) all)
-  part = let e : number lines 2 * width kindO ≡ baseOf 2 + number lines 2 * width kindO - baseOf 2 = omega arith in ap (λ (n : ℕ). take n (drop (baseOf 2) all)) e
+  part : partOf lines all (kindO .order) ≡ take (baseOf (kindO .order) + number lines (kindO .order) * width kindO - baseOf (kindO .order)) (drop (baseOf (kindO .order)) all)
+  part = let e : number lines (kindO .order) * width kindO ≡ baseOf (kindO .order) + number lines (kindO .order) * width kindO - baseOf (kindO .order) = omega arith in ap (λ (n : ℕ). take n (drop (baseOf (kindO .order)) all)) e
 
-  group : ValidGroup (partOf lines all 2)
+  group : ValidGroup (partOf lines all (kindO .order))
   group =
       let s = q .sheet in
       let v = store-valid (q .store) in
-      let w = store-wide (q .store) 2 (omega arith) in
-      let e = store-part (q .store) 2 (omega arith) in
+      let w = store-wide (q .store) (kindO .order) (omega arith) in
+      let e = store-part (q .store) (kindO .order) (omega arith) in
       record {
         most = omega (arith, ap length e, flat-length (width kindO) (s .occupancies) w, q .store .valid .most-occupancies);
         whole = ap (λ (l : List ℕ). length l % width kindO) e ∙ flat-whole (width kindO) (s .occupancies) w;

@@ -6,6 +6,7 @@ use native.Mathlib.Omega.{arith}
 use lib.ListN.{getD}
 use borrow.Author.Needs.{needs}
 use Rattle.sheet.specs.Lists.{number}
+use Rattle.sheet.specs.Kinds.{kindC}
 use Rattle.sheet.specs.Store.{baseOf}
 use Rattle.sheet.specs.Laws.Decided.{fill-from}
 use Rattle.sheet.specs.Laws.Store.{store-numbers}
@@ -16,10 +17,10 @@ use Rattle.arrivals.proofs.lay.lay_links.Statement.{statement}
 use Rattle.arrivals.proofs.lay.lay_links.Tie as tie
 
 abbrev Inv-loop : tie.InvT-loop
-Inv-loop lines all net₀ i₀ i-end net i = (i ≤ number lines 1 * 5) × (number lines 1 ≤ 256) × ((q : ℕ) → q < i → getD net (832 + q) 0 ≡ number all (baseOf 1 + q)) × Besides 832 2112 net₀ net
+Inv-loop lines all net₀ i₀ i-end net i = (i ≤ number lines (kindC .order) * 5) × (number lines (kindC .order) ≤ 256) × ((q : ℕ) → q < i → getD net (832 + q) 0 ≡ number all (baseOf (kindC .order) + q)) × Besides 832 2112 net₀ net
 
 abbrev μ-loop : tie.MeasureT-loop
-μ-loop lines all net₀ i₀ i-end net i = number lines 1 * 5 - i
+μ-loop lines all net₀ i₀ i-end net i = number lines (kindC .order) * 5 - i
 
 shared-slice-read-i-end : tie.Need-shared-slice-read-i-end Inv-loop μ-loop
 shared-slice-read-i-end c = omega (arith, kinds-counted (c .before .pre .some-store))
@@ -61,7 +62,7 @@ loop-again : tie.Need-loop-again Inv-loop μ-loop
 loop-again c =
     let l = c .before .before .loop in
     let z = c .before .before .before .before .args in
-    (omega arith, l .inv .1, fill-from (λ q. number (z .all .now) (baseOf 1 + q)) 832 (l .net) (l .i) (omega (arith, l .inv .3 .size, l .inv .1, c .before .before .before .before .pre .size)) (l .inv .2), besides-then (l .inv .3) (besides-set 832 2112 (l .net) (832 + l .i) _ (omega (arith, l .inv .1)) (omega (arith, l .inv .1))))
+    (omega arith, l .inv .1, fill-from (λ q. number (z .all .now) (baseOf (kindC .order) + q)) 832 (l .net) (l .i) (omega (arith, l .inv .3 .size, l .inv .1, c .before .before .before .before .pre .size)) (l .inv .2), besides-then (l .inv .3) (besides-set 832 2112 (l .net) (832 + l .i) _ (omega (arith, l .inv .1)) (omega (arith, l .inv .1))))
 
 same-length : tie.Need-same-length Inv-loop μ-loop
 same-length c = c .before .loop .inv .3 .size
@@ -71,7 +72,7 @@ returns c =
     let w = c .before .loop in
     let k = c .before .before .before .pre .some-store in
     record {
-      numbers = λ i l. let j : i < number (c .before .before .before .args .lines .now) 1 * 5 = omega (arith, store-numbers (k .store) 1 (omega arith)) in w .inv .2 i (omega arith) ∙ corridor-at k i j;
+      numbers = λ i l. let j : i < number (c .before .before .before .args .lines .now) (kindC .order) * 5 = omega (arith, store-numbers (k .store) (kindC .order) (omega arith)) in w .inv .2 i (omega arith) ∙ corridor-at k i j;
       others = w .inv .3;
     }
 
