@@ -53,11 +53,12 @@ fn mark_all(occupancies: &[u32], since: &mut [u16])
 
 // Writes the first step of the free run of a place that begins after a marked step into the run's entries. After a step that is not marked, as the
 // last of a line that ends before it begins may be, it writes nothing.
-fn fill_run(since: &mut [u16], place: usize, marked: usize)
-    requires { ⌜ (length (now since) ≡ 16384) × (place < 64) × (marked ≤ 255) ⌝ }
-    ensures { λ _. ⌜ FilledRun place marked (now (since .entry)) (now (since .exit)) ⌝ }
+fn fill_run(since: &mut [u16], place: Place, last: Step)
+    requires { ⌜ (length (now since) ≡ 16384) × (place .0 < 64) × (last .0 ≤ 255) ⌝ }
+    ensures { λ _. ⌜ FilledRun (place .0) (last .0) (now (since .entry)) (now (since .exit)) ⌝ }
 {
-    let row = place * 256;
+    let row = place.0 as usize * 256;
+    let marked = last.0 as usize;
     let first = marked + 1;
     if since[row + marked] != 256 {
         return;
@@ -81,9 +82,9 @@ fn turn(occupancies: &[u32], since: &mut [u16])
     let n = occupancies.len() / OCCUPANCY;
     let mut k = 0;
     while k < n {
-        let place = occupancies[k * OCCUPANCY] as usize;
-        let last = occupancies[k * OCCUPANCY + 2] as usize;
-        fill_run(since, place, last);
+        let place = occupancies[k * OCCUPANCY];
+        let last = occupancies[k * OCCUPANCY + 2];
+        fill_run(since, Place(place), Step(last));
         k += 1;
     }
 }

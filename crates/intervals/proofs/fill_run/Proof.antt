@@ -10,13 +10,19 @@ use Rattle.intervals.proofs.fill_run.Statement.{statement}
 use Rattle.intervals.proofs.fill_run.Tie as tie
 
 abbrev Inv-loop : tie.InvT-loop
-Inv-loop since₀ place marked row first t₀ since t = (first ≤ t) × (t ≤ 256) × Filling row first t since₀ since
+Inv-loop since₀ row marked first t₀ since t = (first ≤ t) × (t ≤ 256) × Filling row first t since₀ since
 
 abbrev μ-loop : tie.MeasureT-loop
-μ-loop since₀ place marked row first t₀ since t = 256 - t
+μ-loop since₀ row marked first t₀ since t = 256 - t
+
+cast-row : tie.Need-cast-row Inv-loop μ-loop
+cast-row c = omega arith
 
 mul-row : tie.Need-mul-row Inv-loop μ-loop
 mul-row c = search needs
+
+cast-marked : tie.Need-cast-marked Inv-loop μ-loop
+cast-marked c = omega arith
 
 add-first : tie.Need-add-first Inv-loop μ-loop
 add-first c = search needs
@@ -32,8 +38,8 @@ slice-read-if1 c = search needs
 
 returns : tie.Need-returns Inv-loop μ-loop
 returns c =
-    let a = c .before .before .args in
-    run-none (a .place) (a .marked) (a .since .now) (c .if1 .taken)
+    let a = c .before .before .before .before .args in
+    run-none (a .place .0) (a .last .0) (a .since .now) (c .if1 .taken)
 
 loop-holds : tie.Need-loop-holds Inv-loop μ-loop
 loop-holds c = (omega arith, omega arith, filling-none _ _ _ (search needs))
@@ -54,8 +60,8 @@ returns-2 : tie.Need-returns-2 Inv-loop μ-loop
 returns-2 c =
     let w = c .before .before .before .loop in
     let b = c .before .before .before .before in
-    let a = b .before .before .args in
-    run-filled (a .place) (a .marked) (w .t) (a .since .now) (w .since) (omega arith) (omega arith) (b .if1 .left) (inr (c .if2 .taken)) (w .inv .2)
+    let a = b .before .before .before .before .args in
+    run-filled (a .place .0) (a .last .0) (w .t) (a .since .now) (w .since) (omega arith) (omega arith) (b .if1 .left) (inr (c .if2 .taken)) (w .inv .2)
 
 cast-since : tie.Need-cast-since Inv-loop μ-loop
 cast-since c = search needs
@@ -78,7 +84,7 @@ loop-less c = search needs
 loop-again : tie.Need-loop-again Inv-loop μ-loop
 loop-again c =
     let w = c .before .before .before .loop in
-    let a = c .before .before .before .before .before .before .args in
+    let a = c .before .before .before .before .before .before .before .before .args in
     (omega arith, omega arith, filling-more _ _ (w .t) (a .since .now) (w .since) (omega arith) (omega arith) (c .if2 .left) (w .inv .2))
 
 same-length-2 : tie.Need-same-length-2 Inv-loop μ-loop
@@ -88,8 +94,8 @@ returns-3 : tie.Need-returns-3 Inv-loop μ-loop
 returns-3 c =
     let w = c .before .loop in
     let b = c .before .before in
-    let a = b .before .before .args in
-    run-filled (a .place) (a .marked) (w .t) (a .since .now) (w .since) (omega arith) (omega arith) (b .if1 .left) (inl (c .loop-test .left)) (w .inv .2)
+    let a = b .before .before .before .before .args in
+    run-filled (a .place .0) (a .last .0) (w .t) (a .since .now) (w .since) (omega arith) (omega arith) (b .if1 .left) (inl (c .loop-test .left)) (w .inv .2)
 
 pub fill-run-spec : {M : Type 1} → statement M
 fill-run-spec =
@@ -97,7 +103,9 @@ fill-run-spec =
     (tie.spec
     Inv-loop
     μ-loop
+    cast-row
     mul-row
+    cast-marked
     add-first
     add-if1
     mul-if1

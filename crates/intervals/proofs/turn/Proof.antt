@@ -29,9 +29,6 @@ mul-place-2 c = search needs
 shared-slice-read-place : tie.Need-shared-slice-read-place Inv-loop μ-loop
 shared-slice-read-place c = search needs
 
-cast-place : tie.Need-cast-place Inv-loop μ-loop
-cast-place c = omega (arith, markable _ (c .before .before .loop .k) (c .before .before .before .before .before .pre .0) (search needs) .place)
-
 mul-last : tie.Need-mul-last Inv-loop μ-loop
 mul-last c = search needs
 
@@ -43,9 +40,6 @@ mul-last-2 c = search needs
 
 shared-slice-read-last : tie.Need-shared-slice-read-last Inv-loop μ-loop
 shared-slice-read-last c = search needs
-
-cast-last : tie.Need-cast-last Inv-loop μ-loop
-cast-last c = omega (arith, markable _ (c .before .before .before .loop .k) (c .before .before .before .before .before .before .pre .0) (search needs) .step)
 
 fill-run-requires : tie.Need-fill-run-requires Inv-loop μ-loop
 fill-run-requires c κs =
@@ -85,12 +79,10 @@ turn-spec =
     mul-place
     mul-place-2
     shared-slice-read-place
-    cast-place
     mul-last
     add-last
     mul-last-2
     shared-slice-read-last
-    cast-last
     fill-run-requires
     add-k
     loop-less
