@@ -87,20 +87,21 @@ pub head-first : (before : List Line) (l : Line) (ls : List Line) → headIn (be
 head-first [] l ls = refl
 head-first (m ∷ before) l ls = refl
 
--- each line at its position: its numbers inside their limits, and paired
+-- what a passed line's tests say of it and of the numbers of the S line, each line of a sheet has at its position
+passes-each : (P : List ℕ → Line → Type 0) → ((b : List Line) (l : Line) → Passed b l → P (headIn (b ++ (l ∷ []))) l) → (before ls : List Line) → Passes before ls
+    → (l : Line) → l ∈ ls → P (headIn (before ++ ls)) l
+passes-each P f before [] p l m = absurd m
+passes-each P f before (x ∷ ls) p l (inl e) =
+    subst (P (headIn (before ++ (x ∷ ls)))) (sym e) (subst (λ (h : List ℕ). P h x) (head-first before x ls) (f before x (fault-passed before x (p .0))))
+passes-each P f before (x ∷ ls) p l (inr m) =
+    subst (λ (k : List Line). P (headIn k) l) (append-snoc before x ls) (passes-each P f (before ++ (x ∷ [])) ls (p .1) l m)
+
+-- its numbers inside their limits, and paired
 pub passes-inside : (before ls : List Line) → Passes before ls → (l : Line) → l ∈ ls → outside (number (headIn (before ++ ls)) 0) (l .kind .limits) (l .numbers) ≡ false
-passes-inside before [] p l m = absurd m
-passes-inside before (x ∷ ls) p l (inl e) =
-    subst (λ (k : Line). outside (number (headIn (before ++ (x ∷ ls))) 0) (k .kind .limits) (k .numbers) ≡ false) (sym e)
-    (subst (λ (h : List ℕ). outside (number h 0) (x .kind .limits) (x .numbers) ≡ false) (head-first before x ls) (fault-passed before x (p .0) .inside))
-passes-inside before (x ∷ ls) p l (inr m) =
-    subst (λ (k : List Line). outside (number (headIn k) 0) (l .kind .limits) (l .numbers) ≡ false) (append-snoc before x ls)
-    (passes-inside (before ++ (x ∷ [])) ls (p .1) l m)
+passes-inside = passes-each (λ h l. outside (number h 0) (l .kind .limits) (l .numbers) ≡ false) (λ b l q. q .inside)
 
 pub passes-paired : (before ls : List Line) → Passes before ls → (l : Line) → l ∈ ls → unpaired (l .kind .pair) (l .numbers) ≡ false
-passes-paired before [] p l m = absurd m
-passes-paired before (x ∷ ls) p l (inl e) = rw e (fault-passed before x (p .0) .paired)
-passes-paired before (x ∷ ls) p l (inr m) = passes-paired (before ++ (x ∷ [])) ls (p .1) l m
+passes-paired = passes-each (λ h l. unpaired (l .kind .pair) (l .numbers) ≡ false) (λ b l q. q .paired)
 
 -- the last of a list with one more at its end
 pub latest-last : (before : List (List ℕ)) (n : List ℕ) → latest (before ++ (n ∷ [])) ≡ some n
