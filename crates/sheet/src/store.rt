@@ -1,23 +1,33 @@
 // The lines of a sheet that were read or taken so far, in one array of all groups: in the order of kinds, each at full length.
 ghost use mathlib.Core.Path.{_≡_};
 ghost use Prim.Native.Nat.{_+_, _≤_, _<_};
-ghost use lib.ListN.{length, take};
+ghost use lib.Dec.{leb};
+ghost use lib.ListN.{length, getD, set, take};
 ghost use lib.Seq.{sets};
+ghost use Rattle.sheet.specs.Lists.{pick};
 ghost use Rattle.sheet.specs.Store.{kindCount};
 ghost use Rattle.sheet.specs.Inner.{lineAt, Kept, Takes};
 use crate::judge::fault_of;
 use crate::kinds::row_of;
 
-// Writes the first w numbers of v from `at` on. The loop is over all of v, since one to w becomes a call of memcpy for a dozen bytes.
+// Writes number i of v, if it is one of the first w, into its place from `at` on.
+fn store_one(all: &mut [u32], at: usize, v: [u32; 8], w: usize, i: usize)
+    requires { ⌜ (w ≤ 8) × (at + w ≤ length (now all)) ⌝ }
+    ensures { λ _. ⌜ now (all .exit) ≡ pick (leb w i) (now (all .entry)) (set (now (all .entry)) (at + i) (getD v i 0)) ⌝ }
+{
+    if w <= i {
+        return;
+    }
+    all[at + i] = v[i];
+}
+
+// Writes the first w numbers of v from `at` on. The loop is over all of v: one that ends at w becomes a call of memcpy for a dozen bytes.
 fn store(all: &mut [u32], at: usize, v: [u32; 8], w: usize)
     requires { ⌜ (w ≤ 8) × (at + w ≤ length (now all)) ⌝ }
-    ensures { λ r. ⌜ now (all .exit) ≡ sets (now (all .entry)) at (take w v) ⌝ }
+    ensures { λ _. ⌜ now (all .exit) ≡ sets (now (all .entry)) at (take w v) ⌝ }
 {
     for i in 0..8 {
-        if w <= i {
-            return;
-        }
-        all[at + i] = v[i];
+        store_one(all, at, v, w, i);
     }
 }
 
