@@ -1,17 +1,13 @@
 -- What the search hands back and leaves in the lent table.
 use mathlib.Core.Bool.{Bool, true, false}
 use mathlib.Core.List.{List, []}
-use Prim.Native.Nat.{ℕ, _/_}
+use Prim.Native.Nat.{ℕ}
 use lib.ListN.{length}
 use Rattle.sheet.specs.Lists.{pick, filled}
 use Rattle.sheet.specs.Sheet.{Sheet}
 use Rattle.arrivals.specs.Computed.{leading}
 use Rattle.arrivals.specs.Table.{crowded, arrivalTable}
 use Rattle.arrivals.specs.declared.Searched.{Searched}
-
--- the room of a table of n numbers, in arrivals
-abbrev pub arrivalRoom : ℕ → ℕ
-arrivalRoom n = n / 5
 
 -- the search: whether it is served, the number of leading arrivals handed back, and the table afterwards
 pub record SearchEnd : Type 0 where

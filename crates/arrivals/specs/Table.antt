@@ -1,12 +1,12 @@
 -- The arrivals table and what the search leaves in it (document 01, "What is handed back").
-use mathlib.Core.Bool.{Bool, true, false}
-use mathlib.Core.List.{List, _∷_, []}
+use mathlib.Core.Bool.{Bool}
+use mathlib.Core.List.{List, _∷_}
 use Prim.Native.Nat.{ℕ, _/_}
 use lib.Dec.{ltb}
 use lib.ListN.{length}
 use Rattle.sheet.specs.Lists.{pick, filled, bind}
 use Rattle.sheet.specs.Sheet.{Sheet}
-use Rattle.arrivals.specs.Computed.{arrivals, leading}
+use Rattle.arrivals.specs.Computed.{leading}
 use Rattle.arrivals.specs.Arrivals.{Arrival}
 
 -- a row of the arrivals table: place, step and the figures

@@ -6,7 +6,7 @@ use mathlib.Core.Bool.{Bool, true, false, not, _&&_}
 use mathlib.Core.List.{List}
 use Prim.Native.Nat.{ℕ, _+_, _-_, _≤_}
 use lib.Dec.{leb, eqb}
-use Rattle.sheet.specs.Lists.{_∈_, all}
+use Rattle.sheet.specs.Lists.{all}
 use Rattle.sheet.specs.Sheet.{Sheet, steps, placeOf, first, last}
 
 -- the line o occupies place v at step t, computed

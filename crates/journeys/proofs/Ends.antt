@@ -5,7 +5,7 @@ use mathlib.Core.Path.{_≡_, refl, sym, _∙_, ap, ap₂, subst}
 use mathlib.Core.Logic.{inl, inr}
 use mathlib.Core.Bool.{true, false}
 use mathlib.Core.List.{List, [], _∷_, _++_}
-use Prim.Native.Nat.{ℕ, suc, _-_, _≤_, _<_}
+use Prim.Native.Nat.{ℕ, suc, _-_, _≤_, _<_, _/_}
 use native.Mathlib.Omega.{arith}
 use lib.ListN.{length, getD, take, replicate}
 use borrow.Author.Tests.{lt-ltb, le-ltb, lt-leb, le-leb}
@@ -21,7 +21,7 @@ use Rattle.arrivals.specs.Table.{crowded}
 use Rattle.journeys.specs.Computed.{journeyOf, arrivalOf, front, frontOf}
 use Rattle.journeys.specs.Front.{OnFront}
 use Rattle.journeys.specs.Calls.{cleared, frontRow, overfull, frontEnd, frontRefused, frontServed, frontOn, frontCall, journeyEnd, journeyRefused, tooShort, journeyServed, journeyOn, journeyCall}
-use Rattle.journeys.specs.Held.{frontRoom, Layable}
+use Rattle.journeys.specs.Held.{Layable}
 use Rattle.journeys.specs.Inner.{goalRows, costsOf, firstStep, offeredRows, NumberIs}
 use Rattle.journeys.specs.declared.FrontAnswer.{FrontAnswer}
 use Rattle.journeys.specs.declared.JourneyAnswer.{JourneyAnswer}
@@ -65,17 +65,17 @@ module _ {s : Sheet} {table table′ : List ℕ} {n : ℕ} (p : Ready s table ta
     counts = counted ∙ ap length front-off
 
     pub front-nine : {r : FrontAnswer} {t : List ℕ} → r ≡ frontRefused [] [] 9 0 .answer → t ≡ take 0 table′ ++ replicate (length table′ - 0) 0
-        → frontRoom (length list) < costs → frontEnd r t list ≡ frontOn s table list
+        → length list / 4 < costs → frontEnd r t list ≡ frontOn s table list
     unfolding frontOn overfull
     front-nine e f h =
         ap₂ (λ (x : FrontAnswer) (y : List ℕ). frontEnd x y list) e (f ∙ cleared-all table table′ (p .same-length))
-        ∙ sym (rw (p .room, lt-ltb (frontRoom (length list)) (length (front s)) (omega (arith, h, counts))))
+        ∙ sym (rw (p .room, lt-ltb (length list / 4) (length (front s)) (omega (arith, h, counts))))
 
-    pub front-end : {l : List ℕ} → l ≡ filled (length list) (offeredRows offers) → costs ≤ frontRoom (length list)
+    pub front-end : {l : List ℕ} → l ≡ filled (length list) (offeredRows offers) → costs ≤ length list / 4
         → frontEnd (record { refusal = 0; line = 0; costs = costs; arrivals = n }) table′ l ≡ frontOn s table list
     unfolding frontOn overfull frontServed
     front-end e h =
-        sym (rw (p .room, le-ltb (frontRoom (length list)) (length (front s)) (omega (arith, h, counts)), ← counts, ← p .counted, ← p .filled-table, ← rows-off, ← e))
+        sym (rw (p .room, le-ltb (length list / 4) (length (front s)) (omega (arith, h, counts)), ← counts, ← p .counted, ← p .filled-table, ← rows-off, ← e))
 
   -- the cost with a number in the front
   module _ {i : ℕ} {o : Offered} (h : NumberIs offers i o) where

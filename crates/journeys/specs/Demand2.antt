@@ -7,28 +7,26 @@ use Prim.Native.Nat.{ℕ, suc, _+_, _*_, _≤_, _<_}
 use lib.ListN.{length, take}
 use Rattle.sheet.specs.Lists.{number, numbersFrom, Lex}
 use Rattle.sheet.specs.Sheet.{Sheet, loaded, readOf}
-use Rattle.sheet.specs.Calls.{readCall, Groups, groupsRead, writeGroups}
+use Rattle.sheet.specs.Calls.{readAnswer, readCall, Groups, groupsRead, sheetOfGroups, writeGroups}
 use Rattle.costs.specs.Costs.{Cost, figures}
 use Rattle.arrivals.specs.Arrivals.{Arrival, keyOf, Leading}
 use Rattle.journeys.specs.Journeys.{Journey, Selected}
 use Rattle.journeys.specs.Front.{OnFront}
 use Rattle.journeys.specs.Calls.{FrontEnd, frontCall, JourneyEnd, journeyCall}
 
--- the cost with number i in the front, in the list as the call returned it, and the arrival step beside it
+-- the cost with number i in the front, in the list as the call returned it; the arrival step stands after its figures
 abbrev pub costAt : FrontEnd → ℕ → Cost
 costAt e i = numbersFrom figures (i * 4) (e .list)
 
-abbrev pub stepAt : FrontEnd → ℕ → ℕ
-stepAt e i = number (e .list) (i * 4 + figures)
-
 -- the list is the cost-unique front of s: its costs are those of the front, each once, ascending, and beside each the earliest step at which a lawful
--- journey with that cost arrives; and it is empty exactly when no lawful journey exists
+-- journey with that cost arrives, then zeros; and it is empty exactly when no lawful journey exists
 pub record ListsFront (s : Sheet) (e : FrontEnd) : Type 0 where
-  pub listed-on : (i : ℕ) → i < e .answer .costs → OnFront s (costAt e i)
+  pub listed-on : (i : ℕ) → i < e .answer .costs → (i * 4 + 4 ≤ length (e .list)) × OnFront s (costAt e i)
   pub on-listed : (g : Cost) → OnFront s g → (i : ℕ) × (i < e .answer .costs) × (costAt e i ≡ g)
   pub ascending : (i j : ℕ) → i < j → j < e .answer .costs → Lex (costAt e i) (costAt e j)
-  pub arrives : (i : ℕ) → i < e .answer .costs → (p : List ℕ) × Journey s p (costAt e i) × (length p ≡ suc (stepAt e i))
-  pub no-sooner : (i : ℕ) → i < e .answer .costs → (p : List ℕ) → Journey s p (costAt e i) → suc (stepAt e i) ≤ length p
+  pub arrives : (i : ℕ) → i < e .answer .costs → (p : List ℕ) × Journey s p (costAt e i) × (length p ≡ suc (number (e .list) (i * 4 + figures)))
+  pub no-sooner : (i : ℕ) → i < e .answer .costs → (p : List ℕ) → Journey s p (costAt e i) → suc (number (e .list) (i * 4 + figures)) ≤ length p
+  pub zeros : (i : ℕ) → e .answer .costs * 4 ≤ i → number (e .list) i ≡ 0
   pub empty : (e .answer .costs ≡ 0) ↔ ((p : List ℕ) (g : Cost) → Journey s p g → ⊥)
 
 -- row i of the table as the call returned it
@@ -37,7 +35,7 @@ arrivalAt e i = record { place = number (e .table) (i * 5); step = number (e .ta
 
 -- the table holds exactly the leading arrivals of s, ascending, each once, then zeros
 pub record ListsLeading (s : Sheet) (e : FrontEnd) : Type 0 where
-  pub rows-lead : (i : ℕ) → i < e .answer .arrivals → Leading s (arrivalAt e i)
+  pub rows-lead : (i : ℕ) → i < e .answer .arrivals → (i * 5 + 5 ≤ length (e .table)) × Leading s (arrivalAt e i)
   pub leading-rows : (a : Arrival) → Leading s a → (i : ℕ) × (i < e .answer .arrivals) × (arrivalAt e i ≡ a)
   pub ascending : (i j : ℕ) → i < j → j < e .answer .arrivals → Lex (keyOf (arrivalAt e i)) (keyOf (arrivalAt e j))
   pub zeros : (i : ℕ) → e .answer .arrivals * 5 ≤ i → number (e .table) i ≡ 0
@@ -56,8 +54,8 @@ pub record Demand2 : Type 0 where
       → (s : Sheet) × (readOf b ≡ loaded s) × ListsFront s (frontCall b table list) × ListsLeading s (frontCall b table list)
   pub journeys : (b table list table′ path : List ℕ) (i : ℕ) (s : Sheet) → readOf b ≡ loaded s → frontCall b table list .answer .refusal ≡ 0
       → i < frontCall b table list .answer .costs → journeyCall b i table′ path .answer .refusal ≡ 0
-      → GivesJourney s (costAt (frontCall b table list) i) (journeyCall b i table′ path) × (journeyCall b i table′ path .answer .arrival ≡ stepAt (frontCall b table list) i)
+      → GivesJourney s (costAt (frontCall b table list) i) (journeyCall b i table′ path) × (journeyCall b i table′ path .answer .arrival ≡ number (frontCall b table list .list) (i * 4 + figures))
   pub read-written : (b out : List ℕ) → readCall b .refusal ≡ 0 → length b ≤ length out
       → let w = writeGroups (groupsRead (readCall b)) out in (w .answer .refusal ≡ 0) × (w .answer .bytes ≡ length b) × (take (length b) (w .out) ≡ b)
   pub written-read : (g : Groups) (out : List ℕ) → writeGroups g out .answer .refusal ≡ 0
-      → let r = readCall (take (writeGroups g out .answer .bytes) (writeGroups g out .out)) in (r .refusal ≡ 0) × (groupsRead r ≡ g)
+      → let r = readCall (take (writeGroups g out .answer .bytes) (writeGroups g out .out)) in (groupsRead r ≡ g) × (r ≡ readAnswer (loaded (sheetOfGroups g)))

@@ -1,7 +1,7 @@
 -- An arrivals table that holds the leading arrivals of a sheet, and what the journey of a front cost needs to be laid into a path buffer.
 use mathlib.Core.Path.{_≡_}
 use mathlib.Core.List.{List, map}
-use Prim.Native.Nat.{ℕ, suc, _*_, _≤_, _/_}
+use Prim.Native.Nat.{ℕ, suc, _*_, _≤_}
 use lib.ListN.{length}
 use Rattle.sheet.specs.Lists.{number, numbersFrom, rows}
 use Rattle.sheet.specs.Sheet.{Sheet}
@@ -33,7 +33,3 @@ pub record Layable (lines all since : List ℕ) (n : ℕ) (table : List ℕ) (A 
   pub on-front : OnFront (sheetIn lines all) f
   pub arrives-at : A ≡ arrivalOf (sheetIn lines all) f
   pub room : suc A ≤ length path
-
--- the room of a list of n numbers, in costs
-abbrev pub frontRoom : ℕ → ℕ
-frontRoom n = n / 4

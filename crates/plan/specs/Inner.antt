@@ -1,4 +1,4 @@
--- What reading the sheet promises `main`: the bytes read stand at the start of the buffer that was lent.
+-- What reading the sheet promises `main`: the count of bytes read is at most the buffer's length. What stands there is what the operating system gave.
 use Prim.Native.Nat.{ℕ, _≤_}
 use mathlib.Core.List.{List}
 use lib.ListN.{length}

@@ -62,7 +62,7 @@ pub record Blank (lines all : List ℕ) : Type 0 where
   pub no-lines : lines ≡ replicate kindCount 0
   pub no-cells : all ≡ replicate storeRoom 0
 
--- v tells how a sheet was judged: the refusal, or 0 and the array holds the sheet
+-- v tells how a sheet was judged: the refusal, after which the arrays hold what was read so far and nothing reads them; or 0, and the array holds the sheet
 pub record VerdictIs (end : Outcome) (lines all : List ℕ) (v : Verdict) : Type 0 where
   pub refuses : (v .refusal ≡ 0 → ⊥) → end ≡ refused (v .refusal) (v .line)
   pub holds : v .refusal ≡ 0 → (s : Sheet) × (end ≡ loaded s) × StoreOf s lines all

@@ -6,39 +6,37 @@ use mathlib.Core.Path.{_≡_, refl, sym, _∙_, ap, subst}
 use mathlib.Core.Logic.{inl, inr, ⊎-elim}
 use mathlib.Core.Bool.{Bool, true, false}
 use mathlib.Core.List.{List, [], _∷_, reverse}
-use Prim.Native.Nat.{ℕ, zero, suc, _*_, _-_, _≤_, _<_}
+use Prim.Native.Nat.{ℕ, zero, suc, _+_, _*_, _-_, _≤_, _<_, _/_}
 use native.Mathlib.Omega.{arith}
 use lib.Dec.{leb}
 use lib.ListN.{length, getD, take, drop, replicate, length-append}
 use lib.Seq.{take-at, take-append-seam, getD-at}
 use borrow.Author.Tests.{le-ltb}
-use Rattle.sheet.specs.Lists.{_∈_, pick, bind, Lex}
+use Rattle.sheet.specs.Lists.{_∈_, number, pick, bind, Lex}
 use Rattle.sheet.specs.Sorting.{Ascending}
 use Rattle.sheet.specs.Sheet.{Sheet, loaded, told, readOf}
 use Rattle.sheet.specs.Calls.{WriteEnd}
-use Rattle.sheet.specs.declared.SheetRead.{SheetRead}
 use Rattle.sheet.specs.Laws.Members.{mem-at}
 use Rattle.sheet.specs.Laws.Ascending.{before-all}
 use Rattle.sheet.specs.Laws.Stores.{filled-past}
 use Rattle.sheet.specs.Laws.Judge.{loaded-inj}
-use Rattle.sheet.specs.Laws.RoundTrip.{write-read-calls, write-read-groups, read-write-calls}
+use Rattle.sheet.specs.Laws.RoundTrip.{write-read-answer, write-read-groups, read-write-calls}
 use Rattle.costs.specs.Costs.{Cost, figures}
 use Rattle.costs.specs.Laws.Figures.{is-from}
 use Rattle.arrivals.specs.Arrivals.{Arrival, keyOf, Leading}
 use Rattle.arrivals.specs.Computed.{arrival, leading}
 use Rattle.arrivals.specs.Table.{arrivalRow, crowded, arrivalTable}
-use Rattle.arrivals.specs.Search.{arrivalRoom}
 use Rattle.journeys.specs.Journeys.{Journey, HasCost, Selected}
 use Rattle.journeys.specs.Front.{OnFront}
 use Rattle.journeys.specs.Computed.{self, journeyOf, arrivalOf, front}
-use Rattle.journeys.specs.Calls.{cleared, FrontEnd, frontServed, frontCall, JourneyEnd, journeyRefused, tooShort, journeyServed, journeyOn, journeyCall}
-use Rattle.journeys.specs.Demand2.{costAt, stepAt, ListsFront, arrivalAt, ListsLeading, GivesJourney, Demand2}
+use Rattle.journeys.specs.Calls.{cleared, frontRow, FrontEnd, frontServed, frontCall, JourneyEnd, journeyRefused, tooShort, journeyServed, journeyOn, journeyCall}
+use Rattle.journeys.specs.Demand2.{costAt, ListsFront, arrivalAt, ListsLeading, GivesJourney, Demand2}
 use Rattle.journeys.specs.Laws.Journeys.{has-three, journeyOf-selected, journey-length}
 use Rattle.journeys.specs.Laws.Front.{front-on, on-front, front-ascending, front-empty}
 use Rattle.arrivals.specs.Laws.Leading.{leading-is, is-leading, leading-ascending}
 use Rattle.journeys.specs.Laws.Searched.{Ready, ready-is, rows-length}
 use Rattle.journeys.specs.Laws.Rows.{table-row}
-use Rattle.journeys.specs.Laws.Served.{served, member, row-listed, listed}
+use Rattle.journeys.specs.Laws.Served.{served, member, list-length, row-listed, listed}
 
 -- a member of a list has a number in it; and of an ascending list, the member with the lower number stands before
 module _ {A : Type 0} (d : A) where
@@ -68,7 +66,7 @@ module _ (s : Sheet) (table list : List ℕ) (i : ℕ) (h : i < length (front s)
       sym (is-from figures (i * 4) (getD (front s) i []) (frontServed s table list .list)
       (record { sized = has-three s (getD (front s) i []) (has-at s i h); so-far = λ j k. sym (listed s table list i j h k) }))
 
-  step-listed : stepAt (frontServed s table list) i ≡ arrivalOf s (getD (front s) i [])
+  step-listed : number (frontServed s table list .list) (i * 4 + figures) ≡ arrivalOf s (getD (front s) i [])
   step-listed =
       let g = getD (front s) i [] in
       row-listed s table list i 3 h (omega arith)
@@ -92,7 +90,7 @@ lists-front : (s : Sheet) (table list : List ℕ) → ListsFront s (frontServed 
 unfolding frontServed
 lists-front s table list =
     record {
-      listed-on = λ i h. subst (OnFront s) (sym (cost-listed s table list i h)) (front-on s (getD (front s) i []) (member (front s) i h));
+      listed-on = λ i h. (inside i h, subst (OnFront s) (sym (cost-listed s table list i h)) (front-on s (getD (front s) i []) (member (front s) i h)));
       on-listed = λ g o.
           let r = position [] g (front s) (on-front s g o) in
           (r .0, r .1, cost-listed s table list (r .0) (r .1) ∙ r .2);
@@ -105,6 +103,7 @@ lists-front s table list =
           (journeyOf s g, subst (Journey s (journeyOf s g)) (sym (cost-listed s table list i h)) (journeyOf-selected s g o .journey), journey-length s g o ∙ ap suc (sym (step-listed s table list i h)));
       no-sooner = λ i h p j.
           omega (arith, step-listed s table list i h, no-shorter s (getD (front s) i []) (has-at s i h) p (subst (Journey s p) (cost-listed s table list i h) j));
+      zeros = λ i l. filled-past (length list) (bind (front s) (frontRow s)) i (omega (arith, l, list-length s));
       empty = (
         λ z p g j. front-empty s .0 (no-costs (front s) z) g (p, j),
         λ n. ap length (front-empty s .1 (λ g h. n (h .0) g (h .1))),
@@ -114,14 +113,17 @@ lists-front s table list =
     e : FrontEnd
     e = frontServed s table list
 
+    inside : (i : ℕ) → i < length (front s) → i * 4 + 4 ≤ length (e .list)
+    inside i h = let r = bind (front s) (frontRow s) in omega (arith, h, list-length s, length-append r (replicate (length list - length r) 0))
+
 -- the served table holds the leading arrivals, row by row
-module _ (s : Sheet) (table list : List ℕ) (h : length (leading s) ≤ arrivalRoom (length table)) where
+module _ (s : Sheet) (table list : List ℕ) (h : length (leading s) ≤ length table / 5) where
   abbrev e : FrontEnd
   e = frontServed s table list
 
   ready : Ready s table (arrivalTable s (length table)) (length (leading s))
   unfolding crowded
-  ready = ready-is s table (arrivalTable s (length table)) (length (leading s)) (le-ltb (arrivalRoom (length table)) (length (leading s)) h) refl refl
+  ready = ready-is s table (arrivalTable s (length table)) (length (leading s)) (le-ltb (length table / 5) (length (leading s)) h) refl refl
 
   row-is : (i : ℕ) → i < length (leading s) → arrivalAt e i ≡ getD (leading s) i (arrival 0 0 [])
   unfolding frontServed
@@ -131,7 +133,7 @@ module _ (s : Sheet) (table list : List ℕ) (h : length (leading s) ≤ arrival
   unfolding frontServed
   lists-leading =
       record {
-        rows-lead = λ i l. subst (Leading s) (sym (row-is i l)) (leading-is s (getD (leading s) i (arrival 0 0 [])) (mem-at (arrival 0 0 []) (leading s) i l));
+        rows-lead = λ i l. (omega (arith, l, ready .holds .room), subst (Leading s) (sym (row-is i l)) (leading-is s (getD (leading s) i (arrival 0 0 [])) (mem-at (arrival 0 0 []) (leading s) i l)));
         leading-rows = λ a m. let r = position (arrival 0 0 []) a (leading s) (is-leading s a m) in (r .0, r .1, row-is (r .0) (r .1) ∙ r .2);
         ascending = λ i j k l.
             subst (λ (a : Arrival). Lex (keyOf a) (keyOf (arrivalAt e j))) (sym (row-is i (omega (arith, k, l))))
@@ -183,7 +185,7 @@ gives s g table path h =
 
 -- the ends of a call of the front and of the journey with number i in it agree
 abbrev Agree : Sheet → ℕ → FrontEnd → JourneyEnd → Type 0
-Agree s i e f = GivesJourney s (costAt e i) f × (f .answer .arrival ≡ stepAt e i)
+Agree s i e f = GivesJourney s (costAt e i) f × (f .answer .arrival ≡ number (e .list) (i * 4 + figures))
 
 agree : (s : Sheet) (table list table′ path : List ℕ) (i : ℕ) → i < frontServed s table list .answer .costs → Agree s i (frontServed s table list) (journeyServed s (getD (front s) i []) table′ path)
 unfolding frontServed journeyServed
@@ -200,7 +202,7 @@ demand-2 =
       read-written = λ b out z l.
           let e = read-write-calls b out z l in
           (ap (λ (w : WriteEnd). w .answer .refusal) e, ap (λ (w : WriteEnd). w .answer .bytes) e, ap (λ (w : WriteEnd). take (length b) (w .out)) e ∙ take-append-seam b (drop (length b) out));
-      written-read = λ g out z. (ap (λ (r : SheetRead). r .refusal) (write-read-calls g out z), write-read-groups g out z);
+      written-read = λ g out z. (write-read-groups g out z, write-read-answer g out z);
     }
   where
     fronts : (b table list : List ℕ) → frontCall b table list .answer .refusal ≡ 0

@@ -4,7 +4,7 @@ use mathlib.Core.Path.{_≡_, refl, _∙_, ap}
 use mathlib.Core.Logic.{_↔_}
 use mathlib.Core.Bool.{Bool, true, false}
 use mathlib.Core.List.{List, [], _∷_, map}
-use Prim.Native.Nat.{ℕ, _+_, _*_, _-_, _≤_, _<_}
+use Prim.Native.Nat.{ℕ, _+_, _*_, _-_, _≤_, _<_, _/_}
 use native.Mathlib.Omega.{arith}
 use lib.Dec.{ltb, leb}
 use lib.ListN.{length, getD, replicate, length-append, length-map, List·getD-append}
@@ -17,10 +17,8 @@ use Rattle.sheet.specs.Laws.RoundTrip.{read-refused}
 use Rattle.costs.specs.Costs.{Cost, figures, fig}
 use Rattle.arrivals.specs.Computed.{leading}
 use Rattle.arrivals.specs.Table.{crowded}
-use Rattle.arrivals.specs.Search.{arrivalRoom}
 use Rattle.journeys.specs.Computed.{journeyOf, arrivalOf, front}
 use Rattle.journeys.specs.Calls.{cleared, frontRow, overfull, FrontEnd, frontRefused, frontServed, frontOn, frontCall, journeyRefused, tooShort, journeyServed, journeyOn, journeyCall}
-use Rattle.journeys.specs.Held.{frontRoom}
 use Rattle.journeys.specs.Laws.Journeys.{has-three}
 use Rattle.journeys.specs.Laws.Front.{front-on}
 
@@ -28,8 +26,8 @@ use Rattle.journeys.specs.Laws.Front.{front-on}
 pub record Fits (b table list : List ℕ) : Type 0 where
   pub sheet : Sheet
   pub reads : readOf b ≡ loaded sheet
-  pub arrivals-fit : length (leading sheet) ≤ arrivalRoom (length table)
-  pub costs-fit : length (front sheet) ≤ frontRoom (length list)
+  pub arrivals-fit : length (leading sheet) ≤ length table / 5
+  pub costs-fit : length (front sheet) ≤ length list / 4
 
 -- what a served call ended with
 pub record Served (b table list : List ℕ) (e : FrontEnd) : Type 0 where
@@ -37,17 +35,17 @@ pub record Served (b table list : List ℕ) (e : FrontEnd) : Type 0 where
   pub end : e ≡ frontServed (fits .sheet) table list
 
 pub on-served : (s : Sheet) (table list : List ℕ) → frontOn s table list .answer .refusal ≡ 0
-    → (length (leading s) ≤ arrivalRoom (length table)) × (length (front s) ≤ frontRoom (length list)) × (frontOn s table list ≡ frontServed s table list)
+    → (length (leading s) ≤ length table / 5) × (length (front s) ≤ length list / 4) × (frontOn s table list ≡ frontServed s table list)
 unfolding frontOn crowded overfull
-on-served s table list z = go (ltb (arrivalRoom (length table)) (length (leading s))) (ltb (frontRoom (length list)) (length (front s))) refl refl z
+on-served s table list z = go (ltb (length table / 5) (length (leading s))) (ltb (length list / 4) (length (front s))) refl refl z
   where
-    go : (t u : Bool) → ltb (arrivalRoom (length table)) (length (leading s)) ≡ t → ltb (frontRoom (length list)) (length (front s)) ≡ u
+    go : (t u : Bool) → ltb (length table / 5) (length (leading s)) ≡ t → ltb (length list / 4) (length (front s)) ≡ u
         → (pick t (frontRefused (cleared table) list 8 0) (pick u (frontRefused (cleared table) list 9 0) (frontServed s table list))) .answer .refusal ≡ 0
-        → (length (leading s) ≤ arrivalRoom (length table)) × (length (front s) ≤ frontRoom (length list))
+        → (length (leading s) ≤ length table / 5) × (length (front s) ≤ length list / 4)
         × (pick t (frontRefused (cleared table) list 8 0) (pick u (frontRefused (cleared table) list 9 0) (frontServed s table list)) ≡ frontServed s table list)
     go true u p q z = absurd (omega (arith, z))
     go false true p q z = absurd (omega (arith, z))
-    go false false p q z = (ltb-false (arrivalRoom (length table)) (length (leading s)) p, ltb-false (frontRoom (length list)) (length (front s)) q, refl)
+    go false false p q z = (ltb-false (length table / 5) (length (leading s)) p, ltb-false (length list / 4) (length (front s)) q, refl)
 
 pub served : (b table list : List ℕ) → frontCall b table list .answer .refusal ≡ 0 → Served b table list (frontCall b table list)
 unfolding frontCall
@@ -62,7 +60,7 @@ served b table list z = go (readOf b) refl z
 fits-served : (b table list : List ℕ) → Fits b table list → frontCall b table list .answer .refusal ≡ 0
 unfolding frontCall frontOn crowded overfull frontServed
 fits-served b table list f =
-    rw (f .reads, le-ltb (arrivalRoom (length table)) (length (leading (f .sheet))) (f .arrivals-fit), le-ltb (frontRoom (length list)) (length (front (f .sheet))) (f .costs-fit))
+    rw (f .reads, le-ltb (length table / 5) (length (leading (f .sheet))) (f .arrivals-fit), le-ltb (length list / 4) (length (front (f .sheet))) (f .costs-fit))
 
 -- a call of the front is served exactly when the sheet reads, the leading arrivals fit and the front fits
 pub served-exactly : (b table list : List ℕ) → (frontCall b table list .answer .refusal ≡ 0) ↔ Fits b table list
@@ -72,23 +70,23 @@ served-exactly b table list = (λ z. served b table list z .fits, fits-served b 
 pub record FitsJourney (b : List ℕ) (i : ℕ) (table path : List ℕ) : Type 0 where
   pub sheet : Sheet
   pub reads : readOf b ≡ loaded sheet
-  pub arrivals-fit : length (leading sheet) ≤ arrivalRoom (length table)
+  pub arrivals-fit : length (leading sheet) ≤ length table / 5
   pub numbered : i < length (front sheet)
   pub path-fits : length (journeyOf sheet (getD (front sheet) i [])) ≤ length path
 
 on-fits : (s : Sheet) (i : ℕ) (table path : List ℕ) → journeyOn s i table path .answer .refusal ≡ 0
-    → (length (leading s) ≤ arrivalRoom (length table)) × (i < length (front s)) × (length (journeyOf s (getD (front s) i [])) ≤ length path)
+    → (length (leading s) ≤ length table / 5) × (i < length (front s)) × (length (journeyOf s (getD (front s) i [])) ≤ length path)
 unfolding journeyOn crowded tooShort
 on-fits s i table path z =
-    go (ltb (arrivalRoom (length table)) (length (leading s))) (leb (length (front s)) i) (ltb (length path) (length (journeyOf s (getD (front s) i [])))) refl refl refl z
+    go (ltb (length table / 5) (length (leading s))) (leb (length (front s)) i) (ltb (length path) (length (journeyOf s (getD (front s) i [])))) refl refl refl z
   where
-    go : (t u w : Bool) → ltb (arrivalRoom (length table)) (length (leading s)) ≡ t → leb (length (front s)) i ≡ u → ltb (length path) (length (journeyOf s (getD (front s) i []))) ≡ w
+    go : (t u w : Bool) → ltb (length table / 5) (length (leading s)) ≡ t → leb (length (front s)) i ≡ u → ltb (length path) (length (journeyOf s (getD (front s) i []))) ≡ w
         → (pick t (journeyRefused (cleared table) path 8 0) (pick u (journeyRefused (cleared table) path 10 0) (pick w (journeyRefused (cleared table) path 11 0) (journeyServed s (getD (front s) i []) table path)))) .answer .refusal ≡ 0
-        → (length (leading s) ≤ arrivalRoom (length table)) × (i < length (front s)) × (length (journeyOf s (getD (front s) i [])) ≤ length path)
+        → (length (leading s) ≤ length table / 5) × (i < length (front s)) × (length (journeyOf s (getD (front s) i [])) ≤ length path)
     go true u w p q r z = absurd (omega (arith, z))
     go false true w p q r z = absurd (omega (arith, z))
     go false false true p q r z = absurd (omega (arith, z))
-    go false false false p q r z = (ltb-false (arrivalRoom (length table)) (length (leading s)) p, leb-false (length (front s)) i q, ltb-false (length path) (length (journeyOf s (getD (front s) i []))) r)
+    go false false false p q r z = (ltb-false (length table / 5) (length (leading s)) p, leb-false (length (front s)) i q, ltb-false (length path) (length (journeyOf s (getD (front s) i []))) r)
 
 journey-fits : (b : List ℕ) (i : ℕ) (table path : List ℕ) → journeyCall b i table path .answer .refusal ≡ 0 → FitsJourney b i table path
 unfolding journeyCall
@@ -104,7 +102,7 @@ fits-journey : (b : List ℕ) (i : ℕ) (table path : List ℕ) → FitsJourney 
 unfolding journeyCall journeyOn crowded tooShort journeyServed
 fits-journey b i table path f =
     rw
-    (f .reads, le-ltb (arrivalRoom (length table)) (length (leading (f .sheet))) (f .arrivals-fit), lt-leb (length (front (f .sheet))) i (f .numbered), le-ltb (length path) (length (journeyOf (f .sheet) (getD (front (f .sheet)) i []))) (f .path-fits))
+    (f .reads, le-ltb (length table / 5) (length (leading (f .sheet))) (f .arrivals-fit), lt-leb (length (front (f .sheet))) i (f .numbered), le-ltb (length path) (length (journeyOf (f .sheet) (getD (front (f .sheet)) i []))) (f .path-fits))
 
 -- a call of a journey is served exactly when the sheet reads, the leading arrivals fit, its number is on the front and the path buffer is long enough
 pub journey-served-exactly : (b : List ℕ) (i : ℕ) (table path : List ℕ) → (journeyCall b i table path .answer .refusal ≡ 0) ↔ FitsJourney b i table path

@@ -4,7 +4,7 @@ use mathlib.Core.Path.{_≡_, refl, sym, _∙_, ap, ap₂}
 use mathlib.Core.Logic.{_≢_}
 use mathlib.Core.Bool.{Bool, true, false}
 use mathlib.Core.List.{List, [], _∷_, _++_}
-use Prim.Native.Nat.{ℕ, _*_, _-_, _≤_}
+use Prim.Native.Nat.{ℕ, _*_, _-_, _≤_, _/_}
 use native.Mathlib.Omega.{arith}
 use lib.ListN.{length, take, replicate}
 use lib.Seq.{sets, take-at}
@@ -19,10 +19,8 @@ use Rattle.sheet.specs.Laws.Stores.{sets-filled, length-filled}
 use Rattle.sheet.specs.Laws.Puts.{Puts, puts-as, puts-length, puts-append}
 use Rattle.arrivals.specs.Computed.{leading}
 use Rattle.arrivals.specs.Table.{crowded, arrivalTable}
-use Rattle.arrivals.specs.Search.{arrivalRoom}
 use Rattle.journeys.specs.Computed.{front}
 use Rattle.journeys.specs.Calls.{frontRow, overfull, FrontEnd, frontEnd, frontServed, frontOn}
-use Rattle.journeys.specs.Held.{frontRoom}
 use Rattle.journeys.specs.declared.FrontAnswer.{FrontAnswer}
 use Rattle.journeys.specs.Laws.Served.{on-served, list-length}
 use Rattle.journeys.specs.Laws.Searched.{ready-is}
@@ -53,7 +51,7 @@ module _ {lines all since table list out : List ℕ} (d : Servable lines all sin
   abbrev sheet : Sheet
   sheet = sheetIn lines all
 
-  serves : (length (leading sheet) ≤ arrivalRoom (length table)) × (length (front sheet) ≤ frontRoom (length list)) × (frontOn sheet table list ≡ frontServed sheet table list)
+  serves : (length (leading sheet) ≤ length table / 5) × (length (front sheet) ≤ length list / 4) × (frontOn sheet table list ≡ frontServed sheet table list)
   serves = on-served sheet table list (ap (λ (x : FrontEnd). x .answer .refusal) (sym e) ∙ z)
 
   ends : frontEnd r table′ list′ ≡ frontServed sheet table list

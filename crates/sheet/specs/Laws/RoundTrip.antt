@@ -247,6 +247,17 @@ write-read-sheet s h p =
     ∙ passes-judge [] (sheetLines s) p (omega arith)
     ∙ ap loaded (sheet-lines s)
 
+-- what was written is read as the sheet of the groups
+pub write-read-answer : (g : Groups) (out : List ℕ) → writeGroups g out .answer .refusal ≡ 0
+    → readCall (take (writeGroups g out .answer .bytes) (writeGroups g out .out)) ≡ readAnswer (loaded (sheetOfGroups g))
+unfolding readCall
+write-read-answer g out e =
+    let a = write-accepted g out e in
+    let s = sheetOfGroups g in
+    ap (λ (w : WriteEnd). readCall (take (w .answer .bytes) (w .out))) (a .end)
+    ∙ ap readCall (take-append-seam (sheetText s) (drop (length (sheetText s)) out))
+    ∙ ap readAnswer (write-read-sheet s (wide-shaped kinds (groupsOf s) (λ k m. m) (whole-wide g (a .whole))) (a .passes))
+
 -- the groups that the writer took are read again
 pub write-read-calls : (g : Groups) (out : List ℕ) → writeGroups g out .answer .refusal ≡ 0
     → readCall (take (writeGroups g out .answer .bytes) (writeGroups g out .out))
@@ -258,13 +269,10 @@ pub write-read-calls : (g : Groups) (out : List ℕ) → writeGroups g out .answ
       corridors = filled (room kindC) (g .corridors);
       occupancies = filled (room kindO) (g .occupancies);
     }
-unfolding readCall readAnswer
+unfolding readAnswer
 write-read-calls g out e =
     let a = write-accepted g out e in
-    let s = sheetOfGroups g in
-    ap (λ (w : WriteEnd). readCall (take (w .answer .bytes) (w .out))) (a .end)
-    ∙ ap readCall (take-append-seam (sheetText s) (drop (length (sheetText s)) out))
-    ∙ ap readAnswer (write-read-sheet s (wide-shaped kinds (groupsOf s) (λ k m. m) (whole-wide g (a .whole))) (a .passes))
+    write-read-answer g out e
     ∙ rw (
       rows-count (width kindC) (length (g .corridors) / width kindC) (g .corridors),
       rows-count (width kindO) (length (g .occupancies) / width kindO) (g .occupancies),
