@@ -100,7 +100,7 @@ typedef struct {
  * Hands back: the three groups by value, which planner_write turns back into the same bytes.
  * Refuses with: 1 (line 0); 2 to 7 (the first line at fault).
  * Lent to be written: nothing.
- * Stack: 28,536 bytes measured. */
+ * Stack: 27,896 bytes measured. */
 PlannerSheetRead planner_read(const uint8_t *sheet, size_t sheet_len);
 
 /* Writes the sheet of three groups: the S line's seven numbers, five for each corridor, three for each occupancy. The
@@ -112,7 +112,7 @@ PlannerSheetRead planner_read(const uint8_t *sheet, size_t sheet_len);
  * (the first line at fault, as counted in the sheet to be written); 12 (line 0). PLANNER_MOST_BYTES bytes are always
  * enough.
  * out: the bytes of the sheet, and past them kept. Refused: kept.
- * Stack: 8,568 bytes measured. */
+ * Stack: 8,564 bytes measured. */
 PlannerSheetWritten planner_write(const uint32_t *head, size_t head_len, const uint32_t *corridors,
                                   size_t corridors_len, const uint32_t *occupancies, size_t occupancies_len,
                                   uint8_t *out, size_t out_len);
@@ -126,7 +126,7 @@ PlannerSheetWritten planner_write(const uint32_t *head, size_t head_len, const u
  * its end. Refused with 1 to 7: kept. Refused with 8 or 9: zeros from its first element to its last.
  * list: a row for each front cost (c1, c2, c3, arrival step), ascending by c1, c2, c3, then zeros to its end. The
  * arrival step is the earliest at which a lawful journey with that cost arrives. Refused: kept.
- * Stack: 182,984 bytes measured. */
+ * Stack: 183,016 bytes measured. */
 PlannerFrontAnswer planner_front(const uint8_t *sheet, size_t sheet_len, uint32_t *arrivals, size_t arrivals_len,
                                  uint32_t *list, size_t list_len);
 
@@ -141,7 +141,7 @@ PlannerFrontAnswer planner_front(const uint8_t *sheet, size_t sheet_len, uint32_
  * arrivals: as planner_front leaves it. Refused with 1 to 7: kept. Refused with 8, 10 or 11: zeros from its first
  * element to its last.
  * path: a place for each step from 0 to the arrival step, then zeros to its end. Refused: kept.
- * Stack: 183,032 bytes measured. */
+ * Stack: 183,096 bytes measured. */
 PlannerJourneyAnswer planner_journey(const uint8_t *sheet, size_t sheet_len, uint32_t number, uint32_t *arrivals,
                                      size_t arrivals_len, uint32_t *path, size_t path_len);
 
