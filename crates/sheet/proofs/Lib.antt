@@ -1,4 +1,3 @@
-pub mod Table
 pub mod Digits
 pub mod Parts
 pub mod Fields

@@ -136,16 +136,6 @@ pub record GroupTaken (k : ℕ) (g lines all : List ℕ) (v : Verdict) (lines′
   pub of : (end : Outcome) (rest : List (Option Line)) → SoFar end (map some (groupLines k g) ++ rest) lines all v → SoFar end rest lines′ all′ r
   pub ready : Ready lines′ all′ r
 
--- the values of f at i and the numbers after it, n of them
-abbrev pub listed : (ℕ → ℕ) → ℕ → ℕ → List ℕ
-listed f i zero = []
-listed f i (suc n) = f i ∷ listed f (suc i) n
-
--- the kinds of the bytes from 0 to 255
-unfoldable pub kindTable : List ℕ
-unfolding kindOf
-kindTable = listed kindOf 0 256
-
 -- how many bytes stand before the first of kind k
 unfoldable pub spanOf : ℕ → List ℕ → ℕ
 unfolding kindOf

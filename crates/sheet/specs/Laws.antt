@@ -23,3 +23,4 @@ pub mod TextBound
 pub mod RoundTrip
 pub mod Ascii
 pub mod Boundary
+pub mod Table

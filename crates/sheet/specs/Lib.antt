@@ -2,6 +2,7 @@ pub mod Lists
 pub mod Computed
 pub mod Sorting
 pub mod Bytes
+pub mod Table
 pub mod Decimal
 pub mod Kinds
 pub mod Lines

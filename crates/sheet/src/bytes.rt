@@ -1,9 +1,9 @@
-// The kinds of bytes, from a table of 256.
+// The kinds of bytes, from comparisons with the ends of their ranges (document 02, E4).
 ghost use mathlib.Core.Path.{_≡_};
 ghost use Prim.Native.Nat.{_+_, _≤_};
 ghost use lib.ListN.{length, drop};
 ghost use Rattle.sheet.specs.Bytes.{kindOf};
-ghost use Rattle.sheet.specs.Inner.{kindTable, spanOf};
+ghost use Rattle.sheet.specs.Inner.{spanOf};
 
 pub const DIGIT: u8 = 0;
 
@@ -11,288 +11,37 @@ pub const COMMA: u8 = 1;
 
 pub const LINE_FEED: u8 = 2;
 
-const KINDS: [u8; 256] = [
-    4,
-    4,
-    4,
-    4,
-    4,
-    4,
-    4,
-    4,
-    4,
-    4,
-    2,
-    4,
-    4,
-    4,
-    4,
-    4,
-    4,
-    4,
-    4,
-    4,
-    4,
-    4,
-    4,
-    4,
-    4,
-    4,
-    4,
-    4,
-    4,
-    4,
-    4,
-    4,
-    4,
-    4,
-    4,
-    4,
-    4,
-    4,
-    4,
-    4,
-    4,
-    4,
-    4,
-    4,
-    1,
-    4,
-    4,
-    4,
-    0,
-    0,
-    0,
-    0,
-    0,
-    0,
-    0,
-    0,
-    0,
-    0,
-    4,
-    4,
-    4,
-    4,
-    4,
-    4,
-    4,
-    3,
-    3,
-    3,
-    3,
-    3,
-    3,
-    3,
-    3,
-    3,
-    3,
-    3,
-    3,
-    3,
-    3,
-    3,
-    3,
-    3,
-    3,
-    3,
-    3,
-    3,
-    3,
-    3,
-    3,
-    3,
-    3,
-    4,
-    4,
-    4,
-    4,
-    4,
-    4,
-    4,
-    4,
-    4,
-    4,
-    4,
-    4,
-    4,
-    4,
-    4,
-    4,
-    4,
-    4,
-    4,
-    4,
-    4,
-    4,
-    4,
-    4,
-    4,
-    4,
-    4,
-    4,
-    4,
-    4,
-    4,
-    4,
-    4,
-    4,
-    4,
-    4,
-    4,
-    4,
-    4,
-    4,
-    4,
-    4,
-    4,
-    4,
-    4,
-    4,
-    4,
-    4,
-    4,
-    4,
-    4,
-    4,
-    4,
-    4,
-    4,
-    4,
-    4,
-    4,
-    4,
-    4,
-    4,
-    4,
-    4,
-    4,
-    4,
-    4,
-    4,
-    4,
-    4,
-    4,
-    4,
-    4,
-    4,
-    4,
-    4,
-    4,
-    4,
-    4,
-    4,
-    4,
-    4,
-    4,
-    4,
-    4,
-    4,
-    4,
-    4,
-    4,
-    4,
-    4,
-    4,
-    4,
-    4,
-    4,
-    4,
-    4,
-    4,
-    4,
-    4,
-    4,
-    4,
-    4,
-    4,
-    4,
-    4,
-    4,
-    4,
-    4,
-    4,
-    4,
-    4,
-    4,
-    4,
-    4,
-    4,
-    4,
-    4,
-    4,
-    4,
-    4,
-    4,
-    4,
-    4,
-    4,
-    4,
-    4,
-    4,
-    4,
-    4,
-    4,
-    4,
-    4,
-    4,
-    4,
-    4,
-    4,
-    4,
-    4,
-    4,
-    4,
-    4,
-    4,
-    4,
-    4,
-    4,
-    4,
-    4,
-    4,
-    4,
-    4,
-    4,
-    4,
-    4,
-    4,
-    4,
-    4,
-    4,
-    4,
-    4,
-    4,
-    4,
-    4,
-    4,
-    4,
-    4,
-];
+pub const LETTER: u8 = 3;
 
-// The table, to be made once and lent: a constant is made anew wherever it is named.
-pub fn table() -> [u8; 256]
-    ensures { λ r. ⌜ r ≡ kindTable ⌝ }
-{
-    KINDS
-}
+pub const OTHER: u8 = 4;
 
-// The kind of a byte: digit 0, comma 1, line feed 2, letter 3, other 4.
-pub fn kind_of(kinds: &[u8; 256], b: u8) -> u8
-    requires { ⌜ now kinds ≡ kindTable ⌝ }
+// The kind of a byte.
+pub fn kind_of(b: u8) -> u8
     ensures { λ r. ⌜ r ≡ kindOf b ⌝ }
 {
-    kinds[b as usize]
+    if (48 <= b) & (b <= 57) {
+        return DIGIT;
+    }
+    if b == 44 {
+        return COMMA;
+    }
+    if b == 10 {
+        return LINE_FEED;
+    }
+    if (65 <= b) & (b <= 90) {
+        return LETTER;
+    }
+    OTHER
 }
 
 // The first position from `at` on of a byte of kind k, or the length.
-pub fn until(kinds: &[u8; 256], s: &[u8], at: usize, k: u8) -> usize
-    requires { ⌜ (now kinds ≡ kindTable) × (at ≤ length (now s)) ⌝ }
+pub fn until(s: &[u8], at: usize, k: u8) -> usize
+    requires { ⌜ at ≤ length (now s) ⌝ }
     ensures { λ r. ⌜ r ≡ at + spanOf k (drop at (now (s .entry))) ⌝ }
 {
     let mut i = at;
     while i < s.len() {
-        if kind_of(kinds, s[i]) == k {
+        if kind_of(s[i]) == k {
             return i;
         }
         i += 1;

@@ -2,7 +2,6 @@
 // The functions over the struct are thin, and the work is done on slices and numbers.
 ghost use mathlib.Core.Path.{_≡_};
 ghost use Prim.Native.Nat.{_+_, _<_, _^_};
-ghost use Rattle.sheet.specs.Inner.{kindTable};
 ghost use Rattle.sheet.specs.LineEnds.{EndIs, EndsAt, opened, goneOn};
 use crate::bytes::LINE_FEED;
 use crate::bytes::until;
@@ -20,14 +19,13 @@ pub enum LineEnd {
 }
 
 // Where the line from `at` on ends.
-fn end_at(kinds: &[u8; 256], src: &[u8], at: usize) -> LineEnd
-    requires { ⌜ now kinds ≡ kindTable ⌝ }
+fn end_at(src: &[u8], at: usize) -> LineEnd
     ensures { λ r. ⌜ EndIs (now (src .entry)) at r ⌝ }
 {
     if src.len() <= at {
         return LineEnd::Over;
     }
-    let e = until(kinds, src, at, LINE_FEED);
+    let e = until(src, at, LINE_FEED);
     if e == src.len() {
         return LineEnd::Missing;
     }
@@ -50,11 +48,10 @@ pub fn open<'a>(src: &'a [u8]) -> LineReader<'a>
 }
 
 // Where the reader's next line ends.
-pub fn next_line<'k, 'a>(kinds: &'k [u8; 256], r: LineReader<'a>) -> LineEnd
-    requires { ⌜ now kinds ≡ kindTable ⌝ }
+pub fn next_line<'a>(r: LineReader<'a>) -> LineEnd
     ensures { λ e. ⌜ EndIs (now (r .entry .src)) (r .entry .at) e ⌝ }
 {
-    end_at(kinds, r.src, r.at)
+    end_at(r.src, r.at)
 }
 
 // The reader after its next line, which ends at `end`.

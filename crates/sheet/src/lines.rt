@@ -5,7 +5,7 @@ ghost use Prim.Native.Nat.{_≤_, _<_};
 ghost use lib.ListN.{length};
 ghost use Rattle.sheet.specs.Bytes.{comma};
 ghost use Rattle.sheet.specs.Lines.{numbersOf};
-ghost use Rattle.sheet.specs.Inner.{kindTable, partsFrom, asNumbers, SomeForms, positionOf, LineIs, DigitsAre, FieldIs};
+ghost use Rattle.sheet.specs.Inner.{partsFrom, asNumbers, SomeForms, positionOf, LineIs, DigitsAre, FieldIs};
 use crate::bytes::COMMA;
 use crate::bytes::DIGIT;
 use crate::bytes::kind_of;
@@ -29,8 +29,8 @@ fn bad_field() -> Field
 }
 
 // The field from `at` on, ok where it is digits up to the comma or the end; not with more than one digit above the most.
-fn digits_from(kinds: &[u8; 256], line: &[u8], at: usize, most: usize) -> Field
-    requires { ⌜ (now kinds ≡ kindTable) × (at ≤ length (now line)) × (most ≤ 8) ⌝ }
+fn digits_from(line: &[u8], at: usize, most: usize) -> Field
+    requires { ⌜ (at ≤ length (now line)) × (most ≤ 8) ⌝ }
     ensures { λ r. ⌜ DigitsAre most (now (line .entry)) at r ⌝ }
 {
     let mut value: u32 = 0;
@@ -40,7 +40,7 @@ fn digits_from(kinds: &[u8; 256], line: &[u8], at: usize, most: usize) -> Field
             return bad_field();
         }
         let b = line[i];
-        let kind = kind_of(kinds, b);
+        let kind = kind_of(b);
         if kind != DIGIT {
             return Field {
                 ok: kind == COMMA,
@@ -59,11 +59,11 @@ fn digits_from(kinds: &[u8; 256], line: &[u8], at: usize, most: usize) -> Field
 }
 
 // The field from `at` on, ok where it is a number: one to `most` digits, no leading zero except 0 itself.
-fn field_at(kinds: &[u8; 256], line: &[u8], at: usize, most: usize) -> Field
-    requires { ⌜ (now kinds ≡ kindTable) × (at ≤ length (now line)) × (most ≤ 8) ⌝ }
+fn field_at(line: &[u8], at: usize, most: usize) -> Field
+    requires { ⌜ (at ≤ length (now line)) × (most ≤ 8) ⌝ }
     ensures { λ r. ⌜ FieldIs most (now (line .entry)) at r ⌝ }
 {
-    let f = digits_from(kinds, line, at, most);
+    let f = digits_from(line, at, most);
     if !f.ok {
         return f;
     }
@@ -86,8 +86,8 @@ pub struct Parsed {
 
 // The line of this kind whose numbers are exactly `width` fields from position 2 on, of at most `most` digits each. It is handed back as it was made:
 // a copy of the numbers waits for each of them to be stored.
-fn numbers_in(kinds: &[u8; 256], line: &[u8], kind: usize, width: usize, most: usize) -> Parsed
-    requires { ⌜ (now kinds ≡ kindTable) × (width ≤ 8) × (most ≤ 8) ⌝ }
+fn numbers_in(line: &[u8], kind: usize, width: usize, most: usize) -> Parsed
+    requires { ⌜ (width ≤ 8) × (most ≤ 8) ⌝ }
     ensures { λ r. ⌜ (r .kind ≡ kind) × (asNumbers width r ≡ numbersOf most width (partsFrom comma 2 (now (line .entry)))) ⌝ }
 {
     let mut r = Parsed {
@@ -101,7 +101,7 @@ fn numbers_in(kinds: &[u8; 256], line: &[u8], kind: usize, width: usize, most: u
         if line.len() < at {
             return r;
         }
-        let f = field_at(kinds, line, at, most);
+        let f = field_at(line, at, most);
         if !f.ok {
             return r;
         }
@@ -141,16 +141,16 @@ fn position(letters: &[u8], c: u8) -> usize
 }
 
 // The line that the bytes of l are, without a line feed, among lines with these letters and counts of numbers of at most `most` digits.
-pub fn line_in(kinds: &[u8; 256], l: &[u8], letters: &[u8], widths: &[usize], most: usize) -> Parsed
-    requires { ⌜ (now kinds ≡ kindTable) × (SomeForms (now letters) (now widths)) × (most ≤ 8) ⌝ }
+pub fn line_in(l: &[u8], letters: &[u8], widths: &[usize], most: usize) -> Parsed
+    requires { ⌜ (SomeForms (now letters) (now widths)) × (most ≤ 8) ⌝ }
     ensures { λ r. ⌜ LineIs most (now (letters .entry)) (now (widths .entry)) (now (l .entry)) r ⌝ }
 {
-    if until(kinds, l, 0, COMMA) != 1 {
+    if until(l, 0, COMMA) != 1 {
         return bad_line();
     }
     let k = position(letters, l[0]);
     if k == letters.len() {
         return bad_line();
     }
-    numbers_in(kinds, l, k, widths[k], most)
+    numbers_in(l, k, widths[k], most)
 }

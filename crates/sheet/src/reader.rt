@@ -5,10 +5,9 @@ ghost use Rattle.sheet.specs.Kinds.{kinds};
 ghost use Rattle.sheet.specs.Sheet.{refused, readOf};
 ghost use Rattle.sheet.specs.Calls.{readAnswer, readCall};
 ghost use Rattle.sheet.specs.Store.{kindCount, Blank, SomeStore, VerdictIs};
-ghost use Rattle.sheet.specs.Inner.{kindTable, Forms, AnswerIs, NoneSoFar, EndedIs};
+ghost use Rattle.sheet.specs.Inner.{Forms, AnswerIs, NoneSoFar, EndedIs};
 ghost use Rattle.sheet.specs.LineEnds.{EndIs, ReadUpTo, stopped, TurnIs, OverIs};
 use crate::SheetRead;
-use crate::bytes::table;
 use crate::judge::lacks;
 use crate::kinds::CORRIDORS;
 use crate::kinds::DIGITS;
@@ -106,7 +105,6 @@ fn stop(refusal: u32, line: u32) -> Turn
 
 // The line of src from `at` on, number n, which ends at e: judged after the lines in the array, and stored after those of its kind if it has no fault.
 fn take_next(
-    bytes: &[u8; 256],
     f: FormsOfLines,
     src: &[u8],
     at: usize,
@@ -115,7 +113,7 @@ fn take_next(
     all: &mut [u32],
     n: u32,
 ) -> Turn
-    requires { ⌜ (now bytes ≡ kindTable) × Forms kinds (f .letters) (f .widths) × EndIs (now src) at e × ReadUpTo (now src) at (now lines) (now all) n ⌝ }
+    requires { ⌜ Forms kinds (f .letters) (f .widths) × EndIs (now src) at e × ReadUpTo (now src) at (now lines) (now all) n ⌝ }
     ensures { λ r. ⌜ TurnIs (now (src .entry)) at (now (lines .exit)) (now (all .exit)) r ⌝ }
 {
     match e {
@@ -124,7 +122,7 @@ fn take_next(
         LineEnd::At(end) => {
             let letters = f.letters;
             let widths = f.widths;
-            let l = line_in(bytes, &src[at..end], &letters, &widths, DIGITS);
+            let l = line_in(&src[at..end], &letters, &widths, DIGITS);
             if !l.ok {
                 return stop(2, n);
             }
@@ -144,21 +142,20 @@ fn take_next(
 }
 
 // Takes the lines of src, one after another, until none is left or one has a fault.
-fn take_lines<'k, 'a, 'l, 's>(
-    bytes: &'k [u8; 256],
+fn take_lines<'a, 'l, 's>(
     f: FormsOfLines,
     src: &'a [u8],
     lines: &'l mut [u32],
     all: &'s mut [u32],
 ) -> Turn
-    requires { ⌜ (now bytes ≡ kindTable) × Forms kinds (f .letters) (f .widths) × ReadUpTo (now src) 0 (now lines) (now all) 1 ⌝ }
+    requires { ⌜ Forms kinds (f .letters) (f .widths) × ReadUpTo (now src) 0 (now lines) (now all) 1 ⌝ }
     ensures { λ r. ⌜ OverIs (now (src .entry)) (now (lines .exit)) (now (all .exit)) r ⌝ }
 {
     let mut r = open(src);
     let mut n: u32 = 1;
     loop {
-        let e = next_line(bytes, r);
-        let t = take_next(bytes, f, r.src, r.at, e, lines, all, n);
+        let e = next_line(r);
+        let t = take_next(f, r.src, r.at, e, lines, all, n);
         if t.more {
             r = after_line(r, t.end);
             n = t.line;
@@ -180,9 +177,8 @@ pub fn read_into(src: &[u8], lines: &mut [u32], all: &mut [u32]) -> Verdict
             line: 0,
         };
     }
-    let bytes = table();
     let f = forms();
-    let t = take_lines(&bytes, f, src, lines, all);
+    let t = take_lines(f, src, lines, all);
     let judged = Verdict {
         refusal: t.refusal,
         line: t.line,

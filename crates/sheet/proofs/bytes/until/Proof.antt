@@ -5,25 +5,26 @@ use mathlib.Core.Path.{_≡_, refl, sym, _∙_}
 use Prim.Native.Nat.{_≤_, _-_, _+_}
 use native.Mathlib.Omega.{arith}
 use lib.ListN.{length, drop}
+use borrow.Author.Needs.{needs}
 use Rattle.sheet.specs.Inner.{spanOf}
 use Rattle.sheet.proofs.Parts.{span-stop, span-more, span-end}
 use Rattle.sheet.proofs.bytes.until.Statement.{statement}
 use Rattle.sheet.proofs.bytes.until.Tie as tie
 
 abbrev Inv-loop : tie.InvT-loop
-Inv-loop kinds s at k i₀ i = (i ≤ length s) × (i + spanOf k (drop i s) ≡ at + spanOf k (drop at s))
+Inv-loop s at k i₀ i = (i ≤ length s) × (i + spanOf k (drop i s) ≡ at + spanOf k (drop at s))
 
 abbrev μ-loop : tie.MeasureT-loop
-μ-loop kinds s at k i₀ i = length s - i
+μ-loop s at k i₀ i = length s - i
 
 loop-holds : tie.Need-loop-holds Inv-loop μ-loop
-loop-holds c = (c .before .pre .1, refl)
+loop-holds c = (c .before .pre, refl)
 
 shared-slice-read-kind-of : tie.Need-shared-slice-read-kind-of Inv-loop μ-loop
 shared-slice-read-kind-of c = omega arith
 
 kind-of-requires : tie.Need-kind-of-requires Inv-loop μ-loop
-kind-of-requires c κs = c .before .before .before .before .pre .0
+kind-of-requires c κs = search needs
 
 returns : tie.Need-returns Inv-loop μ-loop
 returns c =

@@ -18,7 +18,7 @@ use Rattle.sheet.proofs.lines.digits_from.Statement.{statement}
 use Rattle.sheet.proofs.lines.digits_from.Tie as tie
 
 abbrev Inv-loop : tie.InvT-loop
-Inv-loop kinds line at most value₀ i₀ value i =
+Inv-loop line at most value₀ i₀ value i =
     (at ≤ i)
     × (i ≤ length line)
     × (value < 10 ^ (i - at))
@@ -26,12 +26,12 @@ Inv-loop kinds line at most value₀ i₀ value i =
     × (digitsFrom value (fieldFrom line i) ≡ digitsFrom 0 (fieldFrom line at))
 
 abbrev μ-loop : tie.MeasureT-loop
-μ-loop kinds line at most value₀ i₀ value i = length line - i
+μ-loop line at most value₀ i₀ value i = length line - i
 
 loop-holds : tie.Need-loop-holds Inv-loop μ-loop
 loop-holds c =
     let z : c .before .args .at - c .before .args .at ≡ 0 = omega arith in
-    (omega arith, c .before .pre .1, rw z (lit< tt), refl, refl)
+    (omega arith, c .before .pre .0, rw z (lit< tt), refl, refl)
 
 sub-if1 : tie.Need-sub-if1 Inv-loop μ-loop
 sub-if1 c = c .before .loop .inv .0
@@ -48,7 +48,7 @@ shared-slice-read-b : tie.Need-shared-slice-read-b Inv-loop μ-loop
 shared-slice-read-b c = omega (arith, c .before .before)
 
 kind-of-requires : tie.Need-kind-of-requires Inv-loop μ-loop
-kind-of-requires c κs = c .before .before .before .before .before .pre .0
+kind-of-requires c κs = search needs
 
 returns-2 : tie.Need-returns-2 Inv-loop μ-loop
 returns-2 c =

@@ -44,7 +44,7 @@ returns-2 c =
 below : (c : tie.Else2) → c .before .position .result < length (c .before .before .before .before .before .before .before .before .args .widths .now)
 below c =
     let k = c .before in
-    let f = k .before .before .before .before .before .before .before .pre .1 in
+    let f = k .before .before .before .before .before .before .before .pre .0 in
     omega (arith, letter-below _ _ _ _ (k .position .ensures) f (c .if2 .left), forms-widths _ _ f)
 
 mul-numbers-in : tie.Need-mul-numbers-in
@@ -56,13 +56,13 @@ shared-slice-read-numbers-in c = below (c .before)
 numbers-in-requires : tie.Need-numbers-in-requires
 numbers-in-requires c κs =
     let p = c .before .before .before .before .before .before .before .before .before .pre in
-    (p .0, p .1 .forms .narrow (c .before .before .position .result), p .2)
+    (p .0 .forms .narrow (c .before .before .position .result), p .1)
 
 returns-3 : tie.Need-returns-3
 returns-3 c =
     let x = c .before .before in
     let k = x .before in
-    line-known _ _ _ _ (one (k .before .before)) _ (k .position .ensures) (k .before .before .before .before .before .before .before .pre .1) (x .if2 .left)
+    line-known _ _ _ _ (one (k .before .before)) _ (k .position .ensures) (k .before .before .before .before .before .before .before .pre .0) (x .if2 .left)
     _ (c .numbers-in .ensures .0) (c .numbers-in .ensures .1)
 
 pub line-in-spec : {M : Type 1} → statement M

@@ -24,11 +24,11 @@ nothing : (w : ℕ) (r : Parsed) → r .ok ≡ false → asNumbers w r ≡ none
 nothing w r e = ap (λ (b : Bool). pick b (some (take w (r .values))) none) e
 
 abbrev Inv-loop : tie.InvT-loop
-Inv-loop kinds line kind width most r₀ at₀ k₀ r at k =
+Inv-loop line kind width most r₀ at₀ k₀ r at k =
     (k ≤ width) × (length (r .values) ≡ 8) × (numbersOf most width (partsFrom comma 2 line) ≡ soFar most line (r .values) width k at comma) × (r .ok ≡ false) × (r .kind ≡ kind)
 
 abbrev μ-loop : tie.MeasureT-loop
-μ-loop kinds line kind width most r₀ at₀ k₀ r at k = width - k
+μ-loop line kind width most r₀ at₀ k₀ r at k = width - k
 
 loop-holds : tie.Need-loop-holds Inv-loop μ-loop
 loop-holds c = (omega arith, refl, rw sub-zero (onto-none _), refl, refl)
@@ -39,7 +39,7 @@ returns c =
     (l .inv .4, nothing (c .before .before .before .before .args .width) (l .r) (l .inv .3) ∙ sym (so-missing _ _ _ _ _ _ _ (c .before .loop-test .taken) (c .if1 .taken)) ∙ sym (l .inv .2))
 
 field-at-requires : tie.Need-field-at-requires Inv-loop μ-loop
-field-at-requires c κs = (c .before .before .before .before .pre .0, omega arith, c .before .before .before .before .pre .2)
+field-at-requires c κs = (omega arith, c .before .before .before .before .pre .1)
 
 returns-2 : tie.Need-returns-2 Inv-loop μ-loop
 returns-2 c =
@@ -74,7 +74,7 @@ loop-again c =
     let h = c .before .before .before .before .before .before .loop in
     let ok = not-false (f .result .ok) (c .before .if2 .left) in
     let t = c .before .before .before .before .before .loop-test .taken in
-    let v : h .k < length (h .r .values) = omega (arith, t, h .inv .1, c .before .before .before .before .before .before .before .before .pre .1) in
+    let v : h .k < length (h .r .values) = omega (arith, t, h .inv .1, c .before .before .before .before .before .before .before .before .pre .0) in
     let n = sym (f .ensures .number) ∙ ap (λ (b : Bool). pick b (some (f .result .value)) none) ok in (
       omega arith,
       simp length-set (h .inv .1),

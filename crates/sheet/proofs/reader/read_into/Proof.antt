@@ -12,21 +12,19 @@ use Rattle.sheet.proofs.reader.read_into.Tie as tie
 returns : tie.Need-returns
 returns c = verdict-refused 1 0 (omega arith) (read-long (c .before .before .before .before .args .src .now) (c .if1 .taken))
 
-table-requires : tie.Need-table-requires
-table-requires c κs = search needs
-
 forms-requires : tie.Need-forms-requires
 forms-requires c κs = search needs
 
 take-lines-requires : tie.Need-take-lines-requires
 take-lines-requires c κs =
-    let s = c .before .before .before .before .before .before .before .before .before in
-    (c .before .before .before .before .table .ensures, c .before .before .before .forms .ensures, text-start (s .args .src .now) (s .pre) (c .before .before .before .before .before .if1 .left))
+    let f = c .before .before in
+    let s = f .before .before .before .before .before in
+    (f .forms .ensures, text-start (s .args .src .now) (s .pre) (f .before .if1 .left))
 
 ended-requires : tie.Need-ended-requires
 ended-requires c κs =
     let t = c .before .before .before .before .before in
-    t .take-lines .kept .1 .1 .1 .0 ∙ ap length (t .before .before .before .before .before .before .before .before .before .before .pre .no-lines)
+    t .take-lines .kept .1 .1 .0 ∙ ap length (t .before .before .before .before .before .before .before .before .pre .no-lines)
 
 same-length : tie.Need-same-length
 same-length c = search needs
@@ -37,14 +35,13 @@ same-length-2 c = search needs
 returns-2 : tie.Need-returns-2
 returns-2 c =
     let t = c .before .before .before .before .before .before in
-    c .ended .ensures .of (readOf (t .before .before .before .before .before .before .before .before .before .before .args .src .now)) _ (t .take-lines .ensures)
+    c .ended .ensures .of (readOf (t .before .before .before .before .before .before .before .before .args .src .now)) _ (t .take-lines .ensures)
 
 pub read-into-spec : {M : Type 1} → statement M
 read-into-spec =
     tie.close
     (tie.spec
     returns
-    table-requires
     forms-requires
     take-lines-requires
     ended-requires

@@ -18,7 +18,7 @@ use Rattle.sheet.proofs.reader.take_next.Tie as tie
 ends : (c : tie.After-e) → let s = c .before .before .before .before .before in EndIs (s .args .src .now) (s .args .at) (At (c .e .given .0 .0))
 ends c =
     let s = c .before .before .before .before .before in
-    subst (λ (r : LineEnd). EndIs (s .args .src .now) (s .args .at) r) (c .e .given .1) (s .pre .2)
+    subst (λ (r : LineEnd). EndIs (s .args .src .now) (s .args .at) r) (c .e .given .1) (s .pre .1)
 
 ends-inside : (c : tie.After-e) → let s = c .before .before .before .before .before in let e = c .e .given .0 .0 in (s .args .at ≤ e) × (e < length (s .args .src .now))
 ends-inside c =
@@ -65,13 +65,13 @@ returns : tie.Need-returns
 returns c =
     let s = c .before .before .before .before .before .before .before .before .before .before .before .before .before .before .before in
     let l = c .before .before .before in
-    turn-bad (s .args .src .now) (s .args .at) (s .pre .3) _ (ends (c .before .before .before .before .before .before .before .before .before .before)) (s .pre .1) (l .line-in .result) (l .line-in .ensures) (not-true (l .line-in .result .ok) (c .before .if1 .taken)) (c .stop3 .result) (c .stop3 .ensures)
+    turn-bad (s .args .src .now) (s .args .at) (s .pre .2) _ (ends (c .before .before .before .before .before .before .before .before .before .before)) (s .pre .0) (l .line-in .result) (l .line-in .ensures) (not-true (l .line-in .result .ok) (c .before .if1 .taken)) (c .stop3 .result) (c .stop3 .ensures)
 
 take-line-requires : tie.Need-take-line-requires
 take-line-requires c κs =
     let s = c .before .before .before .before .before .before .before .before .before .before .before .before .before .before .before .before .before in
     let l = c .before .before .before .before .before in
-    (omega (arith, l .line-in .ensures .known (not-false (l .line-in .result .ok) (c .before .before .before .if1 .left)), ap length (s .pre .1 .letters-are)), record { before = s .pre .3 .before; stored = s .pre .3 .stored })
+    (omega (arith, l .line-in .ensures .known (not-false (l .line-in .result .ok) (c .before .before .before .if1 .left)), ap length (s .pre .0 .letters-are)), record { before = s .pre .2 .before; stored = s .pre .2 .stored })
 
 stop-requires-4 : tie.Need-stop-requires-4
 stop-requires-4 c κs = search needs
@@ -87,22 +87,22 @@ returns-2 c =
     let s = c .before .before .before .before .before .before .before .before .before .before .before .before .before .before .before .before .before .before .before .before .before .before .before .before in
     let l = c .before .before .before .before .before .before .before .before .before .before .before .before in
     let t = c .before .before .before .before .before .before in
-    turn-fault (s .args .src .now) (s .args .at) (s .pre .3) _ (ends (c .before .before .before .before .before .before .before .before .before .before .before .before .before .before .before .before .before .before .before)) (s .pre .1) (l .line-in .result) (l .line-in .ensures) (not-false (l .line-in .result .ok) (c .before .before .before .before .before .before .before .before .before .before .if1 .left)) (t .take-line .result) (t .take-line .ensures) (c .before .if2 .taken) (c .stop4 .result) (c .stop4 .ensures)
+    turn-fault (s .args .src .now) (s .args .at) (s .pre .2) _ (ends (c .before .before .before .before .before .before .before .before .before .before .before .before .before .before .before .before .before .before .before)) (s .pre .0) (l .line-in .result) (l .line-in .ensures) (not-false (l .line-in .result .ok) (c .before .before .before .before .before .before .before .before .before .before .if1 .left)) (t .take-line .result) (t .take-line .ensures) (c .before .if2 .taken) (c .stop4 .result) (c .stop4 .ensures)
 
-add-t29 : tie.Need-add-t29
-add-t29 c =
-    let R = c .before .before .before .before .before .before .before .before .before .before .before .before .before .before .before .before .before .before .before .before .before .before .before .pre .3 in
+add-t28 : tie.Need-add-t28
+add-t28 c =
+    let R = c .before .before .before .before .before .before .before .before .before .before .before .before .before .before .before .before .before .before .before .before .before .before .before .pre .2 in
     omega (arith, R .next, stored-few (R .before) _ _ (R .stored))
 
 returns-3 : tie.Need-returns-3
 returns-3 c =
     let s = c .before .before .before .before .before .before in
-    turn-over (s .args .src .now) (s .args .at) (s .pre .3) (subst (λ (r : LineEnd). EndIs (s .args .src .now) (s .args .at) r) (c .before .enum-told .given .1) (s .pre .2)) (c .stop .result) (c .stop .ensures)
+    turn-over (s .args .src .now) (s .args .at) (s .pre .2) (subst (λ (r : LineEnd). EndIs (s .args .src .now) (s .args .at) r) (c .before .enum-told .given .1) (s .pre .1)) (c .stop .result) (c .stop .ensures)
 
 returns-4 : tie.Need-returns-4
 returns-4 c =
     let s = c .before .before .before .before .before .before in
-    turn-cut (s .args .src .now) (s .args .at) (s .pre .3) (subst (λ (r : LineEnd). EndIs (s .args .src .now) (s .args .at) r) (c .before .enum-told2 .given .1) (s .pre .2)) (c .stop2 .result) (c .stop2 .ensures)
+    turn-cut (s .args .src .now) (s .args .at) (s .pre .2) (subst (λ (r : LineEnd). EndIs (s .args .src .now) (s .args .at) r) (c .before .enum-told2 .given .1) (s .pre .1)) (c .stop2 .result) (c .stop2 .ensures)
 
 same-length-3 : tie.Need-same-length-3
 same-length-3 c = search needs
@@ -115,7 +115,7 @@ returns-5 c =
     let s = c .before .before .before .before .before .before .before .before .before .before .before .before .before .before .before .before .before .before .before .before .before .before .before in
     let l = c .before .before .before .before .before .before .before .before .before .before .before in
     let t = c .before .before .before .before .before in
-    turn-taken (s .args .src .now) (s .args .at) (s .pre .3) _ (ends (c .before .before .before .before .before .before .before .before .before .before .before .before .before .before .before .before .before .before)) (s .pre .1) (l .line-in .result) (l .line-in .ensures) (not-false (l .line-in .result .ok) (c .before .before .before .before .before .before .before .before .before .if1 .left)) (t .take-line .result) (t .take-line .ensures) (c .if2 .left)
+    turn-taken (s .args .src .now) (s .args .at) (s .pre .2) _ (ends (c .before .before .before .before .before .before .before .before .before .before .before .before .before .before .before .before .before .before)) (s .pre .0) (l .line-in .result) (l .line-in .ensures) (not-false (l .line-in .result .ok) (c .before .before .before .before .before .before .before .before .before .if1 .left)) (t .take-line .result) (t .take-line .ensures) (c .if2 .left)
 
 pub take-next-spec : {M : Type 1} → statement M
 take-next-spec =
@@ -139,7 +139,7 @@ take-next-spec =
     same-length
     same-length-2
     returns-2
-    add-t29
+    add-t28
     returns-3
     returns-4
     same-length-3
