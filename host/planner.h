@@ -14,8 +14,9 @@
  *   number of PlannerRefusal, `line` is the line at fault, counted from 1, or 0 where no line is at fault. With a
  *   refusal every other field is 0.
  * - Kept, of a buffer, means: each element holds what it held before the call.
- * - A call keeps nothing between calls, allocates nothing and needs of the C library memcpy and memset alone. Calls may
- *   run on several threads at once, each with buffers of its own; they may share a sheet that none of them writes.
+ * - A call keeps nothing between calls, allocates nothing, reads no table of constants (the archive has at most 64 bytes
+ *   of them) and needs of the C library memcpy and memset alone. Calls may run on several threads at once, each with
+ *   buffers of its own; they may share a sheet that none of them writes.
  * - A call's own memory is the stack, at most PLANNER_MOST_STACK bytes. That and the figure at each call are measured
  *   (tests/stack, on a sheet with all places and steps; docs/DECISIONS.md, "Stack"), not proved.
  */
@@ -60,6 +61,15 @@ enum PlannerRefusal {
     PLANNER_NOT_ON_FRONT = 10,    /* a journey number not on the front */
     PLANNER_ROOM_PATH = 11,       /* a path buffer shorter than the arrival step + 1 */
     PLANNER_ROOM_SHEET = 12       /* a buffer shorter than the sheet to be written */
+};
+
+/* The kinds of bytes. */
+enum PlannerKind {
+    PLANNER_DIGIT = 0,      /* 0 to 9: bytes 48 to 57 */
+    PLANNER_COMMA = 1,      /* byte 44 */
+    PLANNER_LINE_FEED = 2,  /* byte 10 */
+    PLANNER_LETTER = 3,     /* A to Z: bytes 65 to 90 */
+    PLANNER_OTHER = 4       /* every other byte */
 };
 
 /* What planner_read hands back: the sheet as three groups of numbers, zeros past the last line of each. */
@@ -144,6 +154,13 @@ PlannerFrontAnswer planner_front(const uint8_t *sheet, size_t sheet_len, uint32_
  * Stack: 183,096 bytes measured. */
 PlannerJourneyAnswer planner_journey(const uint8_t *sheet, size_t sheet_len, uint32_t number, uint32_t *arrivals,
                                      size_t arrivals_len, uint32_t *path, size_t path_len);
+
+/* Tells the kind of a byte as the reader takes it, from comparisons with the ends of the kinds' ranges: the archive holds
+ * no table of kinds (document 02, E4).
+ *
+ * Hands back: one number of PlannerKind. Refuses nothing.
+ * Lent to be written: nothing. */
+uint32_t planner_kind(uint8_t byte);
 
 #ifdef __cplusplus
 }

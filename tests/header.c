@@ -1,5 +1,5 @@
 /* host/planner.h against the archive: the layout of its structs, with the numbers that the Rust wrapper's test asserts
- * (host/rust/src/calls.rs), and a sheet on standard input read and written back to standard output. */
+ * (host/rust/src/calls.rs), a kind of byte, and a sheet on standard input read and written back to standard output. */
 #include "../host/planner.h"
 
 #include <stdio.h>
@@ -41,6 +41,8 @@ int main(void)
     PlannerSheetWritten written = planner_write(
         read.head, PLANNER_HEAD_WIDTH, read.corridors, read.lines[1] * PLANNER_CORRIDOR_WIDTH, read.occupancies,
         read.lines[2] * PLANNER_OCCUPANCY_WIDTH, copy, sizeof copy);
+    if (planner_kind(',') != PLANNER_COMMA || planner_kind('Z' + 1) != PLANNER_OTHER)
+        return 1;
     if (read.refusal != PLANNER_SERVED || written.refusal != PLANNER_SERVED || read.lines[0] != 1)
         return 1;
     return fwrite(copy, 1, written.bytes, stdout) == written.bytes ? 0 : 1;

@@ -57,6 +57,12 @@ static void *run_journey(void *unused)
     return unused;
 }
 
+static void *run_kind(void *unused)
+{
+    refusal = planner_kind('0') != PLANNER_DIGIT;
+    return unused;
+}
+
 /* The bytes of a new thread's stack that differ from the pattern after the function ran. */
 static size_t touched(void *(*run)(void *))
 {
@@ -76,7 +82,8 @@ static size_t touched(void *(*run)(void *))
 int main(void)
 {
     struct { const char *name; void *(*run)(void *); } calls[] = {
-        {"planner_read", run_read}, {"planner_write", run_write}, {"planner_front", run_front}, {"planner_journey", run_journey}};
+        {"planner_read", run_read}, {"planner_write", run_write}, {"planner_front", run_front}, {"planner_journey", run_journey},
+        {"planner_kind", run_kind}};
     size_t empty = touched(idle);
     int status = 0;
     write_sheet();

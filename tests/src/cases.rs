@@ -5,6 +5,8 @@
 //! ascending lines of that letter, `{N*TEXT}` is a text N times. A case of groups is
 //! `REFUSAL LINE BUFFER [HEAD] [CORRIDORS] [OCCUPANCIES] REMARK`, with numbers parted by blanks.
 //!
+//! The kinds of bytes are 256 numbers, parted by blanks and line ends.
+//!
 //! A case of a front has several lines: `= NAME`, the sheet, at times `L,ARRIVALS,LIST` with the lengths of the lent
 //! arrays (without it, the program's), and the answer: `R,refusal,line`, or `F,costs,arrivals`, `A,` with each row of
 //! the arrivals table, and for each cost `J,` with its row of the list and `P,` with the places. With
@@ -53,6 +55,11 @@ pub fn sheet_cases(content: &str) -> Vec<SheetCase> {
 /// The cases of groups in a stored file's content.
 pub fn groups_cases(content: &str) -> Vec<GroupsCase> {
     case_lines(content).map(groups_case).collect()
+}
+
+/// The kinds of the bytes in a stored file's content, from byte 0 on.
+pub fn kinds(content: &str) -> Vec<u32> {
+    case_lines(content).flat_map(str::split_whitespace).map(|kind| kind.parse().expect("a kind is a number")).collect()
 }
 
 /// The cases of fronts in a stored file's content.

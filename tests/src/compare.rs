@@ -6,6 +6,16 @@ use crate::lent::Lent;
 use crate::random::Random;
 use crate::{planner, sheet};
 
+/// The kind of a byte, from the planner and from the reference.
+pub fn compare_kind(byte: u8) -> Result<u32, String> {
+    let [answer, expected] = [planner::kind(byte), sheet::kind(byte)];
+    if answer == expected {
+        Ok(answer)
+    } else {
+        Err(report("the kinds differ", &format!("byte {byte}"), &answer.to_string(), &expected.to_string()))
+    }
+}
+
 /// Both readers on a text; where it is read, the planner writes it back and must give its own bytes.
 pub fn compare_reading(text: &[u8], random: &mut Random) -> Result<SheetRead, String> {
     let lent = Lent::holding(text, random, b"0123456789,\nSCO");

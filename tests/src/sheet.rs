@@ -1,4 +1,4 @@
-// The reference: a reader and a writer of corridor sheets, written from document 01 alone.
+// The reference: a reader and a writer of corridor sheets and the kinds of their bytes, written from document 01 alone.
 
 use crate::answers::{SheetRead, SheetWritten};
 
@@ -18,6 +18,17 @@ const MOST_DIGITS: usize = 5;
 struct Refusal {
     number: u32,
     line: u32,
+}
+
+/// The kind of a byte, by its number.
+pub fn kind(byte: u8) -> u32 {
+    match byte {
+        b'0'..=b'9' => 0,
+        b',' => 1,
+        b'\n' => 2,
+        b'A'..=b'Z' => 3,
+        _ => 4,
+    }
 }
 
 /// What the reader hands back for a text.

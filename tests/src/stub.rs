@@ -1,6 +1,6 @@
 //! The planner's calls, answered by copies of the references; build.rs puts a slip into one of them.
 
-pub use slipped_sheet::{read_sheet as read, write_sheet as write};
+pub use slipped_sheet::{kind, read_sheet as read, write_sheet as write};
 pub use slipped_step_by_step::{front, journey};
 
 #[allow(unused)]

@@ -1,5 +1,6 @@
 // The calls for the host (document 01, "What is handed back"): each hands on to the function below it with the same promise.
 ghost use mathlib.Core.Path.{_≡_};
+ghost use Rattle.sheet.specs.Bytes.{kindOf};
 ghost use Rattle.sheet.specs.Calls.{readCall, writeCall, writeEnd};
 ghost use Rattle.journeys.specs.Calls.{frontEnd, frontCall, journeyEnd, journeyCall};
 use journeys::FrontAnswer;
@@ -8,6 +9,7 @@ use journeys::calls::front;
 use journeys::calls::journey;
 use sheet::SheetRead;
 use sheet::SheetWritten;
+use sheet::bytes::kind_of;
 use sheet::reader::read;
 use sheet::writer::write;
 
@@ -56,4 +58,12 @@ pub extern "C" fn planner_journey(
         ≡ journeyCall (now (sheet .entry)) number (now (arrivals .entry)) (now (path .entry)) ⌝ }
 {
     journey(sheet, number, arrivals, path)
+}
+
+// The kind of a byte: digit 0, comma 1, line feed 2, letter 3, other 4.
+#[no_mangle]
+pub extern "C" fn planner_kind(byte: u8) -> u32
+    ensures { λ r. ⌜ r ≡ kindOf byte ⌝ }
+{
+    kind_of(byte) as u32
 }

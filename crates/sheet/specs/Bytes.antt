@@ -1,12 +1,12 @@
--- The kinds of bytes (document 01, "The sheet": "Each byte's kind (digit, comma, line feed, letter, other) comes from a table of 256 kinds"),
--- and the parts of a text between the bytes of one kind.
+-- The kinds of bytes (document 01, "The sheet": "Each byte's kind (digit, comma, line feed, letter, other)"; document 02, E4: "from comparisons with the ends
+-- of its range"), and the parts of a text between the bytes of one kind.
 use mathlib.Core.Bool.{_&&_}
 use mathlib.Core.List.{List, [], _∷_}
 use Prim.Native.Nat.{ℕ}
 use lib.Dec.{leb, eqb}
 use Rattle.sheet.specs.Lists.{pick}
 
--- the kinds, by the numbers that the table holds
+-- the kinds, by the numbers that the table gave
 abbrev pub digit : ℕ
 digit = 0
 

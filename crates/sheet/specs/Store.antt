@@ -1,5 +1,5 @@
 -- A sheet as the code holds it: in one array the groups at full length, in the order of kinds, zeros past the last line of each; and the count of
--- lines of each kind. The contracts of the four calls for the host cite nothing of this file.
+-- lines of each kind. The contracts of the calls for the host cite nothing of this file.
 use mathlib.Core.Path.{_≡_}
 use mathlib.Core.List.{List, [], _∷_, _++_, map}
 use Prim.Native.Nat.{ℕ, zero, suc, _+_, _*_}

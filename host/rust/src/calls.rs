@@ -122,6 +122,8 @@ unsafe extern "C" {
         path: *mut u32,
         path_len: usize,
     ) -> JourneyAnswer;
+
+    fn planner_kind(byte: u8) -> u32;
 }
 
 /// Reads a sheet: its groups by value. Refuses with 1 to 7.
@@ -172,6 +174,12 @@ pub fn journey(sheet: &[u8], number: u32, arrivals: &mut [u32], path: &mut [u32]
             path.len(),
         )
     }
+}
+
+/// The kind of a byte: digit 0, comma 1, line feed 2, letter 3, other 4.
+pub fn kind(byte: u8) -> u32 {
+    // Safety: the call takes a number and has no precondition.
+    unsafe { planner_kind(byte) }
 }
 
 #[cfg(test)]

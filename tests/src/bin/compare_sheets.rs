@@ -1,10 +1,12 @@
-//! Compares planner_read and planner_write with the reference, on the stored cases and on random inputs.
+//! Compares planner_read, planner_write and planner_kind with the reference, on the stored cases and on random inputs;
+//! the kinds of all 256 bytes, each byte at each position of a sheet too.
 //!
-//! `compare_sheets [--seed N] [--runs N]`: each run is one text for the reader and three groups for the
-//! writer. The exit status is 0 if all answers agree and each refusal number, size and kind of damage came up often.
+//! `compare_sheets [--seed N] [--runs N]`: each run is one text for the reader, three groups for the writer and the kind
+//! of one byte, the bytes in turn. The exit status is 0 if all answers agree and each refusal number, size and kind of
+//! damage came up often.
 
-use planner_tests::cases::{groups_cases, sheet_cases};
-use planner_tests::compare::{compare_reading, compare_writing};
+use planner_tests::cases::{groups_cases, kinds, sheet_cases};
+use planner_tests::compare::{compare_kind, compare_reading, compare_writing};
 use planner_tests::damage::of_groups::{GROUP_DAMAGES, damage_groups};
 use planner_tests::damage::of_text::{TEXT_DAMAGES, damage_text, random_bytes};
 use planner_tests::groups::{Groups, random_groups};
@@ -14,6 +16,10 @@ use std::process::ExitCode;
 
 const SHEET_CASES: &str = include_str!("../../cases/sheets.txt");
 const GROUPS_CASES: &str = include_str!("../../cases/groups.txt");
+const KINDS: &str = include_str!("../../cases/kinds.txt");
+
+/// A sheet with a line of each kind, in which each byte is tried at each position.
+const SHORT_SHEET: &[u8] = b"S,12,9,0,11,1,0,5\nC,0,10,1,2,3\nO,1,2,30\n";
 
 /// The count of bytes of the longest sheet that is served.
 const LONGEST: usize = 10_017;
@@ -38,12 +44,17 @@ fn main() -> ExitCode {
 /// Runs all comparisons; hands back what came up, or the first failure.
 fn compared(options: &Options) -> Result<Vec<Counts>, String> {
     let mut tally = Tally::default();
-    let mut random = program::runs(options, |_, random| {
+    let mut random = program::runs(options, |run, random| {
         compare_random_text(random, &mut tally)?;
-        compare_random_groups(random, &mut tally)
+        compare_random_groups(random, &mut tally)?;
+        compare_kind((run % 256) as u8).map(|_| ())
     })?;
     let cases = compare_cases(&mut random)?;
     println!("{cases} stored cases");
+    compare_kinds()?;
+    println!("256 kinds of bytes");
+    let texts = compare_each_byte(&mut random)?;
+    println!("{texts} texts with each byte at each position");
     Ok(counts(&tally))
 }
 
@@ -107,6 +118,31 @@ fn compare_cases(random: &mut Random) -> Result<usize, String> {
         expect_answer(&case.remark, (answer.refusal, answer.line), (case.refusal, case.line))?;
     }
     Ok(sheets.len() + groups.len())
+}
+
+/// Compares the kinds of all bytes, also with those stored.
+fn compare_kinds() -> Result<(), String> {
+    let stored = kinds(KINDS);
+    for byte in 0..=255 {
+        let kind = compare_kind(byte)?;
+        if Some(&kind) != stored.get(usize::from(byte)) {
+            return Err(format!("byte {byte} has the kind {kind}, not the stored one"));
+        }
+    }
+    if stored.len() == 256 { Ok(()) } else { Err(format!("{} kinds are stored", stored.len())) }
+}
+
+/// Compares the readers on the short sheet with each byte at each position; hands back how many texts there are.
+fn compare_each_byte(random: &mut Random) -> Result<usize, String> {
+    let texts = (0..SHORT_SHEET.len()).flat_map(|at| (0..=255).map(move |byte| (at, byte)));
+    let mut count = 0;
+    for (at, byte) in texts {
+        let mut text = SHORT_SHEET.to_vec();
+        text[at] = byte;
+        compare_reading(&text, random)?;
+        count += 1;
+    }
+    Ok(count)
 }
 
 /// A failure where a stored case's refusal number and line are not those expected.

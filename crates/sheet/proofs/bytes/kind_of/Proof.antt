@@ -8,16 +8,16 @@ use Rattle.sheet.specs.Bytes.{kindOf}
 use Rattle.sheet.proofs.bytes.kind_of.Statement.{statement}
 use Rattle.sheet.proofs.bytes.kind_of.Tie as tie
 
--- no digit
-no-digit : (c : tie.Else1) → let b = c .before .args .b in leb 48 b && leb b 57 ≡ false
-no-digit c = c .if1 .left
-
 returns : tie.Need-returns
 unfolding kindOf
 returns c =
     let b = c .before .args .b in
     let t : leb 48 b && leb b 57 ≡ true = c .if1 .taken in
     rw t refl
+
+-- no digit
+no-digit : (c : tie.Else1) → let b = c .before .args .b in leb 48 b && leb b 57 ≡ false
+no-digit c = c .if1 .left
 
 returns-2 : tie.Need-returns-2
 unfolding kindOf
