@@ -1,7 +1,8 @@
 /* The planner's calls for a host in C or C++, in target/staticlib/libplanner.a (made by `rt staticlib planner`).
  *
  * The sheet, the front, the tie rule and the refusals are those of document 01, "The corridor sheet and the journeys
- * it offers"; its open points are decided in docs/DECISIONS.md. What each call hands back and leaves in every lent
+ * it offers", with what document 02 changed (E4: the kinds of bytes); their open points are decided in
+ * docs/DECISIONS.md. What each call hands back and leaves in every lent
  * buffer is proved of the calls in crates/planner/src/lib.rt. That this header declares those calls is not proved;
  * tests/host runs each of them through it.
  *
@@ -10,13 +11,13 @@
  *   the length is 0 (pass a valid pointer), and a pointer to uint32_t is aligned as one.
  * - A buffer lent to be written overlaps neither the other buffers lent to the same call nor the sheet or the groups.
  *   This is not checked, and nothing is promised where it is broken.
- * - A call ends, writes only what it is lent to be written, and refuses rather than fails: `refusal` is 0 or one
- *   number of PlannerRefusal, `line` is the line at fault, counted from 1, or 0 where no line is at fault. With a
- *   refusal every other field is 0.
+ * - A call ends and writes only what it is lent to be written. A call of a sheet or of groups refuses rather than
+ *   fails: `refusal` is 0 or one number of PlannerRefusal, `line` is the line at fault, counted from 1, or 0 where no
+ *   line is at fault. With a refusal every other field is 0.
  * - Kept, of a buffer, means: each element holds what it held before the call.
- * - A call keeps nothing between calls, allocates nothing, reads no table of constants (the archive has at most 64 bytes
- *   of them) and needs of the C library memcpy and memset alone. Calls may run on several threads at once, each with
- *   buffers of its own; they may share a sheet that none of them writes.
+ * - A call keeps nothing between calls, allocates nothing and needs of the C library memcpy and memset alone. The
+ *   archive has no data that is written and at most 32 bytes of constants beside its code. Calls may run on several
+ *   threads at once, each with buffers of its own; they may share a sheet that none of them writes.
  * - A call's own memory is the stack, at most PLANNER_MOST_STACK bytes. That and the figure at each call are measured
  *   (tests/stack, on a sheet with all places and steps; docs/DECISIONS.md, "Stack"), not proved.
  */
@@ -65,11 +66,11 @@ enum PlannerRefusal {
 
 /* The kinds of bytes. */
 enum PlannerKind {
-    PLANNER_DIGIT = 0,      /* 0 to 9: bytes 48 to 57 */
-    PLANNER_COMMA = 1,      /* byte 44 */
-    PLANNER_LINE_FEED = 2,  /* byte 10 */
-    PLANNER_LETTER = 3,     /* A to Z: bytes 65 to 90 */
-    PLANNER_OTHER = 4       /* every other byte */
+    PLANNER_KIND_DIGIT = 0,      /* 0 to 9: bytes 48 to 57 */
+    PLANNER_KIND_COMMA = 1,      /* byte 44 */
+    PLANNER_KIND_LINE_FEED = 2,  /* byte 10 */
+    PLANNER_KIND_LETTER = 3,     /* A to Z: bytes 65 to 90 */
+    PLANNER_KIND_OTHER = 4       /* every other byte */
 };
 
 /* What planner_read hands back: the sheet as three groups of numbers, zeros past the last line of each. */
@@ -155,11 +156,11 @@ PlannerFrontAnswer planner_front(const uint8_t *sheet, size_t sheet_len, uint32_
 PlannerJourneyAnswer planner_journey(const uint8_t *sheet, size_t sheet_len, uint32_t number, uint32_t *arrivals,
                                      size_t arrivals_len, uint32_t *path, size_t path_len);
 
-/* Tells the kind of a byte as the reader takes it, from comparisons with the ends of the kinds' ranges: the archive holds
- * no table of kinds (document 02, E4).
+/* Tells the kind of a byte as the reader takes it.
  *
  * Hands back: one number of PlannerKind. Refuses nothing.
- * Lent to be written: nothing. */
+ * Lent to be written: nothing.
+ * Stack: 0 bytes measured. */
 uint32_t planner_kind(uint8_t byte);
 
 #ifdef __cplusplus

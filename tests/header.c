@@ -41,7 +41,7 @@ int main(void)
     PlannerSheetWritten written = planner_write(
         read.head, PLANNER_HEAD_WIDTH, read.corridors, read.lines[1] * PLANNER_CORRIDOR_WIDTH, read.occupancies,
         read.lines[2] * PLANNER_OCCUPANCY_WIDTH, copy, sizeof copy);
-    if (planner_kind(',') != PLANNER_COMMA || planner_kind('Z' + 1) != PLANNER_OTHER)
+    if (planner_kind(',') != PLANNER_KIND_COMMA || planner_kind('Z' + 1) != PLANNER_KIND_OTHER)
         return 1;
     if (read.refusal != PLANNER_SERVED || written.refusal != PLANNER_SERVED || read.lines[0] != 1)
         return 1;

@@ -59,7 +59,7 @@ static void *run_journey(void *unused)
 
 static void *run_kind(void *unused)
 {
-    refusal = planner_kind('0') != PLANNER_DIGIT;
+    refusal = planner_kind('0') != PLANNER_KIND_DIGIT;
     return unused;
 }
 

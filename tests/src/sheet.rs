@@ -1,4 +1,5 @@
-// The reference: a reader and a writer of corridor sheets and the kinds of their bytes, written from document 01 alone.
+// The reference: a reader and a writer of corridor sheets, written from document 01 alone, and the kinds of bytes, with
+// the numbers that document 02's E4 keeps and the letters of docs/DECISIONS.md, 6.
 
 use crate::answers::{SheetRead, SheetWritten};
 

@@ -1,4 +1,5 @@
-// The calls for the host (document 01, "What is handed back"): each hands on to the function below it with the same promise.
+// The calls for the host (document 01, "What is handed back"; the kind of a byte, document 02, E4): each hands on to the function below it with the same
+// promise.
 ghost use mathlib.Core.Path.{_≡_};
 ghost use Rattle.sheet.specs.Bytes.{kindOf};
 ghost use Rattle.sheet.specs.Calls.{readCall, writeCall, writeEnd};

@@ -1,6 +1,6 @@
--- The table of 256 kinds (document 01, "The sheet": "Each byte's kind (digit, comma, line feed, letter, other) comes from a table of 256 kinds"), which was
--- the code's and stands here alone (document 02, E4: "For each of the 256 bytes it is the kind that the table gave, and the table goes"). Sixteen bytes to a
--- row, from byte 0 on.
+-- The table of kinds (document 01, "The sheet": "Each byte's kind (digit, comma, line feed, letter, other) comes from a table of 256 kinds"), for what
+-- document 02 says of it, E4: "For each of the 256 bytes it is the kind that the table gave, and the table goes". No code has it. Sixteen bytes to a row,
+-- from byte 0 on.
 use mathlib.Core.List.{List, [], _∷_}
 use Prim.Native.Nat.{ℕ}
 

@@ -11,9 +11,9 @@ pub const COMMA: u8 = 1;
 
 pub const LINE_FEED: u8 = 2;
 
-pub const LETTER: u8 = 3;
+const LETTER: u8 = 3;
 
-pub const OTHER: u8 = 4;
+const OTHER: u8 = 4;
 
 // The kind of a byte.
 pub fn kind_of(b: u8) -> u8

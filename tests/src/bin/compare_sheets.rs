@@ -1,9 +1,8 @@
-//! Compares planner_read, planner_write and planner_kind with the reference, on the stored cases and on random inputs;
-//! the kinds of all 256 bytes, each byte at each position of a sheet too.
+//! Compares planner_read and planner_write with the reference, on the stored cases and on random inputs, and
+//! planner_kind on all 256 bytes; planner_read also on a sheet with each byte at each position.
 //!
-//! `compare_sheets [--seed N] [--runs N]`: each run is one text for the reader, three groups for the writer and the kind
-//! of one byte, the bytes in turn. The exit status is 0 if all answers agree and each refusal number, size and kind of
-//! damage came up often.
+//! `compare_sheets [--seed N] [--runs N]`: each run is one text for the reader and three groups for the
+//! writer. The exit status is 0 if all answers agree and each refusal number, size and kind of damage came up often.
 
 use planner_tests::cases::{groups_cases, kinds, sheet_cases};
 use planner_tests::compare::{compare_kind, compare_reading, compare_writing};
@@ -44,10 +43,9 @@ fn main() -> ExitCode {
 /// Runs all comparisons; hands back what came up, or the first failure.
 fn compared(options: &Options) -> Result<Vec<Counts>, String> {
     let mut tally = Tally::default();
-    let mut random = program::runs(options, |run, random| {
+    let mut random = program::runs(options, |_, random| {
         compare_random_text(random, &mut tally)?;
-        compare_random_groups(random, &mut tally)?;
-        compare_kind((run % 256) as u8).map(|_| ())
+        compare_random_groups(random, &mut tally)
     })?;
     let cases = compare_cases(&mut random)?;
     println!("{cases} stored cases");

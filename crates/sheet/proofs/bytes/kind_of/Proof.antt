@@ -15,7 +15,7 @@ returns c =
     let t : leb 48 b && leb b 57 ≡ true = c .if1 .taken in
     rw t refl
 
--- no digit
+-- what the first test left
 no-digit : (c : tie.Else1) → let b = c .before .args .b in leb 48 b && leb b 57 ≡ false
 no-digit c = c .if1 .left
 
