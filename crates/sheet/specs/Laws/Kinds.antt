@@ -14,7 +14,7 @@ use Rattle.sheet.specs.Sorting.{Ascending}
 use Rattle.sheet.specs.Kinds.{Kind, width, kindS, kinds}
 use Rattle.sheet.specs.Store.{kindCount, kindAt}
 use Rattle.sheet.specs.Laws.Order.{and-true}
-use Rattle.sheet.specs.Laws.Members.{all-true, mem-at, getD-map}
+use Rattle.sheet.specs.Laws.Members.{all-true, all-at, mem-at, getD-map}
 use Rattle.sheet.specs.Laws.Ascending.{ascending-once}
 
 pub kind-in : (k : ℕ) → k < kindCount → kindAt k ∈ kinds
@@ -36,20 +36,8 @@ most-small k h = leb-true (kindAt k .most) 256 (kinds-all (λ j. leb (j .most) 2
 pub key-inside : (k : ℕ) → k < kindCount → kindAt k .key ≤ width (kindAt k)
 key-inside k h = leb-true (kindAt k .key) (width (kindAt k)) (kinds-all (λ j. leb (j .key) (width j)) refl k h)
 
--- the kinds of a list stand at their orders, from n on
-abbrev Placed : ℕ → List Kind → Bool
-Placed n [] = true
-Placed n (k ∷ ks) = eqb (k .order) n && Placed (suc n) ks
-
-placed-at : (n : ℕ) (ks : List Kind) → Placed n ks ≡ true → (i : ℕ) → i < length ks → getD ks i kindS .order ≡ n + i
-placed-at n [] e i h = absurd (omega arith)
-placed-at n (k ∷ ks) e zero h = let z = eqb-true (k .order) n (and-true (eqb (k .order) n) (Placed (suc n) ks) e .0) in omega (arith, z)
-placed-at n (k ∷ ks) e (suc i) h =
-    let z = placed-at (suc n) ks (and-true (eqb (k .order) n) (Placed (suc n) ks) e .1) i (omega arith) in
-    omega (arith, z)
-
 pub order-at : (k : ℕ) → k < kindCount → kindAt k .order ≡ k
-order-at k h = omega (arith, placed-at 0 kinds refl k h)
+order-at k h = eqb-true (kindAt k .order) k (all-at (λ n j. eqb (j .order) n) kindS kinds refl k h)
 
 pub order-below : (j : Kind) → j ∈ kinds → j .order < kindCount
 order-below j m = ltb-true (j .order) kindCount (all-true (λ i. ltb (i .order) kindCount) kinds refl j m)

@@ -1,10 +1,11 @@
 -- Laws of members: of appended lists, of filters and tests, of lists made member by member; and minimal members under a decided strict order.
 use mathlib.Core.Path.{_≡_, refl, sym, _∙_, ap, subst}
 use mathlib.Core.Logic.{_⊎_, inl, inr}
-use mathlib.Core.Bool.{Bool, true, false, true≢false}
+use mathlib.Core.Bool.{Bool, true, false, _&&_, true≢false}
 use mathlib.Core.List.{List, [], _∷_, _++_, map}
-use Prim.Native.Nat.{ℕ, zero, suc, _<_}
+use Prim.Native.Nat.{ℕ, zero, suc, _+_, _<_}
 use native.Mathlib.Omega.{arith}
+use native.Mathlib.Nat.{add-zero, zero-add}
 use lib.ListN.{length, getD}
 use Rattle.sheet.specs.Lists.{_∈_, keep, filter, all, bind}
 use Rattle.sheet.specs.Laws.Order.{and-true, true-and}
@@ -62,6 +63,21 @@ module _ {A : Type 0} where
   pub true-all : (p : A → Bool) (l : List A) → ((a : A) → a ∈ l → p a ≡ true) → all p l ≡ true
   true-all p [] h = refl
   true-all p (x ∷ l) h = true-and (p x) (all p l) (h x (inl refl)) (true-all p l (λ a m. h a (inr m)))
+
+  -- every member passes the test of its position, counted from n on
+  abbrev pub allFrom : (ℕ → A → Bool) → ℕ → List A → Bool
+  allFrom p n [] = true
+  allFrom p n (x ∷ l) = let r = allFrom p (suc n) l in p n x && r
+
+  from-at : (p : ℕ → A → Bool) (d : A) (n : ℕ) (l : List A) → allFrom p n l ≡ true → (i : ℕ) → i < length l → p (n + i) (getD l i d) ≡ true
+  from-at p d n [] e i h = absurd (omega arith)
+  from-at p d n (x ∷ l) e zero h = rw add-zero (and-true (p n x) (allFrom p (suc n) l) e .0)
+  from-at p d n (x ∷ l) e (suc i) h =
+      ap (λ (m : ℕ). p m (getD l i d)) (omega arith) ∙ from-at p d (suc n) l (and-true (p n x) (allFrom p (suc n) l) e .1) i (omega arith)
+
+  -- a test that every member passes at its position
+  pub all-at : (p : ℕ → A → Bool) (d : A) (l : List A) → allFrom p 0 l ≡ true → (i : ℕ) → i < length l → p i (getD l i d) ≡ true
+  all-at p d l e i h = ap (λ (m : ℕ). p m (getD l i d)) (sym (zero-add i)) ∙ from-at p d 0 l e i h
 
 -- the results of f over the members, one after another
 module _ {A B : Type 0} where
