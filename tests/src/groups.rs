@@ -31,9 +31,9 @@ pub fn ascending_corridors(count: u32) -> Vec<u32> {
     (0..count).flat_map(|i| [i / 63, i % 63 + u32::from(i % 63 >= i / 63), 0, 0, 0]).collect()
 }
 
-/// Occupancies of up to 64 places in ascending order.
+/// Occupancies of up to 64 places in ascending order, which begin at steps 0 to 3.
 pub fn ascending_occupancies(count: u32) -> Vec<u32> {
-    (0..count).flat_map(|i| [i / 16, i % 16, i % 16 + 1]).collect()
+    (0..count).flat_map(|i| [i / 16, i % 16 / 4, i % 16 + 1]).collect()
 }
 
 /// The longest sheet: all lines, and in each place a number with the most digits.
@@ -55,11 +55,10 @@ pub fn random_groups(random: &mut Random) -> Groups {
         1 => random.from_to(1, 64),
         _ => random.from_to(2, 12),
     };
-    Groups {
-        head: random_head(random, places),
-        corridors: random_corridors(random, places),
-        occupancies: random_occupancies(random, places),
-    }
+    let head = random_head(random, places);
+    let corridors = random_corridors(random, places);
+    let occupancies = random_occupancies(random, places, head[1]);
+    Groups { head, corridors, occupancies }
 }
 
 /// A random S line's numbers.
@@ -84,13 +83,13 @@ fn random_corridors(random: &mut Random, places: u32) -> Vec<u32> {
         .collect()
 }
 
-/// Random occupancy lines in ascending order.
-fn random_occupancies(random: &mut Random, places: u32) -> Vec<u32> {
-    let count = random_count(random);
+/// Random occupancy lines in ascending order, which begin within so many steps, often at the last.
+fn random_occupancies(random: &mut Random, places: u32, steps: u32) -> Vec<u32> {
+    let count = random_count(random).min(256 * places as usize);
     let mut occupancies = BTreeSet::new();
     while occupancies.len() < count {
-        let (one, other) = (random_step(random), random_step(random));
-        occupancies.insert([random.from_to(0, places - 1), one.min(other), one.max(other)]);
+        let first = if random.percent(15) { steps } else { random_step(random) % (steps + 1) };
+        occupancies.insert([random.from_to(0, places - 1), first, first.max(random_step(random))]);
     }
     occupancies.into_iter().flatten().collect()
 }

@@ -8,6 +8,9 @@ use crate::random::Random;
 /// Each thing that is counted must come up at least once in so many runs.
 const OFTEN: u64 = 200;
 
+/// How often each refusal number came up, 0 to 16.
+pub type ByRefusal = [u64; 17];
+
 /// What a program is asked for.
 pub struct Options {
     pub seed: u64,
@@ -27,7 +30,7 @@ impl Counts {
     }
 
     /// The counts of some refusal numbers; 0 is a call that is served.
-    pub fn of_refusals(about: &'static str, numbers: &[usize], counts: &[u64; 13]) -> Counts {
+    pub fn of_refusals(about: &'static str, numbers: &[usize], counts: &ByRefusal) -> Counts {
         Counts { about, counts: numbers.iter().map(|&number| (number.to_string(), counts[number])).collect() }
     }
 }

@@ -1,5 +1,5 @@
-// The reference: a reader and a writer of corridor sheets, written from document 01 alone, and the kinds of bytes, with
-// the numbers that document 02's E4 keeps and the letters of docs/DECISIONS.md, 6.
+// The reference: a reader and a writer of corridor sheets, written from document 01 and document 02's E6 alone, and the
+// kinds of bytes, with the numbers that E4 keeps and the letters of docs/DECISIONS.md, 6.
 
 use crate::answers::{SheetRead, SheetWritten};
 
@@ -175,7 +175,7 @@ fn add_corridor(sheet: &mut SheetRead, numbers: [u32; 5]) -> Result<(), u32> {
 /// Adds an O line to the sheet, or hands back the number of the first test that it fails.
 fn add_occupancy(sheet: &mut SheetRead, numbers: [u32; 3]) -> Result<(), u32> {
     let [place, first, last] = numbers;
-    let places = sheet.head[0];
+    let [places, steps, ..] = sheet.head;
     let (occupancies, _) = sheet.occupancies.as_chunks_mut::<3>();
     let count = sheet.lines[2] as usize;
     if sheet.lines[0] == 0 {
@@ -189,6 +189,9 @@ fn add_occupancy(sheet: &mut SheetRead, numbers: [u32; 3]) -> Result<(), u32> {
     }
     if last < first {
         return Err(6);
+    }
+    if first > steps {
+        return Err(16);
     }
     if count > 0 && numbers <= occupancies[count - 1] {
         return Err(5);

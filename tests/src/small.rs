@@ -23,12 +23,11 @@ pub struct Family {
     ends: Ends,
 }
 
-/// The occupancies of a family: how many, of how many steps, and how far past the horizon they begin.
+/// The occupancies of a family: how many, and of how many steps.
 #[derive(Clone, Copy)]
 struct Occupancies {
     count: [u32; 2],
     longest: u32,
-    past: u32,
 }
 
 /// What is special about the start or the goal.
@@ -47,7 +46,7 @@ const PLAIN: Family = Family {
     corridors: [2, 10],
     figures: &[0, 1, 2, 3],
     waiting: &[0, 1, 2],
-    occupancies: Occupancies { count: [0, 6], longest: 3, past: 2 },
+    occupancies: Occupancies { count: [0, 6], longest: 3 },
     ends: Ends::Any,
 };
 
@@ -97,13 +96,13 @@ pub const FAMILIES: [Family; 18] = [
     Family {
         name: "one-step occupancies",
         steps: [3, 7],
-        occupancies: Occupancies { count: [3, 8], longest: 1, past: 0 },
+        occupancies: Occupancies { count: [3, 8], longest: 1 },
         ..DENSE
     },
     Family {
-        name: "overlap and past the horizon",
+        name: "overlap and end past the horizon",
         steps: [0, 4],
-        occupancies: Occupancies { count: [2, 10], longest: 255, past: 255 },
+        occupancies: Occupancies { count: [2, 10], longest: 255 },
         ..DENSE
     },
     Family {
@@ -111,7 +110,7 @@ pub const FAMILIES: [Family; 18] = [
         places: [2, 4],
         steps: [100, 255],
         corridors: [2, 5],
-        occupancies: Occupancies { count: [20, 100], longest: 4, past: 2 },
+        occupancies: Occupancies { count: [20, 100], longest: 4 },
         ..PLAIN
     },
     Family {
@@ -119,7 +118,7 @@ pub const FAMILIES: [Family; 18] = [
         places: [20, 64],
         steps: [2, 4],
         corridors: [100, 256],
-        occupancies: Occupancies { count: [0, 256], longest: 3, past: 2 },
+        occupancies: Occupancies { count: [0, 256], longest: 3 },
         ..PLAIN
     },
 ];
@@ -128,7 +127,9 @@ pub const FAMILIES: [Family; 18] = [
 pub fn small_text(family: &Family, random: &mut Random) -> Vec<u8> {
     loop {
         let text = groups_of(family, random).text();
-        if is_small(&read_sheet(&text)) {
+        let read = read_sheet(&text);
+        assert_eq!(read.refusal, 0, "a family's sheets are in order and in range");
+        if is_small(&read) {
             return text;
         }
     }
@@ -187,13 +188,13 @@ fn corridors_of(family: &Family, places: u32, random: &mut Random) -> Vec<u32> {
     lines.flat_map(|(from, to, [a, b, c])| [from, to, a, b, c]).collect()
 }
 
-/// Random occupancy lines of a family.
+/// Random occupancy lines of a family, which begin within so many steps.
 fn occupancies_of(family: &Family, places: u32, steps: u32, random: &mut Random) -> BTreeSet<[u32; 3]> {
-    let Occupancies { count: [least, most], longest, past } = family.occupancies;
+    let Occupancies { count: [least, most], longest } = family.occupancies;
     let count = random.from_to(least, most);
     let mut occupancy = || {
         let place = random.from_to(0, places - 1);
-        let first = random.from_to(0, (steps + past).min(255));
+        let first = random.from_to(0, steps);
         [place, first, (first + random.from_to(0, longest - 1)).min(255)]
     };
     (0..count).map(|_| occupancy()).collect()

@@ -13,11 +13,11 @@ use lib.Seq.{getD-take, getD-drop, take-take}
 use borrow.Author.Tests.{ltb-true, ltb-false, eq-eqb, ne-eqb, eqb-true, eqb-false, not-false}
 use Rattle.sheet.specs.Lists.{pick, number, any, flat}
 use Rattle.sheet.specs.Computed.{lexb}
-use Rattle.sheet.specs.Kinds.{width, kindS}
+use Rattle.sheet.specs.Kinds.{width, kindS, kindO}
 use Rattle.sheet.specs.Lines.{Line}
-use Rattle.sheet.specs.Sheet.{group, misplaced, tooMany, outside, headIn, unpaired, latest, notAbove}
+use Rattle.sheet.specs.Sheet.{first, group, misplaced, tooMany, outside, headIn, unpaired, late, latest, notAbove}
 use Rattle.sheet.specs.Store.{kindCount, kindAt}
-use Rattle.sheet.specs.Inner.{limitAt, pairAt, lineAt, misplacedBy, notAboveBy, RowIs, Stored}
+use Rattle.sheet.specs.Inner.{limitAt, pairAt, lineAt, misplacedBy, lateBy, notAboveBy, RowIs, Stored}
 use Rattle.sheet.specs.Laws.Passed.{or-false, any-false, false-any}
 use Rattle.sheet.specs.Laws.Kinds.{order-at, kind-at, order-below, key-inside}
 use Rattle.sheet.specs.Laws.Groups.{group-none, first-head, head-group}
@@ -140,3 +140,21 @@ pub outside-is : {before : List Line} {lines all : List ℕ} → Stored before l
     → outside (number (headIn (before ++ (lineAt k v ∷ []))) 0) (kindAt k .limits) (take (width (kindAt k)) v)
     ≡ outside p (map limitAt (take (r .width) (r .limits))) (take (r .width) v)
 outside-is S h R v e m = rw (R .limits-are, R .width-is, e, head-is S h v 0 (omega arith) m)
+
+-- test 16: a line of occupancies stands after the S line
+pub late-is : {before : List Line} {lines all : List ℕ} → Stored before lines all → {k : ℕ} → k < kindCount → (v : List ℕ)
+    → misplaced before (lineAt k v) ≡ false → late (number (headIn (before ++ (lineAt k v ∷ []))) 1) (lineAt k v) ≡ lateBy all k v
+late-is {before = before} {all = all} S {k = k} h v m =
+    ap (λ (o : ℕ). eqb o (kindO .order) && ltb last (first n)) (order-at k h) ∙ go (eqb k (kindO .order)) refl
+  where
+    last : ℕ
+    last = number (headIn (before ++ (lineAt k v ∷ []))) 1
+
+    n : List ℕ
+    n = take (width (kindAt k)) v
+
+    go : (b : Bool) → eqb k (kindO .order) ≡ b → b && ltb last (first n) ≡ b && ltb (number all 1) (number v 1)
+    go false q = refl
+    go true q =
+        let z : k ≡ kindO .order = eqb-true k (kindO .order) q in
+        rw (head-is S h v 1 (omega arith) m, ne-eqb k 0 (λ e. omega arith), getD-take (width (kindAt k)) v 1 0 (omega (arith, ap (λ (j : ℕ). width (kindAt j)) z)))

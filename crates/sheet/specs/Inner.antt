@@ -4,14 +4,14 @@ use mathlib.Core.Path.{_≡_}
 use mathlib.Core.List.{List, [], _∷_, _++_, map}
 use mathlib.Core.Option.{Option, some, none}
 use Prim.Native.Nat.{ℕ, zero, suc, _+_, _*_, _-_, _≤_, _<_}
-use lib.Dec.{leb, eqb}
+use lib.Dec.{ltb, leb, eqb}
 use lib.ListN.{length, getD, take, drop}
 use lib.Seq.{sets}
 use Rattle.sheet.specs.Lists.{pick, number, any, rows, bind}
 use Rattle.sheet.specs.Computed.{lexb}
 use Rattle.sheet.specs.Bytes.{kindOf, comma, split}
 use Rattle.sheet.specs.Decimal.{digitsFrom, numberOf, mostDigits}
-use Rattle.sheet.specs.Kinds.{Limit, between, place, step, cost, Pair, alone, different, ordered, Kind, width, kindS, kinds}
+use Rattle.sheet.specs.Kinds.{Limit, between, place, step, cost, Pair, alone, different, ordered, Kind, width, kindS, kindO, kinds}
 use Rattle.sheet.specs.Lines.{Line, line, lineOf}
 use Rattle.sheet.specs.Sheet.{Sheet, group, fault, lacking, Outcome, refused, loaded, judge}
 use Rattle.sheet.specs.Text.{lineText, sheetText}
@@ -53,10 +53,13 @@ pub record RowIs (k : ℕ) (r : Row) : Type 0 where
 abbrev pub lineAt : ℕ → List ℕ → Line
 lineAt k v = line (kindAt k) (take (width (kindAt k)) v)
 
--- test 3, from the counts of lines; test 5, from the last row of n
+-- test 3, from the counts of lines; test 16, from the S line; test 5, from the last row of n
 abbrev pub misplacedBy : List ℕ → ℕ → Bool
 misplacedBy lines k =
     pick (eqb k 0) (not (eqb (number lines 0) 0)) (eqb (number lines 0) 0 || any (λ n. not (eqb n 0)) (drop (suc k) lines))
+
+abbrev pub lateBy : List ℕ → ℕ → List ℕ → Bool
+lateBy all k v = eqb k (kindO .order) && ltb (number all 1) (number v 1)
 
 abbrev pub notAboveBy : List ℕ → Row → ℕ → List ℕ → Bool
 notAboveBy all r n v = not (eqb n 0) && not (lexb (take (r .key) (drop (r .base + (n - 1) * r .width) all)) (take (r .key) v))

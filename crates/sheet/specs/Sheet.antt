@@ -1,6 +1,6 @@
--- The sheet: its groups, the tests of a line, and what bytes read as (document 01, "The sheet" and "Who causes which refusal").
+-- The sheet: its groups, the tests of a line, and what bytes read as (document 01, "The sheet" and "Who causes which refusal"; document 02, E6).
 -- The lines before a line are given whole, in the order of the sheet.
-use mathlib.Core.Bool.{Bool, true, false, not, _||_}
+use mathlib.Core.Bool.{Bool, true, false, not, _&&_, _||_}
 use mathlib.Core.List.{List, [], _∷_, _++_, map}
 use mathlib.Core.Option.{Option, some, none}
 use Prim.Native.Nat.{ℕ, suc}
@@ -90,7 +90,7 @@ outside p [] ns = false
 outside p (x ∷ xs) [] = false
 outside p (x ∷ xs) (n ∷ ns) = beyond p x n || outside p xs ns
 
--- the numbers of the S line of the sheet that begins with these lines: the first of them is its places
+-- the numbers of the S line of the sheet that begins with these lines: the first of them is its places, the second its last step
 abbrev pub headIn : List Line → List ℕ
 headIn [] = []
 headIn (l ∷ ls) = l .numbers
@@ -100,6 +100,10 @@ abbrev pub unpaired : Pair → List ℕ → Bool
 unpaired alone ns = false
 unpaired (different i j) ns = eqb (number ns i) (number ns j)
 unpaired (ordered i j) ns = ltb (number ns j) (number ns i)
+
+-- test 16 (document 02, E6): an occupancy whose first step lies past the last step t
+abbrev pub late : ℕ → Line → Bool
+late t l = eqb (l .kind .order) (kindO .order) && ltb t (first (l .numbers))
 
 -- the last of a list, if there is one
 abbrev pub latest : List (List ℕ) → Option (List ℕ)
@@ -119,6 +123,7 @@ tests before l =
     ∷ (7, tooMany before l)
     ∷ (4, outside (number (headIn (before ++ (l ∷ []))) 0) (l .kind .limits) (l .numbers))
     ∷ (6, unpaired (l .kind .pair) (l .numbers))
+    ∷ (16, late (number (headIn (before ++ (l ∷ []))) 1) l)
     ∷ (5, notAbove (l .kind .key) (latest (group (l .kind) before)) (l .numbers))
     ∷ []
 

@@ -1,4 +1,4 @@
--- A valid sheet: what document 01, "The sheet", asks of its numbers. Every sheet that is read is one (Laws.Valid).
+-- A valid sheet: what document 01, "The sheet", and document 02, E6, ask of its numbers. Every sheet that is read is one (Laws.Valid).
 use mathlib.Core.Path.{_≡_}
 use mathlib.Core.Logic.{_≢_}
 use mathlib.Core.List.{List}
@@ -17,12 +17,13 @@ pub record ValidCorridor (s : Sheet) (k : List ℕ) : Type 0 where
   pub cost : (i : ℕ) → 2 ≤ i → number k i ≤ 60000
   pub apart : from k ≢ to k
 
--- an occupancy of a place, from its first step to its last
+-- an occupancy of a place, from its first step, which is not past the last step of the sheet, to its last
 pub record ValidOccupancy (s : Sheet) (o : List ℕ) : Type 0 where
   pub wide : length o ≡ width kindO
   pub place : placeOf o < places s
   pub in-day : last o ≤ 255
   pub ordered : first o ≤ last o
+  pub begins : first o ≤ steps s
 
 pub record Valid (s : Sheet) : Type 0 where
   pub wide : length (s .head) ≡ width kindS

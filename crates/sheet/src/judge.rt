@@ -1,5 +1,5 @@
-// The tests of a line after the lines before it (document 01, "Who causes which refusal"): 3, 7, 4, 6, 5. The lines before stand in the array of all
-// groups, so that a test may look at each of them.
+// The tests of a line after the lines before it (document 01, "Who causes which refusal"; document 02, E6): 3, 7, 4, 6, 16, 5. The lines before
+// stand in the array of all groups, so that a test may look at each of them.
 ghost use mathlib.Core.Path.{_≡_};
 ghost use mathlib.Core.List.{map};
 ghost use Prim.Native.Nat.{_+_, _≤_, _<_};
@@ -9,11 +9,12 @@ ghost use Rattle.sheet.specs.Lists.{pick};
 ghost use Rattle.sheet.specs.Computed.{lexb};
 ghost use Rattle.sheet.specs.Sheet.{beyond, outside, unpaired};
 ghost use Rattle.sheet.specs.Store.{kindCount};
-ghost use Rattle.sheet.specs.Inner.{limitAt, pairAt, lineAt, misplacedBy, notAboveBy, RowFits, Kept, LacksIs, FaultIs};
+ghost use Rattle.sheet.specs.Inner.{limitAt, pairAt, lineAt, misplacedBy, lateBy, notAboveBy, RowFits, Kept, LacksIs, FaultIs};
 use crate::kinds::ALONE;
 use crate::kinds::COST;
 use crate::kinds::DIFFERENT;
 use crate::kinds::KINDS;
+use crate::kinds::O_LINE;
 use crate::kinds::PLACE;
 use crate::kinds::Row;
 use crate::kinds::S_LINE;
@@ -97,6 +98,14 @@ fn is_unpaired(pair: u8, one: usize, other: usize, values: [u32; 8]) -> bool
     values[other] < values[one]
 }
 
+// Test 16: an occupancy that begins after the last step, the second number of the S line.
+fn is_late(all: &[u32], kind: usize, values: [u32; 8]) -> bool
+    requires { ⌜ 2 ≤ length (now all) ⌝ }
+    ensures { λ r. ⌜ r ≡ lateBy (now (all .entry)) kind values ⌝ }
+{
+    (kind == O_LINE) & (all[1] < values[1])
+}
+
 // Whether the n numbers of a from `at` on stand before the first n of b.
 fn is_before(a: &[u32], at: usize, b: [u32; 8], n: usize) -> bool
     requires { ⌜ (n ≤ 8) × (at + n ≤ length (now a)) ⌝ }
@@ -146,6 +155,9 @@ pub fn fault_of(lines: &[u32], all: &[u32], kind: usize, values: [u32; 8]) -> u3
     }
     if is_unpaired(row.pair, row.one, row.other, values) {
         return 6;
+    }
+    if is_late(all, kind, values) {
+        return 16;
     }
     if is_not_above(all, row, n, values) {
         return 5;

@@ -9,7 +9,7 @@ use planner_tests::cases::{Asked, FrontCase, front_cases};
 use planner_tests::compare_search::{Filled, Tried};
 use planner_tests::damage::of_text::TEXT_DAMAGES;
 use planner_tests::page::line_of;
-use planner_tests::program::{self, Counts, Options};
+use planner_tests::program::{self, ByRefusal, Counts, Options};
 use planner_tests::random::Random;
 use planner_tests::small::{FAMILIES, damaged_text, small_text};
 use planner_tests::step_by_step::Offer;
@@ -37,8 +37,8 @@ const ROOMS: [&str; 7] = [
 /// How many calls or sheets met each refusal number, each family, each size and each kind of damage.
 #[derive(Default)]
 struct Tally {
-    front: [u64; 13],
-    journey: [u64; 13],
+    front: ByRefusal,
+    journey: ByRefusal,
     families: [u64; FAMILIES.len()],
     sizes: [u64; SIZES.len()],
     rooms: [u64; ROOMS.len()],
@@ -61,10 +61,10 @@ fn compared(options: &Options) -> Result<Vec<Counts>, String> {
 /// How often each thing that must come up did.
 fn counts(tally: &Tally) -> Vec<Counts> {
     vec![
-        Counts::of_refusals("calls of the front, by refusal number", &[0, 1, 2, 3, 4, 5, 6, 7, 8, 9], &tally.front),
+        Counts::of_refusals("calls of the front, by refusal number", &[0, 1, 2, 3, 4, 5, 6, 7, 8, 9, 16], &tally.front),
         Counts::of_refusals(
             "calls of a journey, by refusal number",
-            &[0, 1, 2, 3, 4, 5, 6, 7, 8, 10, 11],
+            &[0, 1, 2, 3, 4, 5, 6, 7, 8, 10, 11, 16],
             &tally.journey,
         ),
         Counts::of("families of small sheets", &FAMILIES.map(|family| family.name), &tally.families),

@@ -9,7 +9,7 @@ use planner_tests::cases::{front_cases, sheet_cases};
 use planner_tests::damage::of_text::TEXT_DAMAGES;
 use planner_tests::layers::layered_text;
 use planner_tests::page::page_of;
-use planner_tests::program::{self, Counts, Options};
+use planner_tests::program::{self, ByRefusal, Counts, Options};
 use planner_tests::random::Random;
 use planner_tests::sheet::read_sheet;
 use planner_tests::small::{FAMILIES, damaged_text, is_small, small_text};
@@ -35,7 +35,7 @@ const SIZES: [&str; 4] = ["no journey", "one journey", "two to nine", "ten or mo
 /// How many texts met each refusal number, each family, each size and each kind of damage.
 #[derive(Default)]
 struct Tally {
-    refusals: [u64; 13],
+    refusals: ByRefusal,
     families: [u64; FAMILIES.len()],
     sizes: [u64; SIZES.len()],
     damages: [u64; TEXT_DAMAGES.len()],
@@ -57,7 +57,7 @@ fn compared(options: &Options) -> Result<Vec<Counts>, String> {
 /// How often each thing that must come up did.
 fn counts(tally: &Tally) -> Vec<Counts> {
     vec![
-        Counts::of_refusals("pages by refusal number", &[0, 1, 2, 3, 4, 5, 6, 7, 8, 9], &tally.refusals),
+        Counts::of_refusals("pages by refusal number", &[0, 1, 2, 3, 4, 5, 6, 7, 8, 9, 16], &tally.refusals),
         Counts::of("pages that are served", &SIZES, &tally.sizes),
         Counts::of("families of small sheets", &FAMILIES.map(|family| family.name), &tally.families),
         Counts::of("damage to texts", &TEXT_DAMAGES, &tally.damages),

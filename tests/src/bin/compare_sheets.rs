@@ -9,7 +9,7 @@ use planner_tests::compare::{compare_kind, compare_reading, compare_writing};
 use planner_tests::damage::of_groups::{GROUP_DAMAGES, damage_groups};
 use planner_tests::damage::of_text::{TEXT_DAMAGES, damage_text, random_bytes};
 use planner_tests::groups::{Groups, random_groups};
-use planner_tests::program::{self, Counts, Options};
+use planner_tests::program::{self, ByRefusal, Counts, Options};
 use planner_tests::random::Random;
 use std::process::ExitCode;
 
@@ -29,8 +29,8 @@ const SIZES: [&str; 3] = ["empty", "served with 256 lines of a kind", "served an
 /// How many inputs met each refusal number, each size and each kind of damage.
 #[derive(Default)]
 struct Tally {
-    read: [u64; 13],
-    written: [u64; 13],
+    read: ByRefusal,
+    written: ByRefusal,
     sizes: [u64; SIZES.len()],
     text_damages: [u64; TEXT_DAMAGES.len()],
     group_damages: [u64; GROUP_DAMAGES.len()],
@@ -155,8 +155,8 @@ fn expect_answer(remark: &str, answer: (u32, u32), expected: (u32, u32)) -> Resu
 /// How many inputs met each thing that must come up.
 fn counts(tally: &Tally) -> Vec<Counts> {
     vec![
-        Counts::of_refusals("read, by refusal number", &[0, 1, 2, 3, 4, 5, 6, 7], &tally.read),
-        Counts::of_refusals("written, by refusal number", &[0, 2, 4, 5, 6, 7, 12], &tally.written),
+        Counts::of_refusals("read, by refusal number", &[0, 1, 2, 3, 4, 5, 6, 7, 16], &tally.read),
+        Counts::of_refusals("written, by refusal number", &[0, 2, 4, 5, 6, 7, 12, 16], &tally.written),
         Counts::of("texts", &SIZES, &tally.sizes),
         Counts::of("damage to texts", &TEXT_DAMAGES, &tally.text_damages),
         Counts::of("damage to groups", &GROUP_DAMAGES, &tally.group_damages),

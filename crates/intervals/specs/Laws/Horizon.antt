@@ -2,13 +2,13 @@
 -- steps within 0 to T, and has the same safe intervals.
 use mathlib.Core.Path.{_≡_, refl, sym, _∙_}
 use mathlib.Core.Logic.{_⊎_, inl, inr}
-use mathlib.Core.Bool.{Bool, true, false, not, _&&_}
+use mathlib.Core.Bool.{Bool, true, false, not}
 use mathlib.Core.List.{List, [], _∷_, map}
 use Prim.Native.Nat.{ℕ, _+_, _-_, _≤_}
 use native.Mathlib.Omega.{arith}
 use lib.Dec.{leb}
 use borrow.Author.Tests.{leb-true, leb-false}
-use Rattle.sheet.specs.Lists.{pick, keep, filter, all}
+use Rattle.sheet.specs.Lists.{pick, all}
 use Rattle.sheet.specs.Sheet.{Sheet, steps, placeOf, first, last}
 use Rattle.intervals.specs.Intervals.{occupiesb, freeb, Interval}
 use Rattle.intervals.specs.Laws.Free.{occupiesb-true, occupies-occupiesb}
@@ -47,10 +47,10 @@ same-interval s r h v a b i =
 abbrev pub cutOff : ℕ → List ℕ → List ℕ
 cutOff T o = placeOf o ∷ first o ∷ pick (leb (last o) T) (last o) T ∷ []
 
--- the sheet without what lies past its horizon
+-- the sheet without what lies past its horizon: its occupancies begin within it (document 02, E6), and are cut off where they end past it
 unfoldable pub withinHorizon : Sheet → Sheet
 withinHorizon s =
-    record { head = s .head; corridors = s .corridors; occupancies = map (cutOff (steps s)) (filter (λ o. leb (first o) (steps s)) (s .occupancies)) }
+    record { head = s .head; corridors = s .corridors; occupancies = map (cutOff (steps s)) (s .occupancies) }
 
 bool-same : (a b : Bool) → (a ≡ true → b ≡ true) → (b ≡ true → a ≡ true) → a ≡ b
 bool-same true b f g = sym (f refl)
@@ -71,21 +71,9 @@ cut-same T v t o h =
     onto true e l = l
     onto false e l = omega (arith, leb-false (last o) T e)
 
-late-free : (T v t : ℕ) (o : List ℕ) → t ≤ T → leb (first o) T ≡ false → occupiesb v t o ≡ false
-late-free T v t o h e = go (occupiesb v t o) refl
-  where
-    go : (b : Bool) → occupiesb v t o ≡ b → occupiesb v t o ≡ false
-    go false q = q
-    go true q = absurd (omega (arith, occupiesb-true v t o q .begun, leb-false (first o) T e))
-
-cut-all : (T v t : ℕ) (l : List (List ℕ)) → t ≤ T → all (λ o. not (occupiesb v t o)) (map (cutOff T) (filter (λ o. leb (first o) T) l)) ≡ all (λ o. not (occupiesb v t o)) l
+cut-all : (T v t : ℕ) (l : List (List ℕ)) → t ≤ T → all (λ o. not (occupiesb v t o)) (map (cutOff T) l) ≡ all (λ o. not (occupiesb v t o)) l
 cut-all T v t [] h = refl
-cut-all T v t (o ∷ l) h = go (leb (first o) T) refl (cut-all T v t l h)
-  where
-    go : (b : Bool) → leb (first o) T ≡ b → all (λ o. not (occupiesb v t o)) (map (cutOff T) (filter (λ o. leb (first o) T) l)) ≡ all (λ o. not (occupiesb v t o)) l
-        → all (λ o. not (occupiesb v t o)) (map (cutOff T) (keep b o (filter (λ o. leb (first o) T) l))) ≡ not (occupiesb v t o) && all (λ o. not (occupiesb v t o)) l
-    go true e r = rw (r, cut-same T v t o h)
-    go false e r = r ∙ rw (late-free T v t o h e)
+cut-all T v t (o ∷ l) h = rw (cut-all T v t l h, cut-same T v t o h)
 
 -- a step past T has no effect
 pub past-horizon : (s : Sheet) → SameWithin (withinHorizon s) s

@@ -1,4 +1,4 @@
--- The boundary cases of document 01 for sheets, computed: what each text reads as, and what calls of the writer hand back and leave.
+-- The boundary cases of document 01 and of document 02's E6 for sheets, computed: what each text reads as, and what calls of the writer hand back and leave.
 use mathlib.Core.Path.{_≡_, refl}
 use mathlib.Core.List.{List, [], _∷_, _++_, map}
 use Prim.Native.Nat.{ℕ, zero, suc, _+_}
@@ -50,7 +50,7 @@ texts =
     ∷ reads "S,4,6,0,3, 1,0,0\n" 2 1
     ∷ reads "S,4,6,0,3,1,0,0\r\n" 2 1
     ∷ reads "S,4,6,0,3,100000,0,0\n" 2 1
-    -- 3: no S line first, a second S, C after O; before 7, 4, 6 and 5
+    -- 3: no S line first, a second S, C after O; before 7, 4, 6, 16 and 5
     ∷ reads "C,9,9,60001,0,0\n" 3 1
     ∷ reads "S,4,6,0,3,1,0,0\nS,4,6,0,3,1,0,0\n" 3 2
     ∷ reads "S,4,6,0,3,1,0,0\nO,1,1,2\nC,0,1,0,0,0\n" 3 3
@@ -80,9 +80,19 @@ texts =
     ∷ reads "S,4,6,0,3,1,0,0\nO,1,0,2\nO,1,0,3\nO,1,0,3\n" 5 4
     ∷ reads "S,4,6,0,3,1,0,0\nO,1,0,2\nO,1,0,3\nO,2,0,0\n" 0 0
     ∷ reads "S,4,6,0,3,1,0,0\nC,0,1,0,0,0\nC,0,1,1,0,0\nx\n" 5 3
-    -- 7: 256 O lines pass, a 257th does not, and before 4
+    -- 16: an occupancy begins at the last step or before, wherever it ends; 4 and 6 come before 16, and 16 before 5
+    ∷ reads "S,4,6,0,3,1,0,0\nO,3,6,6\n" 0 0
+    ∷ reads "S,4,6,0,3,1,0,0\nO,3,6,255\n" 0 0
+    ∷ reads "S,4,6,0,3,1,0,0\nO,3,7,7\n" 16 2
+    ∷ reads "S,4,0,0,3,1,0,0\nO,3,0,0\n" 0 0
+    ∷ reads "S,4,0,0,3,1,0,0\nO,3,1,1\n" 16 2
+    ∷ reads "S,4,6,0,3,1,0,0\nO,1,7,256\n" 4 2
+    ∷ reads "S,4,6,0,3,1,0,0\nO,1,9,4\n" 6 2
+    ∷ reads "S,4,6,0,3,1,0,0\nO,2,0,0\nO,1,7,7\n" 16 3
+    -- 7: 256 O lines pass, a 257th does not, and before 4 and 16
     ∷ record { input = bytes "S,4,6,0,3,1,0,0\n" ++ occupancies 256; number = 0; line = 0 }
     ∷ record { input = bytes "S,4,6,0,3,1,0,0\n" ++ occupancies 256 ++ bytes "O,9,0,0\n"; number = 7; line = 258 }
+    ∷ record { input = bytes "S,4,6,0,3,1,0,0\n" ++ occupancies 256 ++ bytes "O,1,7,7\n"; number = 7; line = 258 }
     ∷ []
 
 pub boundaries : map (λ e. verdict (readOf (e .input))) texts ≡ map (λ e. e .number ∷ e .line ∷ []) texts
@@ -97,13 +107,15 @@ abbrev pub writes : List ℕ → List ℕ → List ℕ → ℕ → List (List �
 writes h cs os n = writeShown (writeCall h cs os (replicate n 7))
 
 -- a buffer of exactly the text, and one byte less (12); lengths before lines (2 at line 0); the first faulty line (4 at line 2); an earlier 5 before
--- a later 4
+-- a later 4; an occupancy that begins at the last step, and one after it (16 at line 2)
 pub write-rooms : (writes (4 ∷ 6 ∷ 0 ∷ 3 ∷ 1 ∷ 0 ∷ 0 ∷ []) [] [] 17
     ∷ writes (4 ∷ 6 ∷ 0 ∷ 3 ∷ 1 ∷ 0 ∷ 0 ∷ []) [] [] 15
     ∷ writes (4 ∷ 6 ∷ 0 ∷ 3 ∷ 1 ∷ 0 ∷ []) [] [] 17
     ∷ writes (99 ∷ 6 ∷ 0 ∷ 3 ∷ 1 ∷ 0 ∷ 0 ∷ []) [] (1 ∷ 2 ∷ []) 17
     ∷ writes (4 ∷ 6 ∷ 0 ∷ 3 ∷ 1 ∷ 0 ∷ 0 ∷ []) (0 ∷ 1 ∷ 0 ∷ 0 ∷ 100000 ∷ []) [] 17
     ∷ writes (4 ∷ 6 ∷ 0 ∷ 3 ∷ 1 ∷ 0 ∷ 0 ∷ []) [] (1 ∷ 0 ∷ 2 ∷ 1 ∷ 0 ∷ 1 ∷ 9 ∷ 0 ∷ 0 ∷ []) 17
+    ∷ writes (4 ∷ 6 ∷ 0 ∷ 3 ∷ 1 ∷ 0 ∷ 0 ∷ []) [] (1 ∷ 6 ∷ 255 ∷ []) 27
+    ∷ writes (4 ∷ 6 ∷ 0 ∷ 3 ∷ 1 ∷ 0 ∷ 0 ∷ []) [] (1 ∷ 7 ∷ 7 ∷ []) 27
     ∷ [])
     ≡ ((0 ∷ 0 ∷ 16 ∷ []) ∷ (bytes "S,4,6,0,3,1,0,0\n" ++ (7 ∷ [])) ∷ [])
     ∷ ((12 ∷ 0 ∷ 0 ∷ []) ∷ replicate 15 7 ∷ [])
@@ -111,6 +123,8 @@ pub write-rooms : (writes (4 ∷ 6 ∷ 0 ∷ 3 ∷ 1 ∷ 0 ∷ 0 ∷ []) [] [] 1
     ∷ ((2 ∷ 0 ∷ 0 ∷ []) ∷ replicate 17 7 ∷ [])
     ∷ ((4 ∷ 2 ∷ 0 ∷ []) ∷ replicate 17 7 ∷ [])
     ∷ ((5 ∷ 3 ∷ 0 ∷ []) ∷ replicate 17 7 ∷ [])
+    ∷ ((0 ∷ 0 ∷ 26 ∷ []) ∷ (bytes "S,4,6,0,3,1,0,0\nO,1,6,255\n" ++ (7 ∷ [])) ∷ [])
+    ∷ ((16 ∷ 2 ∷ 0 ∷ []) ∷ replicate 27 7 ∷ [])
     ∷ []
 unfolding writeGroups
 write-rooms = refl

@@ -1,16 +1,16 @@
--- What it says that a line passes: each of its tests, by name, does not fail; and what it says that lines pass one after another,
--- for the lines of an appended list and for each line at its position. Nothing here depends on which kinds there are.
+-- Which test a fault names: the first of the list that fails. What it says that a line passes: each of its tests, by name, does not fail; and what it
+-- says that lines pass one after another, for the lines of an appended list and for each line at its position. Nothing here depends on which kinds there are.
 use mathlib.Core.Path.{_≡_, refl, sym, _∙_, ap, subst}
-use mathlib.Core.Logic.{inl, inr}
+use mathlib.Core.Logic.{inl, inr, _≢_}
 use mathlib.Core.Bool.{Bool, true, false, _||_, true≢false}
-use mathlib.Core.List.{List, [], _∷_, _++_, append-nil}
+use mathlib.Core.List.{List, [], _∷_, _++_, map, append-nil}
 use mathlib.Core.Option.{some}
 use Prim.Native.Nat.{ℕ, _≤_}
 use native.Mathlib.Omega.{arith}
 use lib.Seq.{append-snoc}
 use Rattle.sheet.specs.Lists.{pick, number, _∈_, any}
 use Rattle.sheet.specs.Lines.{Line}
-use Rattle.sheet.specs.Sheet.{group, misplaced, tooMany, outside, headIn, unpaired, latest, notAbove, tests, firstFailed, fault}
+use Rattle.sheet.specs.Sheet.{group, misplaced, tooMany, outside, headIn, unpaired, late, latest, notAbove, tests, firstFailed, fault}
 use Rattle.sheet.specs.Laws.Judge.{Passes}
 
 -- tests that do not fail
@@ -31,7 +31,7 @@ false-any p [] f = refl
 false-any p (x ∷ ls) f = false-or (p x) (any p ls) (f x (inl refl)) (false-any p ls (λ l m. f l (inr m)))
 
 -- no test of the list fails
-abbrev NoneFails : List (ℕ × Bool) → Type 0
+abbrev pub NoneFails : List (ℕ × Bool) → Type 0
 NoneFails [] = Unit {0}
 NoneFails (t ∷ ts) = (t .1 ≡ false) × NoneFails ts
 
@@ -52,23 +52,50 @@ none-failed : (ts : List (ℕ × Bool)) → NoneFails ts → firstFailed ts ≡ 
 none-failed [] h = refl
 none-failed (t ∷ ts) h = rw (h .0) (none-failed ts (h .1))
 
+-- the test n fails, and none before it in the list
+pub record First (ts : List (ℕ × Bool)) (n : ℕ) : Type 0 where
+  pub earlier : List (ℕ × Bool)
+  pub later : List (ℕ × Bool)
+  pub parts : ts ≡ earlier ++ ((n, true) ∷ later)
+  pub pass : NoneFails earlier
+
+first-of : (ts : List (ℕ × Bool)) → firstFailed ts ≢ 0 → First ts (firstFailed ts)
+first-of [] h = absurd (h refl)
+first-of (t ∷ ts) h = go (t .1) refl h (first-of ts)
+  where
+    go : (b : Bool) → t .1 ≡ b → pick b (t .0) (firstFailed ts) ≢ 0 → (firstFailed ts ≢ 0 → First ts (firstFailed ts)) → First (t ∷ ts) (pick b (t .0) (firstFailed ts))
+    go true q d f = record { earlier = []; later = ts; parts = ap (λ (b : Bool). (t .0, b) ∷ ts) q; pass = tt }
+    go false q d f =
+        let r = f d in
+        record { earlier = t ∷ r .earlier; later = r .later; parts = ap (λ (us : List (ℕ × Bool)). t ∷ us) (r .parts); pass = (q, r .pass) }
+
+-- the order of the tests is that of their list: the fault of a line is the number of its first test that fails
+pub fault-first : (before : List Line) (l : Line) → fault before l ≢ 0 → First (tests before l) (fault before l)
+unfolding fault
+fault-first before l = first-of (tests before l)
+
+pub order-of-tests : (before : List Line) (l : Line) → map (λ t. t .0) (tests before l) ≡ 3 ∷ 7 ∷ 4 ∷ 6 ∷ 16 ∷ 5 ∷ []
+unfolding tests
+order-of-tests before l = refl
+
 -- the tests that a line has passed
 pub record Passed (before : List Line) (l : Line) : Type 0 where
   pub placed : misplaced before l ≡ false
   pub few : tooMany before l ≡ false
   pub inside : outside (number (headIn (before ++ (l ∷ []))) 0) (l .kind .limits) (l .numbers) ≡ false
   pub paired : unpaired (l .kind .pair) (l .numbers) ≡ false
+  pub in-time : late (number (headIn (before ++ (l ∷ []))) 1) l ≡ false
   pub above : notAbove (l .kind .key) (latest (group (l .kind) before)) (l .numbers) ≡ false
 
 pub fault-passed : (before : List Line) (l : Line) → fault before l ≡ 0 → Passed before l
 unfolding fault tests
 fault-passed before l e =
     let r = none-fails (tests before l) (omega arith) e in
-    record { placed = r .0; few = r .1 .0; inside = r .1 .1 .0; paired = r .1 .1 .1 .0; above = r .1 .1 .1 .1 .0 }
+    record { placed = r .0; few = r .1 .0; inside = r .1 .1 .0; paired = r .1 .1 .1 .0; in-time = r .1 .1 .1 .1 .0; above = r .1 .1 .1 .1 .1 .0 }
 
 pub passed-fault : (before : List Line) (l : Line) → Passed before l → fault before l ≡ 0
 unfolding fault tests
-passed-fault before l p = none-failed (tests before l) (p .placed, (p .few, (p .inside, (p .paired, (p .above, tt)))))
+passed-fault before l p = none-failed (tests before l) (p .placed, (p .few, (p .inside, (p .paired, (p .in-time, (p .above, tt))))))
 
 -- appended lists
 pub passes-append : (before ls ms : List Line) → Passes before (ls ++ ms) → Passes before ls × Passes (before ++ ls) ms
@@ -96,12 +123,15 @@ passes-each P f before (x ∷ ls) p l (inl e) =
 passes-each P f before (x ∷ ls) p l (inr m) =
     subst (λ (k : List Line). P (headIn k) l) (append-snoc before x ls) (passes-each P f (before ++ (x ∷ [])) ls (p .1) l m)
 
--- its numbers inside their limits, and paired
+-- its numbers inside their limits, paired, and in time
 pub passes-inside : (before ls : List Line) → Passes before ls → (l : Line) → l ∈ ls → outside (number (headIn (before ++ ls)) 0) (l .kind .limits) (l .numbers) ≡ false
 passes-inside = passes-each (λ h l. outside (number h 0) (l .kind .limits) (l .numbers) ≡ false) (λ b l q. q .inside)
 
 pub passes-paired : (before ls : List Line) → Passes before ls → (l : Line) → l ∈ ls → unpaired (l .kind .pair) (l .numbers) ≡ false
 passes-paired = passes-each (λ h l. unpaired (l .kind .pair) (l .numbers) ≡ false) (λ b l q. q .paired)
+
+pub passes-in-time : (before ls : List Line) → Passes before ls → (l : Line) → l ∈ ls → late (number (headIn (before ++ ls)) 1) l ≡ false
+passes-in-time = passes-each (λ h l. late (number h 1) l ≡ false) (λ b l q. q .in-time)
 
 -- the last of a list with one more at its end
 pub latest-last : (before : List (List ℕ)) (n : List ℕ) → latest (before ++ (n ∷ [])) ≡ some n

@@ -16,7 +16,7 @@ use Rattle.sheet.specs.Sheet.{misplaced, tests, fault}
 use Rattle.sheet.specs.Inner.{lineAt, Stored}
 use Rattle.sheet.specs.Laws.Kinds.{width-small}
 use Rattle.sheet.proofs.Standing.{lines-length, all-length, row-fits}
-use Rattle.sheet.proofs.Tested.{misplaced-is, many-is, outside-is, unpaired-is, above-is}
+use Rattle.sheet.proofs.Tested.{misplaced-is, many-is, outside-is, unpaired-is, late-is, above-is}
 use Rattle.sheet.proofs.FirstFault.{Left, Tried, first, left-next, left-stop}
 use Rattle.sheet.proofs.judge.fault_of.Statement.{statement}
 use Rattle.sheet.proofs.judge.fault_of.Tie as tie
@@ -69,15 +69,17 @@ left-7 c = left-next (left-3 (c .before .before)) (tried-7 (c .before) false (lt
 abbrev row-4 : tie.After-is-outside → tie.After-row-of
 row-4 c = row-7 (c .before .before .before)
 
+passed-3 : (c : tie.After-is-outside)
+    → let a = entry (row-4 c) .args in (before : List Line) → Stored before (a .lines .now) (a .all .now) → misplaced before (lineAt (a .kind) (a .values)) ≡ false
+passed-3 c = let p = c .before .before .before .before in misplaced-at (p .before) false (p .if1 .left)
+
 tried-4 : (c : tie.After-is-outside) (b : Bool) → c .is-outside .result ≡ b → TriedAt (row-4 c) 4 6 b
 unfolding tests
 tried-4 c b e =
     let r = row-4 c in
-    let p = c .before .before .before .before in
     record {
       of = λ before S. ap (first 4 _)
-          (outside-is S (entry r .pre .0) (r .row-of .ensures) (entry r .args .values) (c .before .places-with .ensures)
-          (misplaced-at (p .before) false (p .if1 .left) before S)
+          (outside-is S (entry r .pre .0) (r .row-of .ensures) (entry r .args .values) (c .before .places-with .ensures) (passed-3 c before S)
           ∙ sym (c .is-outside .ensures)
           ∙ e);
     }
@@ -89,18 +91,32 @@ left-4 c = left-next (left-7 (c .before .before .before)) (tried-4 (c .before) f
 abbrev row-6 : tie.After-is-unpaired → tie.After-row-of
 row-6 c = row-4 (c .before .before)
 
-tried-6 : (c : tie.After-is-unpaired) (b : Bool) → c .is-unpaired .result ≡ b → TriedAt (row-6 c) 6 5 b
+tried-6 : (c : tie.After-is-unpaired) (b : Bool) → c .is-unpaired .result ≡ b → TriedAt (row-6 c) 6 16 b
 unfolding tests
 tried-6 c b e =
     let r = row-6 c in
     record { of = λ before S. ap (first 6 _) (unpaired-is S (entry r .pre .0) (r .row-of .ensures) (entry r .args .values) ∙ sym (c .is-unpaired .ensures) ∙ e) }
 
-left-6 : (c : tie.Else4) → LeftAt (row-6 (c .before)) 5
+left-6 : (c : tie.Else4) → LeftAt (row-6 (c .before)) 16
 left-6 c = left-next (left-4 (c .before .before)) (tried-6 (c .before) false (c .if4 .left))
+
+-- test 16, after test 3 has passed
+abbrev row-16 : tie.After-is-late → tie.After-row-of
+row-16 c = row-6 (c .before .before)
+
+tried-16 : (c : tie.After-is-late) (b : Bool) → c .is-late .result ≡ b → TriedAt (row-16 c) 16 5 b
+unfolding tests
+tried-16 c b e =
+    let r = row-16 c in
+    let p = passed-3 (c .before .before .before .before) in
+    record { of = λ before S. ap (first 16 _) (late-is S (entry r .pre .0) (entry r .args .values) (p before S) ∙ sym (c .is-late .ensures) ∙ e) }
+
+left-16 : (c : tie.Else5) → LeftAt (row-16 (c .before)) 5
+left-16 c = left-next (left-6 (c .before .before)) (tried-16 (c .before) false (c .if5 .left))
 
 -- test 5
 abbrev row-5 : tie.After-is-not-above → tie.After-row-of
-row-5 c = row-6 (c .before .before)
+row-5 c = row-16 (c .before .before)
 
 tried-5 : (c : tie.After-is-not-above) (b : Bool) → c .is-not-above .result ≡ b → TriedAt (row-5 c) 5 0 b
 unfolding tests
@@ -108,8 +124,8 @@ tried-5 c b e =
     let r = row-5 c in
     record { of = λ before S. ap (first 5 _) (above-is S (entry r .pre .0) (r .row-of .ensures) (entry r .args .values) ∙ sym (c .is-not-above .ensures) ∙ e) }
 
-left-5 : (c : tie.Else5) → LeftAt (row-5 (c .before)) 0
-left-5 c = left-next (left-6 (c .before .before)) (tried-5 (c .before) false (c .if5 .left))
+left-5 : (c : tie.Else6) → LeftAt (row-5 (c .before)) 0
+left-5 c = left-next (left-16 (c .before .before)) (tried-5 (c .before) false (c .if6 .left))
 
 row-of-requires : tie.Need-row-of-requires
 row-of-requires c κs = search needs
@@ -150,17 +166,23 @@ is-unpaired-requires c κs =
 returns-4 : tie.Need-returns-4
 returns-4 c = left-stop (left-4 (c .before .before)) (tried-6 (c .before) true (c .if4 .taken))
 
-is-not-above-requires : tie.Need-is-not-above-requires
-is-not-above-requires c κs =
-    let r = row-6 (c .before) in
-    row-fits (entry r .pre .1 .stored) (entry r .pre .0) (r .row-of .ensures)
+is-late-requires : tie.Need-is-late-requires
+is-late-requires c κs = omega (arith, all-length (entry (row-6 (c .before)) .pre .1 .stored))
 
 returns-5 : tie.Need-returns-5
-returns-5 c = left-stop (left-6 (c .before .before)) (tried-5 (c .before) true (c .if5 .taken))
+returns-5 c = left-stop (left-6 (c .before .before)) (tried-16 (c .before) true (c .if5 .taken))
+
+is-not-above-requires : tie.Need-is-not-above-requires
+is-not-above-requires c κs =
+    let r = row-16 (c .before) in
+    row-fits (entry r .pre .1 .stored) (entry r .pre .0) (r .row-of .ensures)
 
 returns-6 : tie.Need-returns-6
+returns-6 c = left-stop (left-16 (c .before .before)) (tried-5 (c .before) true (c .if6 .taken))
+
+returns-7 : tie.Need-returns-7
 unfolding tests
-returns-6 c = record { of = λ before S. sym (left-5 c .of before S) }
+returns-7 c = record { of = λ before S. sym (left-5 c .of before S) }
 
 pub fault-of-spec : {M : Type 1} → statement M
 fault-of-spec =
@@ -177,6 +199,8 @@ fault-of-spec =
     returns-3
     is-unpaired-requires
     returns-4
-    is-not-above-requires
+    is-late-requires
     returns-5
-    returns-6)
+    is-not-above-requires
+    returns-6
+    returns-7)
