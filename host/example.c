@@ -19,19 +19,20 @@ static uint32_t path[PLANNER_MOST_PATH];
 
 /* The refusals in words, by their numbers, as refusals.txt has them. */
 static const char *const meanings[] = {
-    "served",
-    "the sheet has more than 10,240 bytes",
-    "the line is malformed: its letter, its count of fields, a number or its line feed",
-    "the line is out of order: S comes first and once, then C, then O",
-    "a number is outside its range",
-    "the line is not above the line before",
-    "a corridor leads from a place to itself, or an occupancy ends before it begins",
-    "the sheet has more than 256 lines of this kind",
-    "there are more leading arrivals than room",
-    "there are more front costs than room",
-    "no journey on the front has this number",
-    "the path buffer is shorter than the journey",
-    "the buffer is shorter than the sheet",
+    [PLANNER_SERVED] = "served",
+    [PLANNER_TOO_LONG] = "the sheet has more than 10,240 bytes",
+    [PLANNER_MALFORMED] = "the line is malformed: its letter, its count of fields, a number or its line feed",
+    [PLANNER_OUT_OF_ORDER] = "the line is out of order: S comes first and once, then C, then O",
+    [PLANNER_OUT_OF_RANGE] = "a number is outside its range",
+    [PLANNER_NOT_ASCENDING] = "the line is not above the line before",
+    [PLANNER_REVERSED] = "a corridor leads from a place to itself, or an occupancy ends before it begins",
+    [PLANNER_TOO_MANY_LINES] = "the sheet has more than 256 lines of this kind",
+    [PLANNER_ROOM_ARRIVALS] = "there are more leading arrivals than room",
+    [PLANNER_ROOM_COSTS] = "there are more front costs than room",
+    [PLANNER_NOT_ON_FRONT] = "no journey on the front has this number",
+    [PLANNER_ROOM_PATH] = "the path buffer is shorter than the journey",
+    [PLANNER_ROOM_SHEET] = "the buffer is shorter than the sheet",
+    [PLANNER_LATE] = "the occupancy begins after the last step",
 };
 
 /* The position of the first byte of a line, counted from 1. */

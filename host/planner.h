@@ -1,10 +1,10 @@
 /* The planner's calls for a host in C or C++, in target/staticlib/libplanner.a (made by `rt staticlib planner`).
  *
  * The sheet, the front, the tie rule and the refusals are those of document 01, "The corridor sheet and the journeys
- * it offers", with what document 02 changed (E4: the kinds of bytes); their open points are decided in
- * docs/DECISIONS.md. What each call hands back and leaves in every lent
- * buffer is proved of the calls in crates/planner/src/lib.rt. That this header declares those calls is not proved;
- * tests/host runs each of them through it.
+ * it offers", with what document 02 changed (E4: the kinds of bytes; E6: PLANNER_LATE); their open points are
+ * decided in docs/DECISIONS.md. What each call hands back and leaves in every lent buffer is proved of the calls in
+ * crates/planner/src/lib.rt. That this header declares those calls is not proved; tests/host runs each of them through
+ * it.
  *
  * Holds for every call:
  * - An array is passed as a pointer and a length, the count of its elements. A pointer is never null, not even where
@@ -43,11 +43,12 @@ extern "C" {
 #define PLANNER_ARRIVAL_WIDTH 5     /* a row of the arrivals table: place, step, c1, c2, c3 */
 #define PLANNER_COST_WIDTH 4        /* a row of the front list: c1, c2, c3, arrival step */
 
-/* The refusals. PLANNER_TOO_LONG comes first; then the first faulty line is named, tested in the order 2, 3, 7, 4, 6,
- * 5; then 8 and 9, or 8, 10 and 11 for a journey. The writer: 2, then 7, 4, 6, 5 line by line, then 12. */
+/* The refusals: those of the sheet, 1 to 7 and 16, and those of the host, 8 to 12. PLANNER_TOO_LONG comes first; then
+ * the first faulty line is named, tested in the order 2, 3, 7, 4, 6, 16, 5; then 8 and 9, or 8, 10 and 11 for a journey.
+ * The writer: 2, then 7, 4, 6, 16, 5 line by line, then 12. */
 enum PlannerRefusal {
     PLANNER_SERVED = 0,           /* no refusal */
-    /* caused by the writer of the sheet */
+    /* of the sheet: caused by its writer */
     PLANNER_TOO_LONG = 1,         /* more than PLANNER_MOST_BYTES bytes; line 0 */
     PLANNER_MALFORMED = 2,        /* a first field other than S, C, O; a wrong count of fields; a bad number; an empty
                                      line; a line feed missing */
@@ -56,12 +57,14 @@ enum PlannerRefusal {
     PLANNER_NOT_ASCENDING = 5,    /* a C or O line not above the one before */
     PLANNER_REVERSED = 6,         /* a corridor from a place to itself, or last below first */
     PLANNER_TOO_MANY_LINES = 7,   /* a 257th C or O line */
-    /* caused by the host; line 0 */
+    /* of the host; line 0 */
     PLANNER_ROOM_ARRIVALS = 8,    /* more leading arrivals than room in the arrivals table */
     PLANNER_ROOM_COSTS = 9,       /* more front costs than room in the front list */
     PLANNER_NOT_ON_FRONT = 10,    /* a journey number not on the front */
     PLANNER_ROOM_PATH = 11,       /* a path buffer shorter than the arrival step + 1 */
-    PLANNER_ROOM_SHEET = 12       /* a buffer shorter than the sheet to be written */
+    PLANNER_ROOM_SHEET = 12,      /* a buffer shorter than the sheet to be written */
+    /* of the sheet */
+    PLANNER_LATE = 16             /* an occupancy that begins after the last step; it may end after it */
 };
 
 /* The kinds of bytes. */
@@ -109,7 +112,7 @@ typedef struct {
 /* Reads a sheet.
  *
  * Hands back: the three groups by value, which planner_write turns back into the same bytes.
- * Refuses with: 1 (line 0); 2 to 7 (the first line at fault).
+ * Refuses with: 1 (line 0); 2 to 7 and 16 (the first line at fault).
  * Lent to be written: nothing.
  * Stack: 27,896 bytes measured. */
 PlannerSheetRead planner_read(const uint8_t *sheet, size_t sheet_len);
@@ -120,8 +123,8 @@ PlannerSheetRead planner_read(const uint8_t *sheet, size_t sheet_len);
  *
  * Hands back: the count of bytes written; planner_read turns them back into the same groups.
  * Refuses with: 2 (line 0: head_len is not 7, corridors_len no multiple of 5 or occupancies_len none of 3); 4 to 7
- * (the first line at fault, as counted in the sheet to be written); 12 (line 0). PLANNER_MOST_BYTES bytes are always
- * enough.
+ * and 16 (the first line at fault, as counted in the sheet to be written); 12 (line 0). PLANNER_MOST_BYTES bytes are
+ * always enough.
  * out: the bytes of the sheet, and past them kept. Refused: kept.
  * Stack: 8,564 bytes measured. */
 PlannerSheetWritten planner_write(const uint32_t *head, size_t head_len, const uint32_t *corridors,
@@ -132,9 +135,9 @@ PlannerSheetWritten planner_write(const uint32_t *head, size_t head_len, const u
  * Room for arrivals is arrivals_len / PLANNER_ARRIVAL_WIDTH, for costs list_len / PLANNER_COST_WIDTH, rounded down.
  *
  * Hands back: the count of front costs and the number of leading arrivals. An empty front is no refusal.
- * Refuses with: 1 (line 0); 2 to 7 (the first line at fault); 8 (line 0); 9 (line 0).
+ * Refuses with: 1 (line 0); 2 to 7 and 16 (the first line at fault); 8 (line 0); 9 (line 0).
  * arrivals: a row for each leading arrival (place, step, c1, c2, c3), ascending by step, place, cost, then zeros to
- * its end. Refused with 1 to 7: kept. Refused with 8 or 9: zeros from its first element to its last.
+ * its end. Refused with 1 to 7 or 16: kept. Refused with 8 or 9: zeros from its first element to its last.
  * list: a row for each front cost (c1, c2, c3, arrival step), ascending by c1, c2, c3, then zeros to its end. The
  * arrival step is the earliest at which a lawful journey with that cost arrives. Refused: kept.
  * Stack: 183,016 bytes measured. */
@@ -147,10 +150,10 @@ PlannerFrontAnswer planner_front(const uint8_t *sheet, size_t sheet_len, uint32_
  * nothing that planner_front left is read. Room for arrivals is that of planner_front.
  *
  * Hands back: the cost and the arrival step.
- * Refuses with: 1 (line 0); 2 to 7 (the first line at fault); 8 (line 0); 10 (line 0; every number, where the front is
- * empty); 11 (line 0). PLANNER_MOST_PATH places are always enough.
- * arrivals: as planner_front leaves it. Refused with 1 to 7: kept. Refused with 8, 10 or 11: zeros from its first
- * element to its last.
+ * Refuses with: 1 (line 0); 2 to 7 and 16 (the first line at fault); 8 (line 0); 10 (line 0; every number, where the
+ * front is empty); 11 (line 0). PLANNER_MOST_PATH places are always enough.
+ * arrivals: as planner_front leaves it. Refused with 1 to 7 or 16: kept. Refused with 8, 10 or 11: zeros from its
+ * first element to its last.
  * path: a place for each step from 0 to the arrival step, then zeros to its end. Refused: kept.
  * Stack: 183,096 bytes measured. */
 PlannerJourneyAnswer planner_journey(const uint8_t *sheet, size_t sheet_len, uint32_t number, uint32_t *arrivals,

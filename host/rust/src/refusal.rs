@@ -3,11 +3,11 @@
 use std::error::Error;
 use std::fmt;
 
-/// A refusal of the planner, 1 to 12, with the line at fault, counted from 1, or 0 where no line is at fault. It
-/// displays in words.
+/// A refusal of the planner with the line at fault, counted from 1, or 0 where no line is at fault. It displays in
+/// words.
 #[derive(Clone, Copy, Debug, PartialEq, Eq, Hash)]
 pub struct Refusal {
-    /// 1 to 7 are caused by the sheet, 8 to 12 by the caller.
+    /// 1 to 7 and 16 are caused by the sheet, 8 to 12 by the caller.
     pub number: u32,
     /// The line at fault.
     pub line: u32,
@@ -34,6 +34,7 @@ impl Refusal {
             10 => "no journey on the front has this number",
             11 => "the path buffer is shorter than the journey",
             12 => "the buffer is shorter than the sheet",
+            16 => "the occupancy begins after the last step",
             _ => "the planner gives no such number",
         }
     }

@@ -40,13 +40,13 @@ pub struct Corridor {
 pub struct Occupancy {
     /// The place.
     pub place: Place,
-    /// The first step at which it is occupied.
+    /// The first step at which it is occupied, not after the sheet's last step.
     pub first: Step,
     /// The last step at which it is occupied.
     pub last: Step,
 }
 
-/// The values of a sheet's text. Refuses with 1 to 7.
+/// The values of a sheet's text. Refuses with 1 to 7 and 16.
 pub fn read(text: &[u8]) -> Result<Sheet, Refusal> {
     let answer = calls::read(text);
     Refusal::check(answer.refusal, answer.line)?;
@@ -63,8 +63,8 @@ pub fn read(text: &[u8]) -> Result<Sheet, Refusal> {
     })
 }
 
-/// The text of a sheet, which reads back as the same values. Refuses with 4 to 7; the line is the one that the text
-/// would have.
+/// The text of a sheet, which reads back as the same values. Refuses with 4 to 7 and 16; the line is the one that the
+/// text would have.
 pub fn write(sheet: &Sheet) -> Result<Vec<u8>, Refusal> {
     let [w1, w2, w3] = sheet.waiting;
     let head = [sheet.places, sheet.steps.0, sheet.start.0, sheet.goal.0, w1, w2, w3];
