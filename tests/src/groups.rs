@@ -45,7 +45,7 @@ pub fn longest_groups() -> Groups {
     }
 }
 
-/// Random groups that are in order and in range, now and then with a 257th line of a kind or with late occupancies.
+/// Random groups that are in order and in range, now and then with a 257th line of a kind or with a late occupancy.
 pub fn random_groups(random: &mut Random) -> Groups {
     if random.percent(3) {
         return longest_groups();
@@ -83,17 +83,20 @@ fn random_corridors(random: &mut Random, places: u32) -> Vec<u32> {
         .collect()
 }
 
-/// Random occupancy lines in ascending order, which begin within so many steps, often at the last; now and then some
-/// begin one step late.
+/// Random occupancy lines in ascending order, which begin within so many steps, often at the last; now and then one
+/// more at the end, in order or not, that begins one step late.
 fn random_occupancies(random: &mut Random, places: u32, steps: u32) -> Vec<u32> {
     let count = random_count(random).min(256 * places as usize);
-    let latest = if random.percent(5) { (steps + 1).min(255) } else { steps };
     let mut occupancies = BTreeSet::new();
     while occupancies.len() < count {
-        let first = if random.percent(15) { latest } else { random_step(random) % (steps + 1) };
+        let first = if random.percent(15) { steps } else { random_step(random) % (steps + 1) };
         occupancies.insert([random.from_to(0, places - 1), first, first.max(random_step(random))]);
     }
-    occupancies.into_iter().flatten().collect()
+    let mut lines: Vec<[u32; 3]> = occupancies.into_iter().collect();
+    if steps < 255 && random.percent(5) {
+        lines.push([random.from_to(0, places - 1), steps + 1, 255]);
+    }
+    lines.concat()
 }
 
 /// A count of lines: mostly few, at times as many as there may be or one more.
