@@ -67,7 +67,9 @@ fn occupancies_of(widths: &[u32]) -> Vec<u32> {
             if step > 0 {
                 occupancies.extend([place, 0, step - 1]);
             }
-            occupancies.extend([place, step + 1, 255]);
+            if step + 1 < widths.len() as u32 {
+                occupancies.extend([place, step + 1, 255]);
+            }
             place += 1;
         }
     }

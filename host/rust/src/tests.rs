@@ -126,6 +126,16 @@ fn the_writer_names_the_line_that_the_text_would_have() {
 }
 
 #[test]
+fn a_horizon_typed_too_short_is_told_when_written() {
+    let mut sheet = read(B.as_bytes()).expect("the sheet is served");
+    sheet.occupancies[0].first = Step(4);
+    sheet.occupancies[0].last = Step(9);
+    assert!(write(&sheet).is_ok());
+    sheet.steps = Step(3);
+    assert_eq!(write(&sheet), Err(Refusal { number: 16, line: 7 }));
+}
+
+#[test]
 fn the_refusals_of_a_sheet() {
     let refused = |text: &str| refused(text, Room::default());
     assert_eq!(refused(&"\n".repeat(10_241)), (1, 0));
@@ -134,8 +144,9 @@ fn the_refusals_of_a_sheet() {
     assert_eq!(refused(&a_with("O,1,1,2", "O,4,1,2")), (4, 6));
     assert_eq!(refused(&a_with("C,0,2,", "C,0,1,")), (5, 3));
     assert_eq!(refused(&a_with("O,1,1,2", "O,1,5,4")), (6, 6));
-    let occupied: String = (0..257).map(|n| format!("O,{},{},255\n", n / 100, n % 100)).collect();
+    let occupied: String = (0..257).map(|n| format!("O,{},0,{}\n", n / 100, n % 100)).collect();
     assert_eq!(refused(&format!("S,4,6,0,3,1,0,0\n{occupied}")), (7, 258));
+    assert_eq!(refused(&a_with("O,1,1,2", "O,1,7,7")), (16, 6));
 }
 
 #[test]
@@ -154,4 +165,5 @@ fn a_refusal_in_words() {
     let words = |number, line| Refusal { number, line }.to_string();
     assert_eq!(words(4, 3), "refusal 4 at line 3: a number is outside its range");
     assert_eq!(words(8, 0), "refusal 8: there are more leading arrivals than room");
+    assert_eq!(words(16, 6), "refusal 16 at line 6: the occupancy begins after the last step");
 }
