@@ -35,6 +35,14 @@ static const char *const meanings[] = {
     [PLANNER_LATE] = "the occupancy begins after the last step",
 };
 
+/* What a refusal's number means. */
+static const char *meaning_of(uint32_t number)
+{
+    if (number < LENGTH(meanings) && meanings[number] != NULL)
+        return meanings[number];
+    return "the planner gives no such number";
+}
+
 /* The position of the first byte of a line, counted from 1. */
 static size_t start_of(uint32_t line)
 {
@@ -59,7 +67,7 @@ static int print_refusal(uint32_t number, uint32_t line)
     printf("refusal %" PRIu32, number);
     if (line != 0)
         printf(" at line %" PRIu32, line);
-    printf(": %s\n", meanings[number]);
+    printf(": %s\n", meaning_of(number));
     if (line != 0)
         print_line(line);
     return 1;

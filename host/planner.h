@@ -43,8 +43,8 @@ extern "C" {
 #define PLANNER_ARRIVAL_WIDTH 5     /* a row of the arrivals table: place, step, c1, c2, c3 */
 #define PLANNER_COST_WIDTH 4        /* a row of the front list: c1, c2, c3, arrival step */
 
-/* The refusals: those of the sheet, 1 to 7 and 16, and those of the host, 8 to 12. PLANNER_TOO_LONG comes first; then
- * the first faulty line is named, tested in the order 2, 3, 7, 4, 6, 16, 5; then 8 and 9, or 8, 10 and 11 for a journey.
+/* The refusals of the sheet, 1 to 7 and 16, and those of the host, 8 to 12. PLANNER_TOO_LONG comes first; then the
+ * first faulty line is named, tested in the order 2, 3, 7, 4, 6, 16, 5; then 8 and 9, or 8, 10 and 11 for a journey.
  * The writer: 2, then 7, 4, 6, 16, 5 line by line, then 12. */
 enum PlannerRefusal {
     PLANNER_SERVED = 0,           /* no refusal */
@@ -112,7 +112,7 @@ typedef struct {
 /* Reads a sheet.
  *
  * Hands back: the three groups by value, which planner_write turns back into the same bytes.
- * Refuses with: 1 (line 0); 2 to 7 and 16 (the first line at fault).
+ * Refuses with: the refusals of the sheet, 1 at line 0, the others at the first line at fault.
  * Lent to be written: nothing.
  * Stack: 27,896 bytes measured. */
 PlannerSheetRead planner_read(const uint8_t *sheet, size_t sheet_len);
@@ -135,9 +135,9 @@ PlannerSheetWritten planner_write(const uint32_t *head, size_t head_len, const u
  * Room for arrivals is arrivals_len / PLANNER_ARRIVAL_WIDTH, for costs list_len / PLANNER_COST_WIDTH, rounded down.
  *
  * Hands back: the count of front costs and the number of leading arrivals. An empty front is no refusal.
- * Refuses with: 1 (line 0); 2 to 7 and 16 (the first line at fault); 8 (line 0); 9 (line 0).
+ * Refuses with: the refusals of the sheet, as planner_read; 8 (line 0); 9 (line 0).
  * arrivals: a row for each leading arrival (place, step, c1, c2, c3), ascending by step, place, cost, then zeros to
- * its end. Refused with 1 to 7 or 16: kept. Refused with 8 or 9: zeros from its first element to its last.
+ * its end. Refused with one of the sheet: kept. Refused with 8 or 9: zeros from its first element to its last.
  * list: a row for each front cost (c1, c2, c3, arrival step), ascending by c1, c2, c3, then zeros to its end. The
  * arrival step is the earliest at which a lawful journey with that cost arrives. Refused: kept.
  * Stack: 183,016 bytes measured. */
@@ -150,9 +150,9 @@ PlannerFrontAnswer planner_front(const uint8_t *sheet, size_t sheet_len, uint32_
  * nothing that planner_front left is read. Room for arrivals is that of planner_front.
  *
  * Hands back: the cost and the arrival step.
- * Refuses with: 1 (line 0); 2 to 7 and 16 (the first line at fault); 8 (line 0); 10 (line 0; every number, where the
- * front is empty); 11 (line 0). PLANNER_MOST_PATH places are always enough.
- * arrivals: as planner_front leaves it. Refused with 1 to 7 or 16: kept. Refused with 8, 10 or 11: zeros from its
+ * Refuses with: the refusals of the sheet, as planner_read; 8 (line 0); 10 (line 0; every number, where the front is
+ * empty); 11 (line 0). PLANNER_MOST_PATH places are always enough.
+ * arrivals: as planner_front leaves it. Refused with one of the sheet: kept. Refused with 8, 10 or 11: zeros from its
  * first element to its last.
  * path: a place for each step from 0 to the arrival step, then zeros to its end. Refused: kept.
  * Stack: 183,096 bytes measured. */

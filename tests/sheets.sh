@@ -1,5 +1,5 @@
-# Sheets at the ends of a sheet's length and of the program's room, and ways to deliver a sheet, for tests/program and
-# tests/plan: a function prints each, and its comment says what it offers.
+# Sheets at the ends of a sheet's length and of the program's room, and ways to deliver a sheet, for tests/program,
+# tests/plan and tests/host: a function prints each, and its comment says what it offers.
 
 # Sheet A.
 sheet_a() {

@@ -1,4 +1,4 @@
-//! The stored cases: inputs with the refusal number and the line that document 01 gives them.
+//! The stored cases: inputs with the refusal number and the line that documents 01 and 02 give them.
 //!
 //! A case is a line of text, a line that begins with # is a comment. A sheet's case is
 //! `REFUSAL LINE "TEXT" REMARK`; in the text `\n` is a line feed, `\xHH` a byte, and `{N*C}`, `{N*O}` are N

@@ -1,4 +1,4 @@
-//! Tests of the planner from Rust: references written from document 01 alone, and random inputs for them and for the
+//! Tests of the planner from Rust: references written from documents 01 and 02 alone, and random inputs for them and for the
 //! planner's calls.
 
 pub mod cases;

@@ -78,7 +78,8 @@ fn front_stored(lines: &[u32], all: &[u32], table: &mut [u32], list: &mut [u32])
     front_of(lines, all, &since, table, list)
 }
 
-// The front of the sheet with these bytes: the arrivals table and the front list filled, zeros to their ends; or a refusal, 1 to 9.
+// The front of the sheet with these bytes: the arrivals table and the front list filled, zeros to their ends; or a refusal of the
+// sheet, 8 or 9.
 pub fn front(sheet: &[u8], table: &mut [u32], list: &mut [u32]) -> FrontAnswer
     ensures { λ r. ⌜ frontEnd r (now (table .exit)) (now (list .exit)) ≡ frontCall (now (sheet .entry)) (now (table .entry)) (now (list .entry)) ⌝ }
 {
@@ -184,7 +185,7 @@ fn journey_stored(
 }
 
 // The journey with a number in the front of the sheet with these bytes, from 0: the path buffer holds one place for each step, then zeros, and the arrivals
-// table is filled; or a refusal, 1 to 8, 10 or 11.
+// table is filled; or a refusal of the sheet, 8, 10 or 11.
 pub fn journey(sheet: &[u8], number: u32, table: &mut [u32], path: &mut [u32]) -> JourneyAnswer
     ensures { λ r. ⌜ journeyEnd r (now (table .exit)) (now (path .exit)) ≡ journeyCall (now (sheet .entry)) number (now (table .entry)) (now (path .entry)) ⌝ }
 {

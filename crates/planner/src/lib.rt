@@ -14,7 +14,7 @@ use sheet::bytes::kind_of;
 use sheet::reader::read;
 use sheet::writer::write;
 
-// Reads a sheet: its groups by value, or one numbered refusal (1 to 7, 16) with the line at fault and zeros.
+// Reads a sheet: its groups by value, or one numbered refusal of the sheet (1 to 7, 16) with the line at fault and zeros.
 #[no_mangle]
 pub extern "C" fn planner_read(sheet: &[u8]) -> SheetRead
     ensures { λ r. ⌜ r ≡ readCall (now (sheet .entry)) ⌝ }
@@ -37,7 +37,7 @@ pub extern "C" fn planner_write(
 }
 
 // The front of a sheet: the arrivals table and the front list are filled, zeros to their ends, and the counts are handed back; or one numbered
-// refusal: 1 to 7 or 16 with the line at fault and the arrays kept, 8 or 9 with zeros in the arrivals table and the list kept.
+// refusal: one of the sheet with the line at fault and the arrays kept, 8 or 9 with zeros in the arrivals table and the list kept.
 #[no_mangle]
 pub extern "C" fn planner_front(sheet: &[u8], arrivals: &mut [u32], list: &mut [u32]) -> FrontAnswer
     ensures { λ r. ⌜ frontEnd r (now (arrivals .exit)) (now (list .exit)) ≡ frontCall (now (sheet .entry)) (now (arrivals .entry)) (now (list .entry)) ⌝ }
@@ -46,8 +46,8 @@ pub extern "C" fn planner_front(sheet: &[u8], arrivals: &mut [u32], list: &mut [
 }
 
 // The journey with a number in the front, from 0: the path buffer holds one place for each step, then zeros, the arrivals table is filled, and the
-// cost and the arrival step are handed back; or one numbered refusal: 1 to 7 or 16 with the line at fault and the arrays kept, 8, 10 or 11 with
-// zeros in the arrivals table and the path buffer kept.
+// cost and the arrival step are handed back; or one numbered refusal: one of the sheet with the line at fault and the arrays kept, 8, 10 or 11
+// with zeros in the arrivals table and the path buffer kept.
 #[no_mangle]
 pub extern "C" fn planner_journey(
     sheet: &[u8],

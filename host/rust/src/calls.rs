@@ -126,14 +126,14 @@ unsafe extern "C" {
     fn planner_kind(byte: u8) -> u32;
 }
 
-/// Reads a sheet: its groups by value. Refuses with 1 to 7 and 16.
+/// Reads a sheet: its groups by value. Refuses with the sheet's refusals ([`Refusal::number`](crate::Refusal::number)).
 pub fn read(sheet: &[u8]) -> SheetRead {
     // Safety: pointer and length are those of one slice, never null, and the call has no other precondition.
     unsafe { planner_read(sheet.as_ptr(), sheet.len()) }
 }
 
-/// Writes the sheet of three groups into the buffer, which is kept past the bytes written. Refuses with 2, 4 to 7, 12 and
-/// 16; the buffer is kept then.
+/// Writes the sheet of three groups into the buffer, which is kept past the bytes written. Refuses with 2, 4 to 7, 12
+/// and 16; the buffer is kept then.
 pub fn write(head: &[u32], corridors: &[u32], occupancies: &[u32], out: &mut [u8]) -> SheetWritten {
     // Safety: as for the reader; the buffer is borrowed for this call alone, so it overlaps nothing.
     unsafe {
@@ -150,8 +150,8 @@ pub fn write(head: &[u32], corridors: &[u32], occupancies: &[u32], out: &mut [u8
     }
 }
 
-/// Fills the arrivals table and the front list of a sheet, with zeros to their ends. Refuses with 1 to 9 and 16; the list is
-/// kept then, the table is kept with 1 to 7 and 16 and all zeros with 8 and 9.
+/// Fills the arrivals table and the front list of a sheet, with zeros to their ends. Refuses with the sheet's refusals, 8
+/// and 9; the list is kept then, the table is kept with the sheet's and all zeros with 8 and 9.
 pub fn front(sheet: &[u8], arrivals: &mut [u32], list: &mut [u32]) -> FrontAnswer {
     // Safety: as for the writer; the two buffers are borrowed apart.
     unsafe {
@@ -159,9 +159,9 @@ pub fn front(sheet: &[u8], arrivals: &mut [u32], list: &mut [u32]) -> FrontAnswe
     }
 }
 
-/// Fills the arrivals table of a sheet and the path of the journey with a number in the front, from 0, with zeros to their
-/// ends. Refuses with 1 to 8, 10, 11 and 16; the path is kept then, the table is kept with 1 to 7 and 16 and all zeros with
-/// the rest.
+/// Fills the arrivals table of a sheet and the path of the journey with a number in the front, from 0, with zeros to
+/// their ends. Refuses with the sheet's refusals, 8, 10 and 11; the path is kept then, the table is kept with the sheet's
+/// and all zeros with the rest.
 pub fn journey(sheet: &[u8], number: u32, arrivals: &mut [u32], path: &mut [u32]) -> JourneyAnswer {
     // Safety: as for the front.
     unsafe {

@@ -33,7 +33,7 @@ pub type Cost = [u32; 3];
 #[derive(Clone, Copy, Debug, PartialEq, Eq, PartialOrd, Ord, Hash)]
 pub struct Place(pub u32);
 
-/// A step, from 0 to the sheet's last.
+/// A step, from 0 to the sheet's last; that of an occupancy's end may lie after it.
 #[derive(Clone, Copy, Debug, PartialEq, Eq, PartialOrd, Ord, Hash)]
 pub struct Step(pub u32);
 

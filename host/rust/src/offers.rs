@@ -62,7 +62,7 @@ pub struct Journey {
     pub places: Vec<Place>,
 }
 
-/// The front of a sheet's text. Refuses with 1 to 9.
+/// The front of a sheet's text. Refuses with the sheet's refusals, 8 and 9.
 ///
 /// # Panics
 /// Where the memory for the room cannot be had.
@@ -80,7 +80,7 @@ pub fn front(text: &[u8], room: Room) -> Result<Front, Refusal> {
 }
 
 /// The journey with a number in the front, from 0, of a sheet's text. Of the room only that for arrivals counts.
-/// Refuses with 1 to 8 and 10.
+/// Refuses with the sheet's refusals, 8 and 10.
 ///
 /// # Panics
 /// Where the memory for the room cannot be had.

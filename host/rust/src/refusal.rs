@@ -7,7 +7,7 @@ use std::fmt;
 /// words.
 #[derive(Clone, Copy, Debug, PartialEq, Eq, Hash)]
 pub struct Refusal {
-    /// 1 to 7 and 16 are caused by the sheet, 8 to 12 by the caller.
+    /// 1 to 7 and 16 are the sheet's refusals, 8 to 12 the caller's.
     pub number: u32,
     /// The line at fault.
     pub line: u32,

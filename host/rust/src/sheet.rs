@@ -42,11 +42,11 @@ pub struct Occupancy {
     pub place: Place,
     /// The first step at which it is occupied, not after the sheet's last step.
     pub first: Step,
-    /// The last step at which it is occupied.
+    /// The last step at which it is occupied, up to 255; it may lie after the sheet's last step.
     pub last: Step,
 }
 
-/// The values of a sheet's text. Refuses with 1 to 7 and 16.
+/// The values of a sheet's text. Refuses with the sheet's refusals.
 pub fn read(text: &[u8]) -> Result<Sheet, Refusal> {
     let answer = calls::read(text);
     Refusal::check(answer.refusal, answer.line)?;

@@ -1,4 +1,4 @@
-//! Document 01's "Sheets to try", through the wrapper.
+//! Document 01's "Sheets to try", and each refusal of a sheet, through the wrapper.
 
 use crate::{Cost, Place, Refusal, Room, Step, front, journey, read, write};
 

@@ -47,7 +47,7 @@ same-interval s r h v a b i =
 abbrev pub cutOff : ℕ → List ℕ → List ℕ
 cutOff T o = placeOf o ∷ first o ∷ pick (leb (last o) T) (last o) T ∷ []
 
--- the sheet without what lies past its horizon: its occupancies begin within it (document 02, E6), and are cut off where they end past it
+-- the sheet with its occupancies cut off at its horizon; on a sheet that is read each begins within it (document 02, E6)
 unfoldable pub withinHorizon : Sheet → Sheet
 withinHorizon s =
     record { head = s .head; corridors = s .corridors; occupancies = map (cutOff (steps s)) (s .occupancies) }

@@ -50,7 +50,7 @@ texts =
     ∷ reads "S,4,6,0,3, 1,0,0\n" 2 1
     ∷ reads "S,4,6,0,3,1,0,0\r\n" 2 1
     ∷ reads "S,4,6,0,3,100000,0,0\n" 2 1
-    -- 3: no S line first, a second S, C after O; before 7, 4, 6, 16 and 5
+    -- 3: no S line first, a second S, C after O; before 7, 4, 6 and 5
     ∷ reads "C,9,9,60001,0,0\n" 3 1
     ∷ reads "S,4,6,0,3,1,0,0\nS,4,6,0,3,1,0,0\n" 3 2
     ∷ reads "S,4,6,0,3,1,0,0\nO,1,1,2\nC,0,1,0,0,0\n" 3 3

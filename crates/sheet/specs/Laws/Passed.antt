@@ -1,5 +1,5 @@
 -- Which test a fault names: the first of the list that fails. What it says that a line passes: each of its tests, by name, does not fail; and what it
--- says that lines pass one after another, for the lines of an appended list and for each line at its position. Nothing here depends on which kinds there are.
+-- says that lines pass one after another, for the lines of an appended list and for each line at its position. No proof here looks at a kind.
 use mathlib.Core.Path.{_≡_, refl, sym, _∙_, ap, subst}
 use mathlib.Core.Logic.{inl, inr, _≢_}
 use mathlib.Core.Bool.{Bool, true, false, _||_, true≢false}
@@ -63,7 +63,8 @@ first-of : (ts : List (ℕ × Bool)) → firstFailed ts ≢ 0 → First ts (firs
 first-of [] h = absurd (h refl)
 first-of (t ∷ ts) h = go (t .1) refl h (first-of ts)
   where
-    go : (b : Bool) → t .1 ≡ b → pick b (t .0) (firstFailed ts) ≢ 0 → (firstFailed ts ≢ 0 → First ts (firstFailed ts)) → First (t ∷ ts) (pick b (t .0) (firstFailed ts))
+    go : (b : Bool) → t .1 ≡ b → pick b (t .0) (firstFailed ts) ≢ 0 → (firstFailed ts ≢ 0 → First ts (firstFailed ts))
+        → First (t ∷ ts) (pick b (t .0) (firstFailed ts))
     go true q d f = record { earlier = []; later = ts; parts = ap (λ (b : Bool). (t .0, b) ∷ ts) q; pass = tt }
     go false q d f =
         let r = f d in
@@ -84,18 +85,18 @@ pub record Passed (before : List Line) (l : Line) : Type 0 where
   pub few : tooMany before l ≡ false
   pub inside : outside (number (headIn (before ++ (l ∷ []))) 0) (l .kind .limits) (l .numbers) ≡ false
   pub paired : unpaired (l .kind .pair) (l .numbers) ≡ false
-  pub in-time : late (number (headIn (before ++ (l ∷ []))) 1) l ≡ false
+  pub timely : late (number (headIn (before ++ (l ∷ []))) 1) l ≡ false
   pub above : notAbove (l .kind .key) (latest (group (l .kind) before)) (l .numbers) ≡ false
 
 pub fault-passed : (before : List Line) (l : Line) → fault before l ≡ 0 → Passed before l
 unfolding fault tests
 fault-passed before l e =
     let r = none-fails (tests before l) (omega arith) e in
-    record { placed = r .0; few = r .1 .0; inside = r .1 .1 .0; paired = r .1 .1 .1 .0; in-time = r .1 .1 .1 .1 .0; above = r .1 .1 .1 .1 .1 .0 }
+    record { placed = r .0; few = r .1 .0; inside = r .1 .1 .0; paired = r .1 .1 .1 .0; timely = r .1 .1 .1 .1 .0; above = r .1 .1 .1 .1 .1 .0 }
 
 pub passed-fault : (before : List Line) (l : Line) → Passed before l → fault before l ≡ 0
 unfolding fault tests
-passed-fault before l p = none-failed (tests before l) (p .placed, (p .few, (p .inside, (p .paired, (p .in-time, (p .above, tt))))))
+passed-fault before l p = none-failed (tests before l) (p .placed, (p .few, (p .inside, (p .paired, (p .timely, (p .above, tt))))))
 
 -- appended lists
 pub passes-append : (before ls ms : List Line) → Passes before (ls ++ ms) → Passes before ls × Passes (before ++ ls) ms
@@ -123,15 +124,15 @@ passes-each P f before (x ∷ ls) p l (inl e) =
 passes-each P f before (x ∷ ls) p l (inr m) =
     subst (λ (k : List Line). P (headIn k) l) (append-snoc before x ls) (passes-each P f (before ++ (x ∷ [])) ls (p .1) l m)
 
--- its numbers inside their limits, paired, and in time
+-- its numbers inside their limits and paired, and no occupancy late
 pub passes-inside : (before ls : List Line) → Passes before ls → (l : Line) → l ∈ ls → outside (number (headIn (before ++ ls)) 0) (l .kind .limits) (l .numbers) ≡ false
 passes-inside = passes-each (λ h l. outside (number h 0) (l .kind .limits) (l .numbers) ≡ false) (λ b l q. q .inside)
 
 pub passes-paired : (before ls : List Line) → Passes before ls → (l : Line) → l ∈ ls → unpaired (l .kind .pair) (l .numbers) ≡ false
 passes-paired = passes-each (λ h l. unpaired (l .kind .pair) (l .numbers) ≡ false) (λ b l q. q .paired)
 
-pub passes-in-time : (before ls : List Line) → Passes before ls → (l : Line) → l ∈ ls → late (number (headIn (before ++ ls)) 1) l ≡ false
-passes-in-time = passes-each (λ h l. late (number h 1) l ≡ false) (λ b l q. q .in-time)
+pub passes-timely : (before ls : List Line) → Passes before ls → (l : Line) → l ∈ ls → late (number (headIn (before ++ ls)) 1) l ≡ false
+passes-timely = passes-each (λ h l. late (number h 1) l ≡ false) (λ b l q. q .timely)
 
 -- the last of a list with one more at its end
 pub latest-last : (before : List (List ℕ)) (n : List ℕ) → latest (before ++ (n ∷ [])) ≡ some n

@@ -1,5 +1,5 @@
 -- Lines of one kind in a row, for any kind, after lines of other kinds. If they are in shape and pass, they are a run: each has its count of
--- numbers, within their limits, paired and in time, there are not too many of them, and they ascend strictly by the key, since test 5 compares with the
+-- numbers, within their limits and paired, none is late, there are not too many of them, and they ascend strictly by the key, since test 5 compares with the
 -- line of its kind before it. And a run is in shape and passes, where the kinds before are earlier ones.
 use mathlib.Core.Path.{_≡_, refl, sym, _∙_, ap, ap₂, subst}
 use mathlib.Core.Logic.{_⊎_, inl, inr, ⊎-elim, _≢_}
@@ -22,7 +22,7 @@ use Rattle.sheet.specs.Laws.Members.{mem-left, mem-right, mem-append, me
 use Rattle.sheet.specs.Laws.Kinds.{orderKey}
 use Rattle.sheet.specs.Laws.Judge.{Passes}
 use Rattle.sheet.specs.Laws.Shape.{Shaped, AllShaped}
-use Rattle.sheet.specs.Laws.Passed.{false-or, false-any, Passed, fault-passed, passed-fault, passes-append, append-passes, passes-inside, passes-paired, passes-in-time, latest-last}
+use Rattle.sheet.specs.Laws.Passed.{false-or, false-any, Passed, fault-passed, passed-fault, passes-append, append-passes, passes-inside, passes-paired, passes-timely, latest-last}
 use Rattle.sheet.specs.Laws.Groups.{group-append, group-own, group-none, of-kind, group-other, later-kinds}
 use Rattle.sheet.specs.Laws.Limits.{Within, inside-within, within-inside}
 
@@ -31,7 +31,7 @@ pub record Run (p : List ℕ) (k : Kind) (ns : List (List ℕ)) : Type 0 where
   pub count : (n : List ℕ) → n ∈ ns → length n ≡ length (k .limits)
   pub within : (n : List ℕ) → n ∈ ns → Within (number p 0) (k .limits) n
   pub paired : (n : List ℕ) → n ∈ ns → unpaired (k .pair) n ≡ false
-  pub in-time : (n : List ℕ) → n ∈ ns → late (number p 1) (line k n) ≡ false
+  pub timely : (n : List ℕ) → n ∈ ns → late (number p 1) (line k n) ≡ false
   pub few : length ns ≤ k .most
   pub ascend : Ascending (take (k .key)) ns
 
@@ -74,7 +74,7 @@ passes-run before k ns rest e s q =
       count = λ n m. s (line k n) (mem-map (line k) n ns m) .count;
       within = λ n m. inside-within (number (headIn (before ++ all)) 0) (k .limits) n (passes-inside before all q (line k n) (there n m));
       paired = λ n m. passes-paired before all q (line k n) (there n m);
-      in-time = λ n m. passes-in-time before all q (line k n) (there n m);
+      timely = λ n m. passes-timely before all q (line k n) (there n m);
       few = let z = ap length e in let r = few-lines before k ns own (omega arith) in omega arith;
       ascend = lines-ascend before k ns own;
     }
@@ -92,7 +92,7 @@ run-tail p k n ns r =
       count = λ m i. r .count m (inr i);
       within = λ m i. r .within m (inr i);
       paired = λ m i. r .paired m (inr i);
-      in-time = λ m i. r .in-time m (inr i);
+      timely = λ m i. r .timely m (inr i);
       few = omega (arith, r .few);
       ascend = r .ascend .1;
     }
@@ -140,7 +140,7 @@ run-passes-after b before k (n ∷ ns) o a r = (
           few = lt-leb (k .most) (length (group k (b ∷ before))) (omega (arith, a .room));
           inside = within-inside (number (b .numbers) 0) (k .limits) n (r .within n (inl refl));
           paired = r .paired n (inl refl);
-          in-time = r .in-time n (inl refl);
+          timely = r .timely n (inl refl);
           above = a .begins;
         }
 

@@ -60,7 +60,7 @@ runs-valid s (rs, (rc, (ro, u))) =
       corridors = λ k m. corridor-valid s k (rc .count k m) (rc .within k m) (rc .paired k m);
       most-corridors = rc .few;
       corridors-ascend = rc .ascend;
-      occupancies = λ o m. occupancy-valid s o (ro .count o m) (ro .within o m) (ro .paired o m) (ro .in-time o m);
+      occupancies = λ o m. occupancy-valid s o (ro .count o m) (ro .within o m) (ro .paired o m) (ro .timely o m);
       most-occupancies = ro .few;
       occupancies-ascend = ro .ascend;
     }
@@ -113,13 +113,13 @@ valid-occupancy s o g (suc (suc (suc i))) h = absurd (omega arith)
 
 pub valid-runs : (s : Sheet) → Valid s → Runs s
 valid-runs s g = (
-  record { count = λ h m. sole (λ x. length x ≡ width kindS) m (g .wide); within = λ h m. sole (Within (places s) (kindS .limits)) m (at-within (places s) (kindS .limits) (s .head) (valid-head s g)); paired = λ n m. refl; in-time = λ n m. refl; few = omega arith; ascend = (tt, tt) },
+  record { count = λ h m. sole (λ x. length x ≡ width kindS) m (g .wide); within = λ h m. sole (Within (places s) (kindS .limits)) m (at-within (places s) (kindS .limits) (s .head) (valid-head s g)); paired = λ n m. refl; timely = λ n m. refl; few = omega arith; ascend = (tt, tt) },
   (
     record {
       count = λ k m. g .corridors k m .wide;
       within = λ k m. at-within (places s) (kindC .limits) k (valid-corridor s k (g .corridors k m));
       paired = λ k m. ne-eqb (from k) (to k) (g .corridors k m .apart);
-      in-time = λ k m. refl;
+      timely = λ k m. refl;
       few = g .most-corridors;
       ascend = g .corridors-ascend;
     },
@@ -128,7 +128,7 @@ valid-runs s g = (
         count = λ o m. g .occupancies o m .wide;
         within = λ o m. at-within (places s) (kindO .limits) o (valid-occupancy s o (g .occupancies o m));
         paired = λ o m. le-ltb (last o) (first o) (g .occupancies o m .ordered);
-        in-time = λ o m. le-ltb (steps s) (first o) (g .occupancies o m .begins);
+        timely = λ o m. le-ltb (steps s) (first o) (g .occupancies o m .begins);
         few = g .most-occupancies;
         ascend = g .occupancies-ascend;
       },
@@ -147,7 +147,7 @@ valid-shaped s g = runs-shaped (s .head) kinds (groupsOf s) (λ k m. m) (valid-r
 pub valid-passes : (s : Sheet) → Valid s → Passes [] (sheetLines s)
 valid-passes s g = (
   passed-fault [] h
-      (record { placed = refl; few = refl; inside = within-inside (places s) (kindS .limits) (s .head) (valid-runs s g .0 .within (s .head) (inl refl)); paired = refl; in-time = refl; above = refl }),
+      (record { placed = refl; few = refl; inside = within-inside (places s) (kindS .limits) (s .head) (valid-runs s g .0 .within (s .head) (inl refl)); paired = refl; timely = refl; above = refl }),
   runs-pass h [] (kindC ∷ kindO ∷ []) (s .corridors ∷ s .occupancies ∷ []) (kinds-ascend .1) (λ m i k j. earlier m i k j) (valid-runs s g .1),
 )
   where
