@@ -157,4 +157,5 @@ late-is {before = before} {all = all} S {k = k} h v m =
     go false q = refl
     go true q =
         let z : k ≡ kindO .order = eqb-true k (kindO .order) q in
-        rw (head-is S h v 1 (omega arith) m, ne-eqb k 0 (λ e. omega arith), getD-take (width (kindAt k)) v 1 0 (omega (arith, ap (λ (j : ℕ). width (kindAt j)) z)))
+        let w : 1 < width (kindAt k) = omega (arith, ap (λ (j : ℕ). width (kindAt j)) z) in
+        rw (head-is S h v 1 (omega arith) m, ne-eqb k 0 (λ e. omega arith), getD-take (width (kindAt k)) v 1 0 w)

@@ -42,7 +42,13 @@ occupancy-valid : (s : Sheet) (o : List ℕ) → length o ≡ width kindO → Wi
     → late (steps s) (line kindO o) ≡ false → ValidOccupancy s o
 occupancy-valid s o e w u t =
     let at = within-at (places s) (kindO .limits) o e w in
-    record { wide = e; place = at 0 (omega arith); in-day = at 2 (omega arith) .1; ordered = ltb-false (last o) (first o) u; begins = ltb-false (steps s) (first o) t }
+    record {
+      wide = e;
+      place = at 0 (omega arith);
+      in-day = at 2 (omega arith) .1;
+      ordered = ltb-false (last o) (first o) u;
+      begins = ltb-false (steps s) (first o) t;
+    }
 
 pub runs-valid : (s : Sheet) → Runs s → Valid s
 runs-valid s (rs, (rc, (ro, u))) =
@@ -113,7 +119,14 @@ valid-occupancy s o g (suc (suc (suc i))) h = absurd (omega arith)
 
 pub valid-runs : (s : Sheet) → Valid s → Runs s
 valid-runs s g = (
-  record { count = λ h m. sole (λ x. length x ≡ width kindS) m (g .wide); within = λ h m. sole (Within (places s) (kindS .limits)) m (at-within (places s) (kindS .limits) (s .head) (valid-head s g)); paired = λ n m. refl; timely = λ n m. refl; few = omega arith; ascend = (tt, tt) },
+  record {
+    count = λ h m. sole (λ x. length x ≡ width kindS) m (g .wide);
+    within = λ h m. sole (Within (places s) (kindS .limits)) m (at-within (places s) (kindS .limits) (s .head) (valid-head s g));
+    paired = λ n m. refl;
+    timely = λ n m. refl;
+    few = omega arith;
+    ascend = (tt, tt);
+  },
   (
     record {
       count = λ k m. g .corridors k m .wide;
@@ -147,7 +160,14 @@ valid-shaped s g = runs-shaped (s .head) kinds (groupsOf s) (λ k m. m) (valid-r
 pub valid-passes : (s : Sheet) → Valid s → Passes [] (sheetLines s)
 valid-passes s g = (
   passed-fault [] h
-      (record { placed = refl; few = refl; inside = within-inside (places s) (kindS .limits) (s .head) (valid-runs s g .0 .within (s .head) (inl refl)); paired = refl; timely = refl; above = refl }),
+      (record {
+        placed = refl;
+        few = refl;
+        inside = within-inside (places s) (kindS .limits) (s .head) (valid-runs s g .0 .within (s .head) (inl refl));
+        paired = refl;
+        timely = refl;
+        above = refl;
+      }),
   runs-pass h [] (kindC ∷ kindO ∷ []) (s .corridors ∷ s .occupancies ∷ []) (kinds-ascend .1) (λ m i k j. earlier m i k j) (valid-runs s g .1),
 )
   where

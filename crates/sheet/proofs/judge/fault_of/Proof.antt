@@ -31,6 +31,12 @@ LeftAt r n = let a = entry r .args in Left (a .lines .now) (a .all .now) (lineAt
 abbrev TriedAt : tie.After-row-of → ℕ → ℕ → Bool → Type 0
 TriedAt r n m b = let a = entry r .args in Tried (a .lines .now) (a .all .now) (lineAt (a .kind) (a .values)) n m b
 
+-- whether test 3 fails
+abbrev MisplacedAt : tie.After-row-of → Bool → Type 0
+MisplacedAt r b =
+    let a = entry r .args in
+    (before : List Line) → Stored before (a .lines .now) (a .all .now) → misplaced before (lineAt (a .kind) (a .values)) ≡ b
+
 left-all : (r : tie.After-row-of) → LeftAt r 3
 unfolding fault tests
 left-all r = record { of = λ before S. refl }
@@ -39,8 +45,7 @@ left-all r = record { of = λ before S. refl }
 abbrev row-3 : tie.After-is-misplaced → tie.After-row-of
 row-3 c = c .before .before .before
 
-misplaced-at : (c : tie.After-is-misplaced) (b : Bool) → c .is-misplaced .result ≡ b
-    → let a = entry (row-3 c) .args in (before : List Line) → Stored before (a .lines .now) (a .all .now) → misplaced before (lineAt (a .kind) (a .values)) ≡ b
+misplaced-at : (c : tie.After-is-misplaced) (b : Bool) → c .is-misplaced .result ≡ b → MisplacedAt (row-3 c) b
 misplaced-at c b e before S = let s = entry (row-3 c) in misplaced-is S (s .pre .0) (s .args .values) ∙ sym (c .is-misplaced .ensures) ∙ e
 
 tried-3 : (c : tie.After-is-misplaced) (b : Bool) → c .is-misplaced .result ≡ b → TriedAt (row-3 c) 3 7 b
@@ -69,8 +74,7 @@ left-7 c = left-next (left-3 (c .before .before)) (tried-7 (c .before) false (lt
 abbrev row-4 : tie.After-is-outside → tie.After-row-of
 row-4 c = row-7 (c .before .before .before)
 
-passed-3 : (c : tie.After-is-outside)
-    → let a = entry (row-4 c) .args in (before : List Line) → Stored before (a .lines .now) (a .all .now) → misplaced before (lineAt (a .kind) (a .values)) ≡ false
+passed-3 : (c : tie.After-is-outside) → MisplacedAt (row-4 c) false
 passed-3 c = let p = c .before .before .before .before in misplaced-at (p .before) false (p .if1 .left)
 
 tried-4 : (c : tie.After-is-outside) (b : Bool) → c .is-outside .result ≡ b → TriedAt (row-4 c) 4 6 b
