@@ -64,7 +64,7 @@ enum PlannerRefusal {
     PLANNER_ROOM_PATH = 11,       /* a path buffer shorter than the arrival step + 1 */
     PLANNER_ROOM_SHEET = 12,      /* a buffer shorter than the sheet to be written */
     /* of the sheet */
-    PLANNER_LATE = 16             /* an occupancy that begins after the last step; it may end after it */
+    PLANNER_LATE = 16             /* an occupancy that begins after the last step; to end after it is no fault */
 };
 
 /* The kinds of bytes. */
