@@ -5,12 +5,10 @@ use mathlib.Core.List.{List, [], _∷_}
 use Prim.Native.Nat.{ℕ}
 use lib.Dec.{leb, eqb}
 use Rattle.costs.specs.Costs.{Cost}
-use mathlib.Core.Option.{Option, some, none}
 use Rattle.sheet.specs.Lists.{filter}
-use Rattle.sheet.specs.Sheet.{Sheet, from, to}
+use Rattle.sheet.specs.Sheet.{Sheet, from}
 use Rattle.sheet.specs.declared.Place.{Place}
-use Rattle.sheet.specs.declared.Step.{Step}
-use Rattle.costs.specs.Moves.{waitOf, costOf}
+use Rattle.costs.specs.Moves.{waitOf}
 
 -- the order figure by figure, dominance and equality
 abbrev pub atMostb : Cost → Cost → Bool
@@ -31,21 +29,7 @@ sameb (x ∷ a) (y ∷ b) = eqb x y && sameb a b
 unfoldable pub leaving : Sheet → ℕ → ℕ → List (List ℕ)
 leaving s u t = filter (λ k. eqb (from k) u) (s .corridors)
 
--- the corridors among them that enter v
-unfoldable pub between : Sheet → ℕ → ℕ → ℕ → List (List ℕ)
-unfolding leaving
-between s u v t = filter (λ k. eqb (to k) v) (leaving s u t)
-
--- the cost of the first, if there is one; a valid sheet has at most one
-abbrev pub firstCost : List (List ℕ) → Option Cost
-firstCost [] = none
-firstCost (k ∷ ks) = some (costOf k)
-
--- what the promises of the code cite
+-- the cost that the promise of the code cites
 unfoldable pub waitAt : Sheet → Place → Cost
 unfolding waitOf
 waitAt s v = waitOf s (v .0)
-
-unfoldable pub crossingAt : Sheet → Place → Place → Step → Option Cost
-unfolding between costOf
-crossingAt s u v t = firstCost (between s (u .0) (v .0) (t .0))

@@ -1,16 +1,16 @@
-// Costs: three figures, added and compared place by place as one value (document 01, "Lawful journeys"); the cost of a wait and of a crossing.
+// Costs: three figures, added and compared place by place as one value (document 01, "Lawful journeys"); the cost of a wait, and the corridors.
 ghost use mathlib.Core.Path.{_≡_};
-ghost use Prim.Native.Nat.{_+_, _≤_};
+ghost use Prim.Native.Nat.{_+_, _≤_, _<_};
 ghost use lib.ListN.{length};
-ghost use Rattle.sheet.specs.Lists.{numbersFrom};
+ghost use Rattle.sheet.specs.Lists.{number, numbersFrom};
+ghost use Rattle.sheet.specs.Kinds.{kindC};
 ghost use Rattle.sheet.specs.Computed.{lexb};
 ghost use Rattle.sheet.specs.Store.{SomeStore, sheetIn};
 ghost use Rattle.costs.specs.Costs.{figures, add, times, AtMost};
-ghost use Rattle.costs.specs.Priced.{Within, asCrossing};
-ghost use Rattle.costs.specs.Computed.{atMostb, waitAt, crossingAt};
+ghost use Rattle.costs.specs.Priced.{Within, CorridorIs};
+ghost use Rattle.costs.specs.Computed.{atMostb, waitAt};
 use sheet::Place;
 use sheet::Step;
-use sheet::kinds::C_LINE;
 use sheet::kinds::CORRIDOR;
 use sheet::kinds::FIRST_CORRIDOR;
 
@@ -101,33 +101,26 @@ pub fn wait_at(lines: &[u32], all: &[u32], v: Place) -> [u32; 3]
     cost_from(all, 4)
 }
 
-// The cost of a corridor, if there is one.
-pub struct Crossing {
+// A corridor: whether a cart can depart by it, the place it leads from, the place it leads to, and its cost.
+pub struct Corridor {
     pub open: bool,
+    pub from: Place,
+    pub to: Place,
     pub cost: [u32; 3],
 }
 
-// The cost of the corridor from u to v for a cart that departs at step t, on the sheet in the array. The time grows with the corridors.
-pub fn crossing_at(lines: &[u32], all: &[u32], u: Place, v: Place, t: Step) -> Crossing
-    requires { ⌜ SomeStore (now lines) (now all) ⌝ }
-    ensures { λ r. ⌜ asCrossing r ≡ crossingAt (sheetIn (now (lines .entry)) (now (all .entry))) u v t ⌝ }
+// Corridor k of the sheet in the array, for a cart that departs at step t.
+pub fn corridor_at(lines: &[u32], all: &[u32], k: usize, t: Step) -> Corridor
+    requires { ⌜ (SomeStore (now lines) (now all)) × (k < number (now lines) (kindC .order)) ⌝ }
+    ensures { λ r. ⌜ CorridorIs (sheetIn (now (lines .entry)) (now (all .entry))) k (t .0) r ⌝ }
 {
-    let n = lines[C_LINE] as usize;
-    let from = u.0;
-    let to = v.0;
-    let mut k = 0;
-    while k < n {
-        let at = FIRST_CORRIDOR + k * CORRIDOR;
-        if (all[at] == from) & (all[at + 1] == to) {
-            return Crossing {
-                open: true,
-                cost: cost_from(all, at + 2),
-            };
-        }
-        k += 1;
-    }
-    Crossing {
-        open: false,
-        cost: [0; 3],
+    let at = FIRST_CORRIDOR + k * CORRIDOR;
+    let from = all[at];
+    let to = all[at + 1];
+    Corridor {
+        open: true,
+        from: Place(from),
+        to: Place(to),
+        cost: cost_from(all, at + 2),
     }
 }

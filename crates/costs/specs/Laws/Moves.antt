@@ -1,26 +1,27 @@
 -- Laws of waits and crossings: all that the crates above know of the definitions. A cost has three figures; what leaves a place crosses;
--- on a valid sheet a crossing has one cost, and no figure is above 60,000.
-use mathlib.Core.Path.{_≡_, refl, sym, _∙_, ap, subst}
-use mathlib.Core.Logic.{inl}
-use mathlib.Core.Bool.{true}
+-- on a valid sheet a crossing has one cost, and no figure is above 60,000; a crossing is by one of the corridors, which the array counts.
+use mathlib.Core.Path.{_≡_, refl, sym, _∙_, ap}
+use mathlib.Core.Logic.{inl, inr}
 use mathlib.Core.List.{List, [], _∷_}
-use mathlib.Core.Option.{Option, some, none}
-use Prim.Native.Nat.{ℕ, zero, suc, _≤_}
+use Prim.Native.Nat.{ℕ, zero, suc, _/_, _≤_, _<_}
 use native.Mathlib.Omega.{arith}
 use lib.Dec.{eqb}
-use lib.ListN.{length, take}
+use lib.ListN.{length, getD, take}
 use borrow.Author.Tests.{eqb-true, eq-eqb}
-use Rattle.sheet.specs.Lists.{_∈_, filter, number, numbersFrom}
-use Rattle.sheet.specs.Laws.Members.{filter-mem, mem-filter}
-use Rattle.sheet.specs.Laws.Ascending.{ascending-once}
-use Rattle.sheet.specs.Laws.Decided.{from-length}
+use Rattle.sheet.specs.Lists.{_∈_, number, numbersFrom}
+use Rattle.sheet.specs.Kinds.{width, kindC}
 use Rattle.sheet.specs.Sheet.{Sheet, from, to}
 use Rattle.sheet.specs.Valid.{Valid}
-use Rattle.sheet.specs.declared.Place.{Place}
-use Rattle.sheet.specs.declared.Step.{Step}
+use Rattle.sheet.specs.Store.{SomeStore, partOf, sheetIn}
+use Rattle.sheet.specs.Laws.Members.{filter-mem, mem-filter, mem-at}
+use Rattle.sheet.specs.Laws.Ascending.{ascending-once}
+use Rattle.sheet.specs.Laws.Decided.{from-length}
+use Rattle.sheet.specs.Laws.Rows.{rows-count}
+use Rattle.sheet.specs.Laws.Store.{store-numbers}
 use Rattle.costs.specs.Costs.{Cost, figures, fig}
 use Rattle.costs.specs.Moves.{waitOf, costOf, Crossing}
-use Rattle.costs.specs.Computed.{leaving, between, firstCost, crossingAt}
+use Rattle.costs.specs.Computed.{leaving}
+use Rattle.costs.specs.Priced.{CrossingBy}
 
 pub wait-three : (s : Sheet) (v : ℕ) → length (waitOf s v) ≡ figures
 unfolding waitOf
@@ -76,30 +77,24 @@ crossing-once s h u v t c d x y =
 pub crossing-apart : (s : Sheet) → Valid s → (u v t : ℕ) (c : Cost) → Crossing s u v t c → u ≡ v → ⊥
 crossing-apart s h u v t c x e = h .corridors (x .line) (x .listed) .apart (x .leaves ∙ e ∙ sym (x .enters))
 
--- the cost that the promises cite is that of the crossing
-pub crossing-at : (s : Sheet) (u v : Place) (t : Step) (c : Cost) → crossingAt s u v t ≡ some c → Crossing s (u .0) (v .0) (t .0) c
-unfolding crossingAt between
-crossing-at s u v t c e = go (filter (λ (k : List ℕ). eqb (to k) (v .0)) (leaving s (u .0) (t .0))) (λ k m. filter-mem (λ (k : List ℕ). eqb (to k) (v .0)) k (leaving s (u .0) (t .0)) m) e
-  where
-    go : (l : List (List ℕ)) → ((k : List ℕ) → k ∈ l → (k ∈ leaving s (u .0) (t .0)) × (eqb (to k) (v .0) ≡ true)) → firstCost l ≡ some c → Crossing s (u .0) (v .0) (t .0) c
-    go [] f p = let z : _≡_ {A = ℕ} 0 1 = cc in absurd (omega arith)
-    go (k ∷ l) f p =
-        let q = f k (inl refl) in
-        let x = leaving-crossing s (u .0) (t .0) k (q .0) in
-        let r : costOf k ≡ c = cc in
-        subst (Crossing s (u .0) (v .0) (t .0)) r (subst (λ (w : ℕ). Crossing s (u .0) w (t .0) (costOf k)) (eqb-true (to k) (v .0) (q .1)) x)
+-- a crossing is by one of the corridors
+pub by-crossing : (s : Sheet) (k u v t : ℕ) (c : Cost) → CrossingBy s k u v t c → Crossing s u v t c
+by-crossing s k u v t c x =
+    record { line = getD (s .corridors) k []; listed = mem-at [] (s .corridors) k (x .listed); leaves = x .leaves; enters = x .enters; price = x .price }
 
-pub at-crossing : (s : Sheet) → Valid s → (u v : Place) (t : Step) (c : Cost) → Crossing s (u .0) (v .0) (t .0) c → crossingAt s u v t ≡ some c
-unfolding crossingAt between
-at-crossing s h u v t c x = go (crossingAt s u v t) refl there
-  where
-    there : x .line ∈ between s (u .0) (v .0) (t .0)
-    there = mem-filter (λ (k : List ℕ). eqb (to k) (v .0)) (x .line) (leaving s (u .0) (t .0)) (crossing-leaving s (u .0) (v .0) (t .0) c x) (eq-eqb _ _ (x .enters))
+number-of : (x : List ℕ) (l : List (List ℕ)) → x ∈ l → (k : ℕ) × (k < length l) × (getD l k [] ≡ x)
+number-of x [] m = absurd m
+number-of x (y ∷ l) (inl e) = (0, omega arith, sym e)
+number-of x (y ∷ l) (inr m) = let r = number-of x l m in (suc (r .0), omega (arith, r .1), r .2)
 
-    some-first : (l : List (List ℕ)) → x .line ∈ l → firstCost l ≡ none → ⊥
-    some-first [] m e = m
-    some-first (k ∷ l) m e = let z : _≡_ {A = ℕ} 0 1 = cc in omega arith
+pub crossing-by : (s : Sheet) (u v t : ℕ) (c : Cost) → Crossing s u v t c → (k : ℕ) × CrossingBy s k u v t c
+crossing-by s u v t c x =
+    let r = number-of (x .line) (s .corridors) (x .listed) in
+    (r .0, record { listed = r .1; leaves = ap from (r .2) ∙ x .leaves; enters = ap to (r .2) ∙ x .enters; price = x .price ∙ ap costOf (sym (r .2)) })
 
-    go : (o : Option Cost) → crossingAt s u v t ≡ o → x .line ∈ between s (u .0) (v .0) (t .0) → crossingAt s u v t ≡ some c
-    go none e m = absurd (some-first (between s (u .0) (v .0) (t .0)) m e)
-    go (some d) e m = e ∙ ap some (crossing-once s h (u .0) (v .0) (t .0) d c (crossing-at s u v t d e) x)
+-- how many corridors the sheet in the array has
+pub corridor-count : {lines all : List ℕ} → SomeStore lines all → number lines (kindC .order) ≡ length (sheetIn lines all .corridors)
+corridor-count {lines} {all} S =
+    let cs = partOf lines all (kindC .order) in
+    let e : number lines (kindC .order) ≡ length cs / width kindC = omega (arith, store-numbers (S .store) (kindC .order) (omega arith)) in
+    e ∙ sym (rows-count (width kindC) (length cs / width kindC) cs)
