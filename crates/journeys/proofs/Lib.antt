@@ -1,7 +1,6 @@
 pub mod Finding
 pub mod Waiting
-pub mod Stepping
-pub mod Backwards
+pub mod Marking
 pub mod Ends
 pub mod Sameness
 pub mod Chains

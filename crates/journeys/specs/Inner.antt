@@ -15,6 +15,8 @@ use Rattle.journeys.specs.Demand3.{SameLists}
 use Rattle.journeys.specs.Held.{tableRows}
 use Rattle.journeys.specs.declared.front.Offered.{Offered}
 pub mod Lookup
+pub mod Waits
+pub mod Marks
 pub mod Walk
 pub mod Chain
 pub mod Sweep

@@ -2,7 +2,7 @@
 -- A journey is what 001 calls a path from the start to the goal.
 use mathlib.Core.Path.{_≡_}
 use mathlib.Core.Logic.{_⊎_}
-use mathlib.Core.List.{List, _∷_, reverse}
+use mathlib.Core.List.{List, _∷_}
 use Prim.Native.Nat.{ℕ, _≤_}
 use lib.ListN.{length}
 use Rattle.sheet.specs.Lists.{number, Lex}
@@ -31,10 +31,10 @@ pub record Meets (s : Sheet) (allowance : Cost) : Type 0 where
   pub has : HasCost s cost
   pub within : AtMost cost allowance
 
--- The tie rule's order on journeys of one cost: the earlier arrival; of those, from the last step backwards, at the first difference
--- the lower place.
+-- The tie rule's order on journeys of one cost: the earlier arrival; of those, from step 0 forwards, at the first difference the lower
+-- place.
 abbrev pub rank : List ℕ → List ℕ
-rank p = length p ∷ reverse p
+rank p = length p ∷ p
 
 -- p is the journey that the tie rule selects for the cost g
 pub record Selected (s : Sheet) (g : Cost) (p : List ℕ) : Type 0 where

@@ -3,6 +3,7 @@ pub mod Journeys
 pub mod Front
 pub mod Goal
 pub mod Exact
+pub mod Tight
 pub mod Rows
 pub mod Holds
 pub mod Tie

@@ -13,7 +13,7 @@ use crate::JourneyAnswer;
 use crate::front::count_front;
 use crate::front::list_front;
 use crate::front::nth_front;
-use crate::walk::walk_back;
+use crate::walk::walk;
 use arrivals::rows::clear_from;
 use arrivals::search;
 use intervals::derive;
@@ -112,21 +112,23 @@ fn refuse_searched(number: u32, arrivals: &mut [u32]) -> JourneyAnswer
     refuse_journey(number, 0)
 }
 
-// Writes the places of the journey of the front cost `cost`, which arrives at step `arrival`, for each step from 0 on, then zeros.
+// Writes the places of the journey of the front cost `cost`, which arrives at step `arrival`, for each step from 0 on, then zeros;
+// the table is kept.
 pub fn lay_path(
     lines: &[u32],
     all: &[u32],
     since: &[u16],
-    table: &[u32],
+    table: &mut [u32],
     n: usize,
     arrival: Step,
     cost: [u32; 3],
     path: &mut [u32],
 )
     requires { ⌜ Layable (now lines) (now all) (now since) n (now table) (arrival .0) cost (now path) ⌝ }
-    ensures { λ _. ⌜ now (path .exit) ≡ filled (length (now (path .entry))) (journeyOf (sheetIn (now (lines .entry)) (now (all .entry))) cost) ⌝ }
+    ensures { λ _. ⌜ (now (table .exit) ≡ now (table .entry))
+        × (now (path .exit) ≡ filled (length (now (path .entry))) (journeyOf (sheetIn (now (lines .entry)) (now (all .entry))) cost)) ⌝ }
 {
-    walk_back(lines, all, since, table, n, arrival, cost, path);
+    walk(lines, all, since, table, n, arrival, cost, path);
     clear_from(path, arrival.0 as usize + 1);
 }
 

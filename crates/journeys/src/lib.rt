@@ -5,6 +5,8 @@ pub mod goal; // goal.rt: the goal's rows of the arrivals table, in the order of
 pub mod front; // front.rt: the front off the goal's rows
 pub mod slow; // slow.rt: the front where the rows are too many for that
 pub mod lookup; // lookup.rt: rows of the arrivals table, found by their order
+pub mod waits; // waits.rt: the row from which a cart stands somewhere by waiting
+pub mod marks; // marks.rt: the rows on the way to a journey's end, marked
 pub mod walk; // walk.rt: the journey of a front cost
 pub mod calls; // calls.rt: the front and a journey of a sheet
 pub mod compare; // compare.rt: two fronts compared (demand 3)

@@ -1,14 +1,11 @@
-// Rows of the arrivals table, found by their order: they ascend by step, place, cost.
+// Rows of the arrivals table, found by their order: they ascend by step, place, cost. While a journey is walked a row's place column holds a mark too
+// (marks.rt); rows are read here without it.
 ghost use mathlib.Core.Path.{_≡_};
 ghost use Prim.Native.Nat.{_+_, _*_, _≤_};
 ghost use lib.ListN.{length};
-ghost use Rattle.sheet.specs.Lists.{_∈_};
 ghost use Rattle.sheet.specs.Computed.{lexb};
-ghost use Rattle.sheet.specs.Laws.Decided.{Decided};
 ghost use Rattle.arrivals.specs.Arrivals.{keyOf};
-ghost use Rattle.arrivals.specs.Rows.{rowAt};
-ghost use Rattle.journeys.specs.Held.{tableRows};
-ghost use Rattle.journeys.specs.Inner.Lookup.{standing, Sorted, Parted};
+ghost use Rattle.journeys.specs.Inner.Lookup.{standing, standAt, Sorted, Parted, RowIs};
 use arrivals::rows::row_cost;
 use costs::before;
 use sheet::Place;
@@ -22,12 +19,12 @@ pub struct Stand {
 }
 
 // Row k.
-fn row_at(table: &[u32], k: usize) -> Stand
+pub fn row_at(table: &[u32], k: usize) -> Stand
     requires { ⌜ k * 5 + 5 ≤ length (now table) ⌝ }
-    ensures { λ r. ⌜ standing r ≡ rowAt (now (table .entry)) k ⌝ }
+    ensures { λ r. ⌜ standing r ≡ standAt (now (table .entry)) k ⌝ }
 {
     Stand {
-        place: Place(table[k * 5]),
+        place: Place(table[k * 5] % 64),
         step: Step(table[k * 5 + 1]),
         cost: row_cost(table, k),
     }
@@ -66,14 +63,17 @@ fn rows_before(table: &[u32], n: usize, a: Stand) -> usize
     low
 }
 
-// Whether a is one of the first n rows. The time grows with the logarithm of n.
-pub fn has_row(table: &[u32], n: usize, a: Stand) -> bool
+// The number of the row that is a, of the first n; n where none is. The time grows with the logarithm of n.
+pub fn row_of(table: &[u32], n: usize, a: Stand) -> usize
     requires { ⌜ Sorted n (now table) ⌝ }
-    ensures { λ r. ⌜ Decided (standing a ∈ tableRows n (now (table .entry))) r ⌝ }
+    ensures { λ r. ⌜ RowIs n (now (table .entry)) (standing a) r ⌝ }
 {
     let k = rows_before(table, n, a);
     if k < n {
-        return !comes_before(a, row_at(table, k));
+        if comes_before(a, row_at(table, k)) {
+            return n;
+        }
+        return k;
     }
-    false
+    n
 }

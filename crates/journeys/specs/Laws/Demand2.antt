@@ -3,9 +3,9 @@
 -- and the computed journey of it, which is the one that the tie rule selects (Laws.Journeys); and sheets are read and written back by the laws of
 -- the calls (sheet's Laws.RoundTrip). Bytes that read as a sheet read as one sheet, so all calls on them speak of it.
 use mathlib.Core.Path.{_≡_, refl, sym, _∙_, ap, subst}
-use mathlib.Core.Logic.{inl, inr, ⊎-elim}
+use mathlib.Core.Logic.{inl, inr}
 use mathlib.Core.Bool.{Bool, true, false}
-use mathlib.Core.List.{List, [], _∷_, reverse}
+use mathlib.Core.List.{List, [], _∷_}
 use Prim.Native.Nat.{ℕ, zero, suc, _+_, _*_, _-_, _≤_, _<_, _/_}
 use native.Mathlib.Omega.{arith}
 use lib.Dec.{leb}
@@ -33,6 +33,7 @@ use Rattle.journeys.specs.Calls.{cleared, frontRow, FrontEnd, frontServe
 use Rattle.journeys.specs.Demand2.{costAt, ListsFront, arrivalAt, ListsLeading, GivesJourney, Demand2}
 use Rattle.journeys.specs.Laws.Journeys.{has-three, journeyOf-selected, journey-length}
 use Rattle.journeys.specs.Laws.Front.{front-on, on-front, front-ascending, front-empty}
+use Rattle.journeys.specs.Laws.Goal.{selected-earliest}
 use Rattle.arrivals.specs.Laws.Leading.{leading-is, is-leading, leading-ascending}
 use Rattle.journeys.specs.Laws.Searched.{Ready, ready-is, rows-length}
 use Rattle.journeys.specs.Laws.Rows.{table-row}
@@ -77,13 +78,7 @@ lex-as a b c d p q h = subst (λ (x : Cost). Lex x b) (sym p) (subst (Lex c) (sy
 
 -- the tie rule selects an earliest journey
 no-shorter : (s : Sheet) (g : Cost) → HasCost s g → (p : List ℕ) → Journey s p g → suc (arrivalOf s g) ≤ length p
-no-shorter s g h p j =
-    let k = journey-length s g h in
-    ⊎-elim (λ e. omega (arith, k, ap (λ (l : List ℕ). length l) e)) (λ l. omega (arith, k, first (length (journeyOf s g)) (length p) (reverse (journeyOf s g)) (reverse p) l)) (journeyOf-selected s g h .first p j)
-  where
-    first : (a b : ℕ) (k l : List ℕ) → Lex (a ∷ k) (b ∷ l) → a ≤ b
-    first a b k l (inl h) = omega (arith, h)
-    first a b k l (inr h) = omega (arith, h .0)
+no-shorter s g h p j = omega (arith, journey-length s g h, selected-earliest s g (journeyOf s g) p (journeyOf-selected s g h) j)
 
 -- the served list is the front: its members by their numbers
 lists-front : (s : Sheet) (table list : List ℕ) → ListsFront s (frontServed s table list)

@@ -26,39 +26,37 @@ use Rattle.journeys.specs.Computed.{countsb, atGoal, journeysTo, journey
 use Rattle.journeys.specs.Laws.Counts.{countsb-true, counts-countsb, counts-within}
 
 -- a trail that ends at the goal, after the places `before` (the last step first), at a step that counts
-pub record Homeward (s : Sheet) (before : List ℕ) (g : Cost) : Type 0 where
-  pub trail : Trail s (goal s ∷ before) g
-  pub counts : Counts s (length before)
+record Homeward (s : Sheet) (before : List ℕ) (g : Cost) : Type 0 where
+  trail : Trail s (goal s ∷ before) g
+  counts : Counts s (length before)
 
-pub homeward-journey : (s : Sheet) (q : List ℕ) (g : Cost) → Homeward s q g → Journey s (reverse (goal s ∷ q)) g
+homeward-journey : (s : Sheet) (q : List ℕ) (g : Cost) → Homeward s q g → Journey s (reverse (goal s ∷ q)) g
 homeward-journey s q g h =
     let m = trail-way s (goal s) q g (h .trail) in
     record { A = length q; way = m .way; ends = m .ends; counts = h .counts }
 
 -- a journey read backwards
-pub record Backward (s : Sheet) (p : List ℕ) (g : Cost) (A : ℕ) : Type 0 where
-  pub before : List ℕ
-  pub home : Homeward s before g
-  pub turned : reverse p ≡ goal s ∷ before
-  pub arrival-step : length before ≡ A
+record Backward (s : Sheet) (p : List ℕ) (g : Cost) : Type 0 where
+  before : List ℕ
+  home : Homeward s before g
+  turned : reverse p ≡ goal s ∷ before
 
-pub journey-backward : (s : Sheet) (p : List ℕ) (g : Cost) (j : Journey s p g) → Backward s p g (j .A)
+journey-backward : (s : Sheet) (p : List ℕ) (g : Cost) → Journey s p g → Backward s p g
 journey-backward s p g j =
     let r = way-trail s (j .A) p g (j .way) in
     record {
       before = r .before;
       home = record { trail = subst (λ (v : ℕ). Trail s (v ∷ r .before) g) (j .ends) (r .trail); counts = subst (Counts s) (sym (r .steps)) (j .counts) };
       turned = r .turned ∙ ap (λ (v : ℕ). v ∷ r .before) (j .ends);
-      arrival-step = r .steps;
     }
 
-pub backward-path : {s : Sheet} {p : List ℕ} {g : Cost} {A : ℕ} (b : Backward s p g A) → p ≡ reverse (goal s ∷ b .before)
+backward-path : {s : Sheet} {p : List ℕ} {g : Cost} (b : Backward s p g) → p ≡ reverse (goal s ∷ b .before)
 backward-path {s} {p} b = sym (reverse-reverse p) ∙ ap reverse (b .turned)
 
 -- the enumeration
-pub record Ends (s : Sheet) (w : Walk) : Type 0 where
-  pub at-goal : w .at ≡ goal s
-  pub home : Homeward s (w .before) (w .cost)
+record Ends (s : Sheet) (w : Walk) : Type 0 where
+  at-goal : w .at ≡ goal s
+  home : Homeward s (w .before) (w .cost)
 
 ends-at : (s : Sheet) (t : ℕ) (w : Walk) → w ∈ filter (atGoal s t) (walks s t) → Ends s w
 ends-at s t w m =
@@ -153,7 +151,7 @@ journeyOf-selected s g h = go (sortUnique rank l) (λ p m. paths-journey s g p (
     l = map pathOf (filter (withCost g) (journeys s))
 
     inj : (a b : List ℕ) → rank a ≡ rank b → a ≡ b
-    inj a b e = let r : reverse a ≡ reverse b = cc in sym (reverse-reverse a) ∙ ap reverse r ∙ reverse-reverse b
+    inj a b e = cc
 
     go : (k : List (List ℕ)) → ((p : List ℕ) → p ∈ k → Journey s p g) → ((p : List ℕ) → Journey s p g → p ∈ k) → Ascending rank k → Selected s g (headOr [] k)
     go [] f r a = absurd (r (h .0) (h .1))

@@ -1,7 +1,7 @@
 -- `journeys::lookup::row_at` meets its contract: the place, the step and the cost are those of the row.
 -- Assumes nothing.
 use mathlib.Core.Path.{refl}
-use Rattle.arrivals.specs.Laws.Rows.{row-path}
+use Rattle.arrivals.specs.Laws.Leading.{arrival-path}
 use borrow.Author.Needs.{needs}
 use Rattle.journeys.proofs.lookup.row_at.Statement.{statement}
 use Rattle.journeys.proofs.lookup.row_at.Tie as tie
@@ -15,23 +15,23 @@ mul-t4 c = search needs
 shared-slice-read-t6 : tie.Need-shared-slice-read-t6
 shared-slice-read-t6 c = search needs
 
-mul-t8 : tie.Need-mul-t8
-mul-t8 c = search needs
+mul-t9 : tie.Need-mul-t9
+mul-t9 c = search needs
 
-add-t9 : tie.Need-add-t9
-add-t9 c = search needs
+add-t10 : tie.Need-add-t10
+add-t10 c = search needs
 
-mul-t10 : tie.Need-mul-t10
-mul-t10 c = search needs
+mul-t11 : tie.Need-mul-t11
+mul-t11 c = search needs
 
-shared-slice-read-t12 : tie.Need-shared-slice-read-t12
-shared-slice-read-t12 c = search needs
+shared-slice-read-t13 : tie.Need-shared-slice-read-t13
+shared-slice-read-t13 c = search needs
 
 row-cost-requires : tie.Need-row-cost-requires
 row-cost-requires c κs = search needs
 
 returns : tie.Need-returns
-returns c = row-path refl refl (c .row-cost .ensures)
+returns c = arrival-path _ _ refl refl (c .row-cost .ensures)
 
 pub row-at-spec : {M : Type 1} → statement M
 row-at-spec =
@@ -40,9 +40,9 @@ row-at-spec =
     mul-t3
     mul-t4
     shared-slice-read-t6
-    mul-t8
-    add-t9
-    mul-t10
-    shared-slice-read-t12
+    mul-t9
+    add-t10
+    mul-t11
+    shared-slice-read-t13
     row-cost-requires
     returns)

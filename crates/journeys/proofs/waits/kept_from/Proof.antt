@@ -1,12 +1,12 @@
--- `journeys::walk::becomes_at` meets its contract: what is left of the cost after the steps waited is the cost of a row, or it is not, or nothing is left.
+-- `journeys::waits::kept_from` meets its contract: the row whose cost is what is left after the steps waited, or none where nothing is left.
 -- Assumes nothing.
 use mathlib.Core.Path.{sym, _∙_}
 use borrow.Author.Tests.{not-true, not-false}
 use Rattle.costs.specs.Laws.Figures.{atMostb-true}
 use Rattle.journeys.proofs.Waiting.{waited-more, waited-left}
 use borrow.Author.Needs.{needs}
-use Rattle.journeys.proofs.walk.becomes_at.Statement.{statement}
-use Rattle.journeys.proofs.walk.becomes_at.Tie as tie
+use Rattle.journeys.proofs.waits.kept_from.Statement.{statement}
+use Rattle.journeys.proofs.waits.kept_from.Tie as tie
 
 sub-multiple : tie.Need-sub-multiple
 sub-multiple c = search needs
@@ -23,14 +23,14 @@ returns c = waited-more (c .before .before .multiple .ensures) (c .before .at-mo
 less-requires : tie.Need-less-requires
 less-requires c κs = atMostb-true _ _ (sym (c .before .before .at-most .ensures) ∙ not-false _ (c .before .if1 .left))
 
-has-row-requires : tie.Need-has-row-requires
-has-row-requires c κs = search needs
+row-of-requires : tie.Need-row-of-requires
+row-of-requires c κs = search needs
 
 returns-2 : tie.Need-returns-2
-returns-2 c = waited-left (c .before .before .before .before .before .multiple .ensures) _ (c .before .less .ensures) (c .has-row .ensures)
+returns-2 c = waited-left (c .before .before .before .before .before .multiple .ensures) _ (c .before .less .ensures) (c .row-of .ensures)
 
-pub becomes-at-spec : {M : Type 1} → statement M
-becomes-at-spec =
+pub kept-from-spec : {M : Type 1} → statement M
+kept-from-spec =
     tie.close
     (tie.spec
     sub-multiple
@@ -38,5 +38,5 @@ becomes-at-spec =
     at-most-requires
     returns
     less-requires
-    has-row-requires
+    row-of-requires
     returns-2)

@@ -1,0 +1,72 @@
+-- What the functions that mark rows promise. No exported contract cites this file.
+use mathlib.Core.Path.{_≡_}
+use mathlib.Core.Logic.{_⊎_}
+use mathlib.Core.List.{List}
+use Prim.Native.Nat.{ℕ, _-_, _*_, _≤_, _<_}
+use lib.ListN.{length, getD}
+use Rattle.sheet.specs.Sheet.{Sheet}
+use Rattle.sheet.specs.Store.{sheetIn}
+use Rattle.costs.specs.Costs.{Cost, add}
+use Rattle.costs.specs.Priced.{CrossingBy}
+use Rattle.intervals.specs.FirstSteps.{Derived}
+use Rattle.arrivals.specs.Arrivals.{Arrival}
+use Rattle.journeys.specs.Computed.{arrivalOf}
+use Rattle.journeys.specs.Front.{OnFront}
+use Rattle.journeys.specs.Held.{Holds}
+use Rattle.journeys.specs.Inner.Lookup.{placeAt, markAt, standAt}
+use Rattle.journeys.specs.Laws.Exact.{kept, Stays}
+use Rattle.journeys.specs.Laws.Tight.{Tight, CrossesInto, keptAt}
+
+-- ys is xs but for the marks of the first n rows
+pub record SameRows (n : ℕ) (xs ys : List ℕ) : Type 0 where
+  pub size : length ys ≡ length xs
+  pub place : (k : ℕ) → placeAt ys k ≡ placeAt xs k
+  pub others : (i : ℕ) → ((k : ℕ) → k < n → i ≡ k * 5 → ⊥) → getD ys i 0 ≡ getD xs i 0
+
+-- the rows for which P holds, and no others, have their mark raised to t, if it was less
+pub record Raised (n : ℕ) (xs ys : List ℕ) (t : ℕ) (P : ℕ → Type 0) : Type 0 where
+  pub rows : SameRows n xs ys
+  pub either : (k : ℕ) → k < n → (markAt ys k ≡ markAt xs k) ⊎ ((markAt xs k < t) × (markAt ys k ≡ t) × P k)
+  pub every : (k : ℕ) → k < n → P k → t ≤ markAt ys k
+
+-- e, kept waiting until the step before b, crosses by corridor l and stands as b
+pub record CrossesBy (s : Sheet) (b : Arrival) (l : ℕ) (e : Arrival) : Type 0 where
+  pub price : Cost
+  pub cross : CrossingBy s l (e .place) (b .place) (b .step - 1) price
+  pub stays : Stays s e (b .step - 1)
+  pub sum : add (kept s e (b .step - 1)) price ≡ b .cost
+
+-- row i is marked past step t, and from row k a cart can cross and stand where it stands then
+pub record Onto (s : Sheet) (xs : List ℕ) (t i k : ℕ) : Type 0 where
+  pub soon : standAt xs i .step ≤ t
+  pub marked : t < markAt xs i
+  pub into : CrossesInto s (standAt xs k) (keptAt s (standAt xs i) t)
+
+-- so for some row
+pub record OntoAny (s : Sheet) (n : ℕ) (xs : List ℕ) (t k : ℕ) : Type 0 where
+  pub row : ℕ
+  pub within : row < n
+  pub onto : Onto s xs t row k
+
+-- The marks tell what is on the way to the cost f at step A: all that is below a mark is; and all that is, from step t on, is below its mark.
+pub record Marks (s : Sheet) (f : Cost) (A n : ℕ) (xs : List ℕ) (t : ℕ) : Type 0 where
+  pub sound : (k j : ℕ) → k < n → standAt xs k .step ≤ j → j < markAt xs k → Tight s f A (standAt xs k) j
+  pub done : (k j : ℕ) → k < n → t ≤ j → Tight s f A (standAt xs k) j → j < markAt xs k
+
+-- on the sheet in the array, whose leading arrivals the table holds, the journey of the front cost f arrives at step A
+pub record Endable (lines all since : List ℕ) (n : ℕ) (table : List ℕ) (A : ℕ) (f : Cost) : Type 0 where
+  pub derived : Derived lines all since
+  pub holds : Holds (sheetIn lines all) n table
+  pub on-front : OnFront (sheetIn lines all) f
+  pub arrives-at : A ≡ arrivalOf (sheetIn lines all) f
+
+-- ys is xs with all marks
+pub record MarkedAll (s : Sheet) (f : Cost) (A n : ℕ) (xs ys : List ℕ) : Type 0 where
+  pub rows : SameRows n xs ys
+  pub marks : Marks s f A n ys 0
+
+-- ys is xs without the marks of the first n rows
+pub record Bared (n : ℕ) (xs ys : List ℕ) : Type 0 where
+  pub size : length ys ≡ length xs
+  pub place : (k : ℕ) → k < n → getD ys (k * 5) 0 ≡ placeAt xs k
+  pub others : (i : ℕ) → ((k : ℕ) → k < n → i ≡ k * 5 → ⊥) → getD ys i 0 ≡ getD xs i 0
