@@ -1,0 +1,160 @@
+-- From which rows a cart can cross to where another stands: by one corridor, by any, onto where one marked row stands, onto any.
+-- Assumes nothing.
+use mathlib.Core.Path.{_≡_, refl, sym, _∙_, ap, subst}
+use mathlib.Core.Logic.{⊎-elim}
+use mathlib.Core.Bool.{Bool, true, false, _&&_}
+use mathlib.Core.List.{List}
+use Prim.Native.Nat.{ℕ, _+_, _*_, _-_, _≤_, _<_}
+use native.Mathlib.Omega.{arith}
+use lib.ListN.{length}
+use lib.Dec.{eqb}
+use borrow.Author.Tests.{eq-eqb}
+use Rattle.sheet.specs.Lists.{number, Lex}
+use Rattle.sheet.specs.Kinds.{kindC}
+use Rattle.sheet.specs.Sheet.{Sheet}
+use Rattle.sheet.specs.Store.{SomeStore, sheetIn}
+use Rattle.sheet.specs.Laws.Decided.{false-not-true, lt-or-le, from-length}
+use Rattle.sheet.specs.Laws.Order.{true-and}
+use Rattle.sheet.specs.Laws.Store.{store-valid}
+use Rattle.costs.specs.Costs.{Cost, figures, add}
+use Rattle.costs.specs.Computed.{atMostb}
+use Rattle.costs.specs.Priced.{CrossingBy, CorridorIs}
+use Rattle.costs.specs.declared.Corridor as corridor
+use Rattle.costs.specs.Laws.Figures.{length-add, length-times, cancel-right}
+use Rattle.costs.specs.Laws.Moves.{wait-three, by-crossing, crossing-by, corridor-count}
+use Rattle.arrivals.specs.Arrivals.{Arrival, keyOf}
+use Rattle.arrivals.specs.Computed.{arrival}
+use Rattle.journeys.specs.Inner.Lookup.{markAt, standAt, Sorted}
+use Rattle.journeys.specs.Inner.Waits.{WaitingRow}
+use Rattle.journeys.specs.Inner.Marks.{SameRows, Raised, CrossesBy, Onto, OntoAny}
+use Rattle.journeys.specs.Laws.Exact.{kept, Waits}
+use Rattle.journeys.specs.Laws.Tight.{CrossesInto, keptAt}
+use Rattle.journeys.proofs.Waiting.{part-under}
+use Rattle.journeys.proofs.Marking.{same-stand, raised-none, raised-as, raised-past, Below, raised-more}
+
+-- a corridor of the sheet in the array leads from a place below 64
+pub from-low : {lines all : List ℕ} → SomeStore lines all → {k u v t : ℕ} {c : Cost} → CrossingBy (sheetIn lines all) k u v t c → u < 64
+from-low {lines} {all} d {k} {u} {v} {t} {c} x =
+    let h = store-valid (d .store) in
+    let y = by-crossing (sheetIn lines all) k u v t c x in
+    omega (arith, y .leaves, h .corridors (y .line) (y .listed) .from-place, h .most-places)
+
+kept-three : (s : Sheet) (xs : List ℕ) (k t : ℕ) → length (kept s (standAt xs k) t) ≡ figures
+kept-three s xs k t =
+    let e = standAt xs k in
+    length-add (e .cost) _ figures (from-length figures (k * 5 + 2) xs) (length-times (t - e .step) _ ∙ wait-three s (e .place))
+
+-- by corridor l
+module _ {s : Sheet} {b : Arrival} {l : ℕ} (r : corridor.Corridor) (c : CorridorIs s l (b .step - 1) r) where
+  pub cross-off : {p : Bool} → p ≡ atMostb (r .cost) (b .cost) → r .open && eqb (r .to .0) (b .place) && p ≡ false → (e : Arrival) → CrossesBy s b l e → ⊥
+  cross-off {p} q d e x =
+      let y = c .is (e .place) (b .place) (x .price) (x .cross) in
+      let under : p ≡ true = q ∙ part-under (kept s e (b .step - 1)) (r .cost) (b .cost) (ap (add (kept s e (b .step - 1))) (y .3) ∙ x .sum) in
+      false-not-true d (true-and (r .open && eqb (r .to .0) (b .place)) p (true-and (r .open) (eqb (r .to .0) (b .place)) (y .0) (eq-eqb (r .to .0) (b .place) (y .2))) under)
+
+  module _ {n k : ℕ} {xs : List ℕ} (opens : r .open ≡ true) (enters : r .to .0 ≡ b .place) (g : Cost) (q : (length g ≡ figures) × (add g (r .cost) ≡ b .cost))
+      (w : WaitingRow s n xs (arrival (r .from .0) (b .step - 1) g) k) where
+    crosses : k < n → CrossesBy s b l (standAt xs k)
+    crosses h =
+        let x = w .is h in
+        let y : CrossingBy s l (r .from .0) (b .place) (b .step - 1) (r .cost) = subst (λ (v : ℕ). CrossingBy s l (r .from .0) v (b .step - 1) (r .cost)) enters (c .there opens) in
+        record {
+          price = r .cost;
+          cross = subst (λ (u : ℕ). CrossingBy s l u (b .place) (b .step - 1) (r .cost)) (sym (x .place)) y;
+          stays = x .stays;
+          sum = ap (λ (y : Cost). add y (r .cost)) (x .sum) ∙ q .1;
+        }
+
+    only : (j : ℕ) → j < n → CrossesBy s b l (standAt xs j) → j ≡ k
+    only j h x =
+        let e = standAt xs j in
+        let t = b .step - 1 in
+        let y = c .is (e .place) (b .place) (x .price) (x .cross) in
+        w .only j h
+        (record {
+          place = sym (y .1);
+          stays = x .stays;
+          sum = cancel-right (kept s e t) g (r .cost) (kept-three s xs j t ∙ sym (q .0)) (ap (add (kept s e t)) (y .3) ∙ x .sum ∙ sym (q .1));
+        })
+
+    pub cross-one : {ys : List ℕ} → k < n → Raised n xs ys (b .step) (λ j. j ≡ k) → Raised n xs ys (b .step) (λ j. CrossesBy s b l (standAt xs j))
+    cross-one h = raised-as (λ j i e. subst (λ (i : ℕ). CrossesBy s b l (standAt xs i)) (sym e) (crosses h)) only
+
+    pub cross-none : n ≤ k → Raised n xs xs (b .step) (λ j. CrossesBy s b l (standAt xs j))
+    cross-none h = raised-none (λ j i x. omega (arith, only j i x))
+
+-- by any corridor
+abbrev pub ByCorridor : Sheet → List ℕ → Arrival → ℕ → ℕ → Type 0
+ByCorridor s xs b l k = CrossesBy s b l (standAt xs k)
+
+pub cross-more : {s : Sheet} {n l : ℕ} {xs ys zs : List ℕ} {b : Arrival} → Raised n xs ys (b .step) (Below (ByCorridor s xs b) l)
+    → Raised n ys zs (b .step) (λ k. CrossesBy s b l (standAt ys k)) → Raised n xs zs (b .step) (Below (ByCorridor s xs b) (l + 1))
+cross-more {s} {n} {l} {xs} {ys} {zs} {b} p q =
+    raised-more p q (λ k h. subst (CrossesBy s b l) (same-stand (p .rows) k)) (λ k h. subst (CrossesBy s b l) (sym (same-stand (p .rows) k)))
+
+pub cross-all : {lines all : List ℕ} → SomeStore lines all → {n l : ℕ} {xs ys : List ℕ} {b : Arrival} → number lines (kindC .order) ≤ l
+    → Raised n xs ys (b .step) (Below (ByCorridor (sheetIn lines all) xs b) l) → Raised n xs ys (b .step) (λ k. CrossesInto (sheetIn lines all) (standAt xs k) b)
+cross-all {lines} {all} d {n} {l} {xs} {ys} {b} h = raised-as (λ k i. to k) (λ k i. from k)
+  where
+    s : Sheet
+    s = sheetIn lines all
+
+    to : (k : ℕ) → Below (ByCorridor s xs b) l k → CrossesInto s (standAt xs k) b
+    to k x =
+        let y = x .holds in
+        record { price = y .price; cross = by-crossing s (x .at) (standAt xs k .place) (b .place) (b .step - 1) (y .price) (y .cross); stays = y .stays; sum = y .sum }
+
+    from : (k : ℕ) → CrossesInto s (standAt xs k) b → Below (ByCorridor s xs b) l k
+    from k x =
+        let y = crossing-by s (standAt xs k .place) (b .place) (b .step - 1) (x .price) (x .cross) in
+        record { at = y .0; below = omega (arith, y .1 .listed, corridor-count d); holds = record { price = x .price; cross = y .1; stays = x .stays; sum = x .sum } }
+
+-- onto where row i stands at step t
+module _ {s : Sheet} {n t i : ℕ} {xs : List ℕ} where
+  pub onto-none : (standAt xs i .step ≤ t → t < markAt xs i → ⊥) → Raised n xs xs t (Onto s xs t i)
+  onto-none f = raised-none (λ k h x. f (x .soon) (x .marked))
+
+  pub onto-row : {ys : List ℕ} {b : Arrival} → standAt xs i .step ≤ t → t < markAt xs i → b ≡ keptAt s (standAt xs i) t
+      → Raised n xs ys t (λ k. CrossesInto s (standAt xs k) b) → Raised n xs ys t (Onto s xs t i)
+  onto-row {ys} {b} l m e =
+      raised-as
+      (λ k h x. record { soon = l; marked = m; into = subst (CrossesInto s (standAt xs k)) e x })
+      (λ k h x. subst (CrossesInto s (standAt xs k)) (sym e) (x .into))
+
+-- onto where any row stands
+module _ {s : Sheet} {n t : ℕ} {xs : List ℕ} where
+  pub onto-more : {i : ℕ} {ys zs : List ℕ} → i < n → Raised n xs ys t (Below (Onto s xs t) i) → Raised n ys zs t (Onto s ys t i) → Raised n xs zs t (Below (Onto s xs t) (i + 1))
+  onto-more {i} {ys} {zs} l p q = raised-more p q (λ k h x. to k x) (λ k h x. from k x)
+    where
+      e : (k : ℕ) → standAt ys k ≡ standAt xs k
+      e = same-stand (p .rows)
+
+      to : (k : ℕ) → Onto s ys t i k → Onto s xs t i k
+      to k x =
+          record {
+            soon = subst (λ (a : Arrival). a .step ≤ t) (e i) (x .soon);
+            marked = raised-past p i l .0 (x .marked);
+            into = subst (λ (a : Arrival). CrossesInto s a (keptAt s (standAt xs i) t)) (e k) (subst (λ (a : Arrival). CrossesInto s (standAt ys k) (keptAt s a t)) (e i) (x .into));
+          }
+
+      from : (k : ℕ) → Onto s xs t i k → Onto s ys t i k
+      from k x =
+          record {
+            soon = subst (λ (a : Arrival). a .step ≤ t) (sym (e i)) (x .soon);
+            marked = raised-past p i l .1 (x .marked);
+            into = subst (λ (a : Arrival). CrossesInto s a (keptAt s (standAt ys i) t)) (sym (e k)) (subst (λ (a : Arrival). CrossesInto s (standAt xs k) (keptAt s a t)) (sym (e i)) (x .into));
+          }
+
+  -- the rows from i on stand nowhere yet, or there are none
+  pub onto-all : {i : ℕ} {ys : List ℕ} → i ≤ n → ((j : ℕ) → i ≤ j → j < n → t < standAt xs j .step) → Raised n xs ys t (Below (Onto s xs t) i) → Raised n xs ys t (OntoAny s n xs t)
+  onto-all {i} m f =
+      raised-as
+      (λ k h x. record { row = x .at; within = omega (arith, x .below); onto = x .holds })
+      (λ k h x. ⊎-elim (λ l. record { at = x .row; below = l; holds = x .onto }) (λ l. absurd (omega (arith, f (x .row) l (x .within), x .onto .soon))) (lt-or-le (x .row) i))
+
+-- rows after a row are no sooner
+pub no-sooner : {n : ℕ} {xs : List ℕ} → Sorted n xs → (i j : ℕ) → i ≤ j → j < n → standAt xs i .step ≤ standAt xs j .step
+no-sooner {n} {xs} s i j h l = ⊎-elim (λ m. first (s .ascends i j m l)) (λ m. let z : i ≡ j = omega arith in subst (λ (k : ℕ). standAt xs i .step ≤ standAt xs k .step) z (omega arith)) (lt-or-le i j)
+  where
+    first : Lex (keyOf (standAt xs i)) (keyOf (standAt xs j)) → standAt xs i .step ≤ standAt xs j .step
+    first x = ⊎-elim (λ y. omega (arith, y)) (λ y. omega (arith, y .0)) x
