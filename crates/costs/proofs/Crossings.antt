@@ -3,7 +3,7 @@
 use mathlib.Core.Path.{_≡_, sym, _∙_, ap}
 use mathlib.Core.Bool.{true}
 use mathlib.Core.List.{List, []}
-use Prim.Native.Nat.{ℕ, _+_, _*_, _/_, _≤_, _<_}
+use Prim.Native.Nat.{ℕ, _+_, _*_, _/_, _<_}
 use native.Mathlib.Omega.{arith}
 use lib.ListN.{length, getD}
 use Rattle.sheet.specs.Lists.{number, numbersFrom}
@@ -14,10 +14,10 @@ use Rattle.sheet.specs.Laws.Decided.{from-same}
 use Rattle.sheet.specs.Laws.Rows.{rows-at}
 use Rattle.sheet.specs.Laws.Store.{part-number, store-numbers, store-few, head-number, store-length}
 use Rattle.sheet.specs.declared.Place.{Place}
-use Rattle.costs.specs.Costs.{Cost, figures}
+use Rattle.costs.specs.Costs.{figures}
 use Rattle.costs.specs.Moves.{waitOf, costOf}
 use Rattle.costs.specs.Computed.{waitAt}
-use Rattle.costs.specs.Priced.{CrossingBy, CorridorIs}
+use Rattle.costs.specs.Priced.{CorridorIs}
 use Rattle.costs.specs.Laws.Rows.{row, row-number}
 use Rattle.costs.specs.Laws.Moves.{corridor-count}
 use Rattle.costs.specs.declared.Corridor.{Corridor}
@@ -63,9 +63,10 @@ module _ {lines all : List ℕ} (S : SomeStore lines all) where
     pub corridor-is : (t : ℕ) (r : Corridor) → r .open ≡ true → r .from .0 ≡ number all (lineAt k) → r .to .0 ≡ number all (lineAt k + 1)
         → r .cost ≡ numbersFrom figures (lineAt k + 2) all → CorridorIs (sheetIn lines all) k t r
     corridor-is t r o f g c =
-        record
-        { there = λ p. record { listed = omega (arith, corridor-count S); leaves = line-from ∙ sym f; enters = line-to ∙ sym g; price = c ∙ sym line-cost }
-        ; is = λ u v d x. (o, f ∙ sym line-from ∙ x .leaves, g ∙ sym line-to ∙ x .enters, c ∙ sym line-cost ∙ sym (x .price)) }
+        record {
+          there = λ p. record { listed = omega (arith, corridor-count S); leaves = line-from ∙ sym f; enters = line-to ∙ sym g; price = c ∙ sym line-cost };
+          is = λ u v d x. (o, f ∙ sym line-from ∙ x .leaves, g ∙ sym line-to ∙ x .enters, c ∙ sym line-cost ∙ sym (x .price));
+        }
 
   pub wait-cost : (v : Place) → numbersFrom figures 4 all ≡ waitAt (sheetIn lines all) v
   unfolding waitAt waitOf
