@@ -7,25 +7,27 @@ use mathlib.Core.List.{List}
 use Prim.Native.Nat.{ℕ, _+_, _*_, _-_, _≤_, _<_}
 use native.Mathlib.Omega.{arith}
 use lib.ListN.{length}
-use lib.Dec.{eqb}
-use borrow.Author.Tests.{eq-eqb}
+use lib.Dec.{eqb, leb, ltb}
+use borrow.Author.Tests.{eqb-true, eq-eqb, leb-true, le-leb, ltb-true, lt-ltb}
 use Rattle.sheet.specs.Lists.{number, Lex}
 use Rattle.sheet.specs.Kinds.{kindC}
 use Rattle.sheet.specs.Sheet.{Sheet}
 use Rattle.sheet.specs.Store.{SomeStore, sheetIn}
 use Rattle.sheet.specs.Laws.Decided.{false-not-true, lt-or-le, from-length}
-use Rattle.sheet.specs.Laws.Order.{true-and}
+use Rattle.sheet.specs.Laws.Order.{and-true, true-and}
 use Rattle.sheet.specs.Laws.Store.{store-valid}
-use Rattle.costs.specs.Costs.{Cost, figures, add}
+use Rattle.costs.specs.Costs.{Cost, figures, add, times, AtMost}
+use Rattle.costs.specs.Moves.{waitOf}
 use Rattle.costs.specs.Computed.{atMostb}
-use Rattle.costs.specs.Priced.{CrossingBy, CorridorIs}
+use Rattle.costs.specs.Priced.{Within, CrossingBy, CorridorIs}
 use Rattle.costs.specs.declared.Corridor as corridor
-use Rattle.costs.specs.Laws.Figures.{length-add, length-times, cancel-right}
+use Rattle.costs.specs.Laws.Figures.{length-add, length-times, cancel-right, atMostb-true, within-more, within-times}
 use Rattle.costs.specs.Laws.Moves.{wait-three, by-crossing, crossing-by, corridor-count}
 use Rattle.arrivals.specs.Arrivals.{Arrival, keyOf}
 use Rattle.arrivals.specs.Computed.{arrival}
+use Rattle.arrivals.specs.Laws.Bounds.{arrives-bounded}
 use Rattle.journeys.specs.Inner.Lookup.{markAt, standAt, Sorted}
-use Rattle.journeys.specs.Inner.Waits.{WaitingRow}
+use Rattle.journeys.specs.Inner.Waits.{Rowed, WaitingRow}
 use Rattle.journeys.specs.Inner.Marks.{SameRows, Raised, CrossesBy, Onto, OntoAny}
 use Rattle.journeys.specs.Laws.Exact.{kept, Waits}
 use Rattle.journeys.specs.Laws.Tight.{CrossesInto, keptAt}
@@ -42,15 +44,22 @@ from-low {lines} {all} d {k} {u} {v} {t} {c} x =
 kept-three : (s : Sheet) (xs : List ℕ) (k t : ℕ) → length (kept s (standAt xs k) t) ≡ figures
 kept-three s xs k t =
     let e = standAt xs k in
-    length-add (e .cost) _ figures (from-length figures (k * 5 + 2) xs) (length-times (t - e .step) _ ∙ wait-three s (e .place))
+    let n = t - e .step in
+    length-add (e .cost) (times n (waitOf s (e .place))) figures (from-length figures (k * 5 + 2) xs) (length-times n (waitOf s (e .place)) ∙ wait-three s (e .place))
 
 -- by corridor l
-module _ {s : Sheet} {b : Arrival} {l : ℕ} (r : corridor.Corridor) (c : CorridorIs s l (b .step - 1) r) where
+module _ {s : Sheet} (b : Arrival) {l : ℕ} (r : corridor.Corridor) (c : CorridorIs s l (b .step - 1) r) where
   pub cross-off : {p : Bool} → p ≡ atMostb (r .cost) (b .cost) → r .open && eqb (r .to .0) (b .place) && p ≡ false → (e : Arrival) → CrossesBy s b l e → ⊥
   cross-off {p} q d e x =
       let y = c .is (e .place) (b .place) (x .price) (x .cross) in
       let under : p ≡ true = q ∙ part-under (kept s e (b .step - 1)) (r .cost) (b .cost) (ap (add (kept s e (b .step - 1))) (y .3) ∙ x .sum) in
       false-not-true d (true-and (r .open && eqb (r .to .0) (b .place)) p (true-and (r .open) (eqb (r .to .0) (b .place)) (y .0) (eq-eqb (r .to .0) (b .place) (y .2))) under)
+
+  pub cross-on : {p : Bool} → p ≡ atMostb (r .cost) (b .cost) → r .open && eqb (r .to .0) (b .place) && p ≡ true → (r .open ≡ true) × (r .to .0 ≡ b .place) × AtMost (r .cost) (b .cost)
+  cross-on {p} q d =
+      let x = and-true (r .open && eqb (r .to .0) (b .place)) p d in
+      let y = and-true (r .open) (eqb (r .to .0) (b .place)) (x .0) in
+      (y .0, eqb-true (r .to .0) (b .place) (y .1), atMostb-true (r .cost) (b .cost) (sym q ∙ x .1))
 
   module _ {n k : ℕ} {xs : List ℕ} (opens : r .open ≡ true) (enters : r .to .0 ≡ b .place) (g : Cost) (q : (length g ≡ figures) × (add g (r .cost) ≡ b .cost))
       (w : WaitingRow s n xs (arrival (r .from .0) (b .step - 1) g) k) where
@@ -158,3 +167,30 @@ no-sooner {n} {xs} s i j h l = ⊎-elim (λ m. first (s .ascends i j m l)) (λ m
   where
     first : Lex (keyOf (standAt xs i)) (keyOf (standAt xs j)) → standAt xs i .step ≤ standAt xs j .step
     first x = ⊎-elim (λ y. omega (arith, y)) (λ y. omega (arith, y .0)) x
+
+-- what the code reads of row i, and whether it stands at step t, marked past it
+module _ {s : Sheet} {n t i : ℕ} {xs : List ℕ} {x : Arrival} {m : ℕ} (e : x ≡ standAt xs i) (f : m ≡ markAt xs i) where
+  pub row-off : leb (x .step) t && ltb t m ≡ false → Raised n xs xs t (Onto s xs t i)
+  row-off d =
+      onto-none
+      (λ l h. false-not-true d (true-and (leb (x .step) t) (ltb t m) (le-leb (x .step) t (omega (arith, ap (λ (a : Arrival). a .step) e))) (lt-ltb t m (omega (arith, f)))))
+
+  pub row-on : leb (x .step) t && ltb t m ≡ true → {w g : Cost} → w ≡ waitOf s (x .place) → g ≡ add (x .cost) (times (t - x .step) w)
+      → {ys : List ℕ} → Raised n xs ys t (λ k. CrossesInto s (standAt xs k) (arrival (x .place) t g)) → Raised n xs ys t (Onto s xs t i)
+  row-on d {w} {g} p q =
+      let y = and-true (leb (x .step) t) (ltb t m) d in
+      let here : g ≡ kept s x t = q ∙ ap (λ (c : Cost). add (x .cost) (times (t - x .step) c)) p in
+      onto-row
+      (omega (arith, leb-true (x .step) t (y .0), ap (λ (a : Arrival). a .step) e))
+      (omega (arith, ltb-true t m (y .1), f))
+      (ap (arrival (x .place) t) here ∙ ap (λ (a : Arrival). keptAt s a t) e)
+
+-- figures that can be counted on
+pub row-counted : {lines all since : List ℕ} {n : ℕ} {table : List ℕ} → Rowed lines all since n table → {k : ℕ} → k < n → {x : Arrival} → x ≡ standAt table k → Within 1000000000 (x .cost)
+row-counted {lines} {all} {since} {n} {table} d {k} h e =
+    let s = sheetIn lines all in
+    subst (λ (a : Arrival). Within 1000000000 (a .cost)) (sym e)
+    (record { every = λ i. omega (arith, arrives-bounded s (store-valid (d .derived .store)) (standAt table k) (d .rows .each k h .arrives) i) })
+
+pub waits-counted : {n : ℕ} {w r : Cost} → n ≤ 255 → Within 60000 w → r ≡ times n w → Within 1000000000 r
+waits-counted {n} {w} h x e = subst (Within 1000000000) (sym e) (within-more (n * 60000) 1000000000 (times n w) (omega arith) (within-times n 60000 w x))

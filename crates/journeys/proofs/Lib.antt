@@ -2,6 +2,7 @@ pub mod Finding
 pub mod Waiting
 pub mod Marking
 pub mod Crossings
+pub mod Tightness
 pub mod Ends
 pub mod Sameness
 pub mod Chains

@@ -105,7 +105,7 @@ rows-once {n} {xs} s i j h l e = ⊎-elim (λ m. absurd (apart i j m l e)) (λ m
 
 -- of leading arrivals, in the safe interval that the table of first steps tells
 module _ {s : Sheet} {n : ℕ} {xs : List ℕ} (rows : Rows s n xs) (here : Here) (since-is : here .since .0 ≡ sinceOf s (here .place .0) (here .step .0))
-    (wait-is : here .wait ≡ waitOf s (here .place .0)) (day : here .step .0 ≤ 255) (h : Cost) where
+    (wait-of : here .wait ≡ waitOf s (here .place .0)) (day : here .step .0 ≤ 255) (h : Cost) where
   abbrev this : Arrival
   this = arrival (here .place .0) (here .step .0) h
 
@@ -115,14 +115,14 @@ module _ {s : Sheet} {n : ℕ} {xs : List ℕ} (rows : Rows s n xs) (here : Here
       record {
         place = b .place;
         stays = record { soon = w .until; run = subst (λ (v : ℕ). Run s v (e .step) (here .step .0)) (sym (b .place)) run };
-        sum = ap (λ (c : Cost). add (e .cost) (times (here .step .0 - e .step) c)) (ap (waitOf s) (b .place) ∙ sym wait-is) ∙ b .sum;
+        sum = ap (λ (c : Cost). add (e .cost) (times (here .step .0 - e .step) c)) (ap (waitOf s) (b .place) ∙ sym wait-of) ∙ b .sum;
       }
 
   waits-becomes : (e : Arrival) → Waits s e this → Within here (e .step) × Becomes here h e
   waits-becomes e x =
       let run : Run s (here .place .0) (e .step) (here .step .0) = subst (λ (v : ℕ). Run s v (e .step) (here .step .0)) (x .place) (x .stays .run) in (
         record { since = omega (arith, since-is, since-run s (here .place .0) (e .step) (here .step .0) day (x .stays .soon) .1 run); until = x .stays .soon },
-        record { place = x .place; sum = ap (λ (c : Cost). add (e .cost) (times (here .step .0 - e .step) c)) (wait-is ∙ ap (waitOf s) (sym (x .place))) ∙ x .sum },
+        record { place = x .place; sum = ap (λ (c : Cost). add (e .cost) (times (here .step .0 - e .step) c)) (wait-of ∙ ap (waitOf s) (sym (x .place))) ∙ x .sum },
       )
 
   pub kept-waiting : {r : ℕ} → KeptRow n xs here h r → WaitingRow s n xs this r
@@ -142,6 +142,10 @@ module _ {s : Sheet} {n : ℕ} {xs : List ℕ} (rows : Rows s n xs) (here : Here
 pub wait-within : {lines all : List ℕ} → SomeStore lines all → (v : Place) {w : Cost} → w ≡ waitAt (sheetIn lines all) v → Bounded 60000 w
 unfolding waitAt
 wait-within {lines} {all} d v e = subst (Bounded 60000) (sym e) (record { every = wait-bounded (sheetIn lines all) (store-valid (d .store)) (v .0) })
+
+pub wait-is : (s : Sheet) (v : Place) {w : Cost} → w ≡ waitAt s v → w ≡ waitOf s (v .0)
+unfolding waitAt
+wait-is s v e = e
 
 pub row-waiting : {lines all since : List ℕ} {n : ℕ} {table : List ℕ} → Rowed lines all since n table → {v : Place} {t first : Step} → v .0 < 64 → t .0 ≤ 255
     → first .0 ≡ number since (v .0 * 256 + t .0) → {w h : Cost} → w ≡ waitAt (sheetIn lines all) v → {r : ℕ}

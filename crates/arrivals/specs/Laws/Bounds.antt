@@ -1,10 +1,10 @@
--- On a valid sheet a move has one cost, and no figure of an arrival is above 255 times 60,000.
+-- On a valid sheet a move has one cost, no figure of an arrival is above 255 times 60,000, and a way stands at places of the sheet.
 use mathlib.Core.Path.{_≡_, sym, _∙_}
 use Prim.Native.Nat.{ℕ, zero, suc, _*_, _≤_, _<_}
 use mathlib.Core.List.{List}
 use native.Mathlib.Omega.{arith}
 use Rattle.sheet.specs.Lists.{number}
-use Rattle.sheet.specs.Sheet.{Sheet}
+use Rattle.sheet.specs.Sheet.{Sheet, places}
 use Rattle.sheet.specs.Valid.{Valid}
 use Rattle.costs.specs.Costs.{Cost, fig}
 use Rattle.costs.specs.Laws.Figures.{fig-add, fig-zero}
@@ -33,3 +33,14 @@ way-bounded s h A p g w i =
 
 pub arrives-bounded : (s : Sheet) → Valid s → (a : Arrival) → Arrives s a → (i : ℕ) → fig (a .cost) i ≤ 15300000
 arrives-bounded s h a r i = omega (arith, way-bounded s h (a .step) (r .path) (a .cost) (r .way) i, r .in-time, h .most-steps)
+
+pub way-place : (s : Sheet) → Valid s → (A : ℕ) (p : List ℕ) (g : Cost) → Way s A p g → (t : ℕ) → t ≤ A → number p t < places s
+way-place s v A p g w zero h = omega (arith, w .starts, v .start-place)
+way-place s v A p g w (suc t) h = go (way-place s v A p g w t (omega arith)) (w .moves t (omega arith))
+  where
+    go : number p t < places s → Move s (number p t) (number p (suc t)) t (w .price t) → number p (suc t) < places s
+    go l (waits e c) = omega (arith, e, l)
+    go l (crosses c) = omega (arith, c .enters, v .corridors (c .line) (c .listed) .to-place)
+
+pub arrives-place : (s : Sheet) → Valid s → (a : Arrival) → Arrives s a → a .place < places s
+arrives-place s v a r = omega (arith, way-place s v (a .step) (r .path) (a .cost) (r .way) (a .step) (omega arith), r .stands)

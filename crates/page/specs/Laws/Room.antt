@@ -9,7 +9,7 @@ use native.Mathlib.Nat.{suc-mul}
 use lib.ListN.{length, getD, length-append}
 use borrow.Author.Tests.{ltb-false}
 use Rattle.sheet.specs.Lists.{pick, number, bind}
-use Rattle.sheet.specs.Sheet.{Sheet, Outcome, refused, loaded, told, readOf, places}
+use Rattle.sheet.specs.Sheet.{Sheet, Outcome, refused, loaded, told, readOf}
 use Rattle.sheet.specs.Valid.{Valid}
 use Rattle.sheet.specs.Text.{numberText, printed}
 use Rattle.sheet.specs.Laws.Decimal.{digits-at-most}
@@ -17,7 +17,7 @@ use Rattle.sheet.specs.Laws.RoundTrip.{read-valid}
 use Rattle.sheet.specs.Laws.Puts.{Puts}
 use Rattle.sheet.specs.Laws.Printed.{number-length, printed-length, digits-most}
 use Rattle.costs.specs.Costs.{Cost}
-use Rattle.arrivals.specs.Ways.{Way, Move, waits, crosses}
+use Rattle.arrivals.specs.Laws.Bounds.{way-place}
 use Rattle.arrivals.specs.Computed.{leading}
 use Rattle.arrivals.specs.Table.{crowded}
 use Rattle.journeys.specs.Journeys.{HasCost}
@@ -43,15 +43,6 @@ place-long n h = omega (arith, number-length mostPrinted n, digits-at-most mostP
 printed-long : (c m : ℕ) (ns : List ℕ) → ((i : ℕ) → i < length ns → length (numberText mostPrinted (number ns i)) ≤ m) → length (printed mostPrinted c ns) ≤ length ns * m + 2
 printed-long c m ns h = omega (arith, printed-length mostPrinted c ns, bind-long (numberText mostPrinted) m 0 ns h)
 
--- a way stands at places of the sheet
-way-place : (s : Sheet) (A : ℕ) (p : List ℕ) (g : Cost) → Valid s → Way s A p g → (t : ℕ) → t ≤ A → number p t < places s
-way-place s A p g v w zero h = omega (arith, w .starts, v .start-place)
-way-place s A p g v w (suc t) h = go (way-place s A p g v w t (omega arith)) (w .moves t (omega arith))
-  where
-    go : number p t < places s → Move s (number p t) (number p (suc t)) t (w .price t) → number p (suc t) < places s
-    go l (waits e c) = omega (arith, e, l)
-    go l (crosses c) = omega (arith, c .enters, v .corridors (c .line) (c .listed) .to-place)
-
 -- the lines of a front cost
 module _ (s : Sheet) (v : Valid s) (g : Cost) (h : HasCost s g) where
   cost-long : length (printed mostPrinted 74 (frontRow s g)) ≤ 46
@@ -62,7 +53,7 @@ module _ (s : Sheet) (v : Valid s) (g : Cost) (h : HasCost s g) where
   path-long =
       let j = journeyOf-selected s g h .journey in
       omega
-      (arith, printed-long 80 3 (journeyOf s g) (λ i k. place-long (number (journeyOf s g) i) (omega (arith, way-place s (j .A) (journeyOf s g) g v (j .way) i (omega (arith, k, j .way .places)), v .most-places))), journey-short s g v h)
+      (arith, printed-long 80 3 (journeyOf s g) (λ i k. place-long (number (journeyOf s g) i) (omega (arith, way-place s v (j .A) (journeyOf s g) g (j .way) i (omega (arith, k, j .way .places)), v .most-places))), journey-short s g v h)
 
   lines-long : length (journeyLines s g) ≤ 816
   unfolding journeyLines

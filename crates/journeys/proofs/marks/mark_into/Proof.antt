@@ -1,50 +1,54 @@
+-- `journeys::marks::mark_into` meets its contract. The loop's invariant: the rows from which a cart can cross by a corridor below number l are marked.
+-- The measure is what is left of the corridors.
+-- Assumes nothing.
+use mathlib.Core.Path.{_≡_, refl, sym, _∙_}
+use Prim.Native.Nat.{_-_, _≤_}
+use native.Mathlib.Omega.{arith}
+use lib.ListN.{length}
+use Rattle.sheet.specs.Lists.{number}
+use Rattle.sheet.specs.Store.{sheetIn}
+use Rattle.sheet.specs.Laws.Store.{store-counts, store-few}
+use Rattle.intervals.specs.FirstSteps.{some-derived}
+use Rattle.journeys.specs.Inner.Lookup.{standing}
+use Rattle.journeys.specs.Inner.Marks.{Raised}
+use Rattle.journeys.proofs.Marking.{same-rowed, Below, raised-start}
+use Rattle.journeys.proofs.Crossings.{ByCorridor, cross-more, cross-all}
+use borrow.Author.Needs.{needs}
 use Rattle.journeys.proofs.marks.mark_into.Statement.{statement}
 use Rattle.journeys.proofs.marks.mark_into.Tie as tie
-use Rattle.journeys.proofs.marks.mark_into.Reads as reads
-use Rattle.journeys.proofs.marks.mark_into.Lts as lts
-use Rattle.journeys.proofs.marks.mark_over.Reads as mark-over-reads
 
 abbrev Inv-loop : tie.InvT-loop
-Inv-loop lines all since table₀ n b count l₀ table l = ?
+Inv-loop lines all since table₀ n b count l₀ table l = (l ≤ count) × (count ≡ number lines 1) × Raised n table₀ table (b .step .0) (Below (ByCorridor (sheetIn lines all) table₀ (standing b)) l)
 
 abbrev μ-loop : tie.MeasureT-loop
-μ-loop lines all since table₀ n b count l₀ table l = ?
+μ-loop lines all since table₀ n b count l₀ table l = count - l
 
--- src/marks.rt:88:17
 shared-slice-read-count : tie.Need-shared-slice-read-count Inv-loop μ-loop
-shared-slice-read-count c = ?
+shared-slice-read-count c = omega (arith, store-counts (c .before .before .before .before .before .pre .0 .derived .store))
 
--- src/marks.rt:88:17
 cast-count : tie.Need-cast-count Inv-loop μ-loop
-cast-count c = ?
+cast-count c = omega (arith, store-few (c .before .before .before .before .before .pre .0 .derived .store) 1 (omega arith) .0)
 
--- src/marks.rt:89:5
 loop-holds : tie.Need-loop-holds Inv-loop μ-loop
-loop-holds c = ?
+loop-holds c = (omega arith, refl, raised-start)
 
--- src/marks.rt:90:9
 mark-over-requires : tie.Need-mark-over-requires Inv-loop μ-loop
-mark-over-requires c κs = ?
+mark-over-requires c κs = (same-rowed (c .before .before .loop .inv .2 .rows) (c .before .before .before .before .before .before .before .before .pre .0), c .before .before .before .before .before .before .before .before .pre .1, c .before .before .before .before .before .before .before .before .pre .2, omega (arith, c .before .before .loop .inv .1))
 
--- src/marks.rt:89:9
 add-l : tie.Need-add-l Inv-loop μ-loop
-add-l c = ?
+add-l c = omega (arith, c .before .before .before .before .before .loop .inv .1, store-few (c .before .before .before .before .before .before .before .before .before .before .before .pre .0 .derived .store) 1 (omega arith) .0)
 
--- src/marks.rt:89:5
 loop-less : tie.Need-loop-less Inv-loop μ-loop
-loop-less c = ?
+loop-less c = search needs
 
--- src/marks.rt:89:5
 loop-again : tie.Need-loop-again Inv-loop μ-loop
-loop-again c = ?
+loop-again c = (omega arith, c .before .before .before .before .before .loop .inv .1, cross-more (c .before .before .before .before .before .loop .inv .2) (c .before .before .mark-over .ensures))
 
--- src/marks.rt:76:1
 same-length : tie.Need-same-length Inv-loop μ-loop
-same-length c = ?
+same-length c = c .before .loop .inv .2 .rows .size
 
--- src/marks.rt:76:1
 returns : tie.Need-returns Inv-loop μ-loop
-returns c = ?
+returns c = cross-all (some-derived (c .before .before .before .before .before .before .before .pre .0 .derived)) (omega (arith, c .before .loop .inv .1)) (c .before .loop .inv .2)
 
 pub mark-into-spec : {M : Type 1} → statement M
 mark-into-spec =

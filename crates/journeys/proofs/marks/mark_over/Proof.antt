@@ -1,57 +1,54 @@
+-- `journeys::marks::mark_over` meets its contract: by corridor l a cart comes from one row at most, the one that waits until the step before with what is
+-- left of the cost.
+-- Assumes nothing.
+use native.Mathlib.Omega.{arith}
+use borrow.Author.Tests.{not-true, not-false}
+use Rattle.intervals.specs.FirstSteps.{some-derived}
+use Rattle.journeys.specs.Inner.Lookup.{standing}
+use Rattle.journeys.proofs.Marking.{raised-none}
+use Rattle.journeys.proofs.Crossings.{from-low, cross-off, cross-on, cross-one, cross-none}
 use borrow.Author.Needs.{needs}
 use Rattle.journeys.proofs.marks.mark_over.Statement.{statement}
 use Rattle.journeys.proofs.marks.mark_over.Tie as tie
-use Rattle.journeys.proofs.marks.mark_over.Reads as reads
-use Rattle.journeys.proofs.marks.mark_over.Lts as lts
-use Rattle.costs.proofs.at_most.Reads as at-most-reads
-use Rattle.costs.proofs.corridor_at.Reads as corridor-at-reads
-use Rattle.costs.proofs.less.Reads as less-reads
-use Rattle.journeys.proofs.marks.raise.Reads as raise-reads
-use Rattle.journeys.proofs.waits.waiting_row.Reads as waiting-row-reads
 
--- src/marks.rt:60:18
 sub-t15 : tie.Need-sub-t15
 sub-t15 c = search needs
 
--- src/marks.rt:61:9
 corridor-at-requires : tie.Need-corridor-at-requires
-corridor-at-requires c κs = search needs
+corridor-at-requires c κs = (some-derived (c .before .before .before .before .before .pre .0 .derived), c .before .before .before .before .before .pre .3)
 
--- src/marks.rt:64:43
 at-most-requires : tie.Need-at-most-requires
 at-most-requires c κs = search needs
 
--- src/marks.rt:65:9
 returns : tie.Need-returns
-returns c = ?
+returns c = raised-none (λ k h. cross-off (standing (c .before .before .before .before .before .before .before .before .before .before .before .before .before .args .b)) (c .before .before .before .before .before .before .before .corridor-at .result) (c .before .before .before .before .before .before .before .corridor-at .ensures) (c .before .at-most .ensures) (not-true _ (c .if1 .taken)) _)
 
--- src/marks.rt:68:9
 less-requires : tie.Need-less-requires
-less-requires c κs = ?
+less-requires c κs = cross-on (standing (c .before .before .before .before .before .before .before .before .before .before .before .before .before .before .args .b)) (c .before .before .before .before .before .before .before .before .corridor-at .result) (c .before .before .before .before .before .before .before .before .corridor-at .ensures) (c .before .before .at-most .ensures) (not-false _ (c .before .if1 .left)) .2
 
--- src/marks.rt:69:9
 waiting-row-requires : tie.Need-waiting-row-requires
-waiting-row-requires c κs = ?
+waiting-row-requires c κs = (c .before .before .before .before .before .before .before .before .before .before .before .before .before .before .before .before .pre .0, from-low (some-derived (c .before .before .before .before .before .before .before .before .before .before .before .before .before .before .before .before .pre .0 .derived)) (c .before .before .before .before .before .before .before .before .before .before .corridor-at .ensures .there (cross-on (standing (c .before .before .before .before .before .before .before .before .before .before .before .before .before .before .before .before .args .b)) (c .before .before .before .before .before .before .before .before .before .before .corridor-at .result) (c .before .before .before .before .before .before .before .before .before .before .corridor-at .ensures) (c .before .before .before .before .at-most .ensures) (not-false _ (c .before .before .before .if1 .left)) .0)), omega (arith, c .before .before .before .before .before .before .before .before .before .before .before .before .before .before .before .before .pre .2))
 
--- src/marks.rt:71:9
 raise-requires : tie.Need-raise-requires
-raise-requires c κs = ?
+raise-requires c κs = (c .before .if2 .taken, c .before .before .before .before .before .before .before .before .before .before .before .before .before .before .before .before .before .before .before .pre .0 .rows .sorted .room, omega (arith, c .before .before .before .before .before .before .before .before .before .before .before .before .before .before .before .before .before .before .before .pre .2))
 
--- src/marks.rt:47:1
 same-length : tie.Need-same-length
 same-length c = search needs
 
--- src/marks.rt:47:1
 returns-2 : tie.Need-returns-2
-returns-2 c = ?
+returns-2 c =
+    let r = c .before .before .before .before .before .before .before .before .before .before .before .before .before .before .before .before .corridor-at in
+    let q = cross-on (standing (c .before .before .before .before .before .before .before .before .before .before .before .before .before .before .before .before .before .before .before .before .before .before .args .b)) (r .result) (r .ensures) (c .before .before .before .before .before .before .before .before .before .before .at-most .ensures) (not-false _ (c .before .before .before .before .before .before .before .before .before .if1 .left)) in
+    cross-one (standing (c .before .before .before .before .before .before .before .before .before .before .before .before .before .before .before .before .before .before .before .before .before .before .args .b)) (r .result) (r .ensures) (q .0) (q .1) _ (c .before .before .before .before .before .before .before .less .ensures) (c .before .before .before .before .before .waiting-row .ensures) (c .before .before .before .before .if2 .taken) (c .before .before .raise .ensures)
 
--- src/marks.rt:47:1
 same-length-2 : tie.Need-same-length-2
 same-length-2 c = search needs
 
--- src/marks.rt:47:1
 returns-3 : tie.Need-returns-3
-returns-3 c = ?
+returns-3 c =
+    let r = c .before .before .before .before .before .before .before .before .before .before .before .before .corridor-at in
+    let q = cross-on (standing (c .before .before .before .before .before .before .before .before .before .before .before .before .before .before .before .before .before .before .args .b)) (r .result) (r .ensures) (c .before .before .before .before .before .before .at-most .ensures) (not-false _ (c .before .before .before .before .before .if1 .left)) in
+    cross-none (standing (c .before .before .before .before .before .before .before .before .before .before .before .before .before .before .before .before .before .before .args .b)) (r .result) (r .ensures) (q .0) (q .1) _ (c .before .before .before .less .ensures) (c .before .waiting-row .ensures) (c .if2 .left)
 
 pub mark-over-spec : {M : Type 1} → statement M
 mark-over-spec =
