@@ -1,6 +1,7 @@
 pub mod Finding
 pub mod Waiting
 pub mod Marking
+pub mod Choosing
 pub mod Ends
 pub mod Sameness
 pub mod Chains
