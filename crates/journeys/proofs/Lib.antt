@@ -3,6 +3,7 @@ pub mod Waiting
 pub mod Marking
 pub mod Crossings
 pub mod Tightness
+pub mod Choosing
 pub mod Ends
 pub mod Sameness
 pub mod Chains
