@@ -4,6 +4,7 @@ pub mod Marking
 pub mod Crossings
 pub mod Tightness
 pub mod Choosing
+pub mod Walking
 pub mod Ends
 pub mod Sameness
 pub mod Chains

@@ -140,3 +140,49 @@ module _ {n k m : ℕ} {xs : List ℕ} (h : k < n) (room : n * 5 ≤ length xs) 
       either : (j : ℕ) (b : Bool) → eqb j k ≡ b → (markAt ys j ≡ markAt xs j) ⊎ ((markAt xs j < m) × (markAt ys j ≡ m) × (j ≡ k))
       either j true e = let z = eqb-true j k e in inr (subst (λ (i : ℕ). markAt xs i < m) (sym z) l, subst (λ (i : ℕ). markAt ys i ≡ m) (sym z) (omega (arith, here)), z)
       either j false e = inl (ap (λ (y : ℕ). y / 64) (other j (eqb-false j k e)))
+
+-- the marks taken off, row by row
+pub bared-none : {xs : List ℕ} → Bared 0 xs xs
+bared-none = record { size = refl; place = λ k h. absurd (omega arith); others = λ i f. refl }
+
+pub bared-all : {n k : ℕ} {xs ys : List ℕ} → n ≡ k → Bared k xs ys → Bared n xs ys
+bared-all {n} {k} {xs} {ys} e b = subst (λ (j : ℕ). Bared j xs ys) (sym e) b
+
+pub bared-more : {k : ℕ} {xs ys : List ℕ} → k * 5 < length ys → Bared k xs ys → Bared (k + 1) xs (set ys (k * 5) (getD ys (k * 5) 0 % 64))
+bared-more {k} {xs} {ys} room b =
+    record {
+      size = length-set ys (k * 5) x ∙ b .size;
+      place = λ j h. place j h (eqb j k) refl;
+      others = λ i f. getD-set-other ys (k * 5) i x 0 (λ e. f k (omega arith) e) ∙ b .others i (λ j h e. f j (omega arith) e);
+    }
+  where
+    x : ℕ
+    x = getD ys (k * 5) 0 % 64
+
+    place : (j : ℕ) → j < k + 1 → (c : Bool) → eqb j k ≡ c → getD (set ys (k * 5) x) (j * 5) 0 ≡ placeAt xs j
+    place j h true e =
+        let z = eqb-true j k e in
+        subst (λ (i : ℕ). getD (set ys (k * 5) x) (i * 5) 0 ≡ placeAt xs i) (sym z)
+        (getD-set-same ys (k * 5) x 0 room ∙ ap (λ (y : ℕ). y % 64) (b .others (k * 5) (λ i l q. omega arith)))
+    place j h false e =
+        let d : j ≢ k = eqb-false j k e in
+        getD-set-other ys (k * 5) (j * 5) x 0 (λ q. d (omega arith)) ∙ b .place j (omega arith)
+
+-- without marks the table is what it was
+pub bared-back : {n : ℕ} {xs ys zs : List ℕ} → ((k : ℕ) → k < n → getD xs (k * 5) 0 < 64) → SameRows n xs ys → Bared n ys zs → zs ≡ xs
+bared-back {n} {xs} {ys} {zs} low r b = ext-getD 0 zs xs (b .size ∙ r .size) (λ i h. cell i (eqb (i / 5 * 5) i) refl)
+  where
+    kept : (i : ℕ) → ((k : ℕ) → k < n → i ≡ k * 5 → ⊥) → getD zs i 0 ≡ getD xs i 0
+    kept i f = b .others i f ∙ r .others i f
+
+    cell : (i : ℕ) (c : Bool) → eqb (i / 5 * 5) i ≡ c → getD zs i 0 ≡ getD xs i 0
+    cell i true e = ⊎-elim (column i (eqb-true (i / 5 * 5) i e)) (past i (eqb-true (i / 5 * 5) i e)) (lt-or-le (i / 5) n)
+      where
+        column : (i : ℕ) → i / 5 * 5 ≡ i → i / 5 < n → getD zs i 0 ≡ getD xs i 0
+        column i e l =
+            subst (λ (j : ℕ). getD zs j 0 ≡ getD xs j 0) e
+            (b .place (i / 5) l ∙ r .place (i / 5) ∙ omega (arith, low (i / 5) l))
+
+        past : (i : ℕ) → i / 5 * 5 ≡ i → n ≤ i / 5 → getD zs i 0 ≡ getD xs i 0
+        past i e l = kept i (λ k h q. omega arith)
+    cell i false e = let d = eqb-false (i / 5 * 5) i e in kept i (λ k h q. d (omega arith))

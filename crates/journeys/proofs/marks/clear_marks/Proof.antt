@@ -1,61 +1,56 @@
+-- `journeys::marks::clear_marks` meets its contract. The loop's invariant: the rows below number k have no mark any more, and all else is kept. The measure
+-- is what is left of the rows.
+-- Assumes nothing.
+use mathlib.Core.Path.{refl, _∙_}
+use Prim.Native.Nat.{_-_, _≤_}
+use native.Mathlib.Omega.{arith}
+use Rattle.journeys.specs.Inner.Marks.{Bared}
+use Rattle.journeys.proofs.Marking.{bared-none, bared-more, bared-all}
+use borrow.Author.Needs.{needs}
 use Rattle.journeys.proofs.marks.clear_marks.Statement.{statement}
 use Rattle.journeys.proofs.marks.clear_marks.Tie as tie
-use Rattle.journeys.proofs.marks.clear_marks.Reads as reads
-use Rattle.journeys.proofs.marks.clear_marks.Lts as lts
 
 abbrev Inv-loop : tie.InvT-loop
-Inv-loop table₀ n k₀ table k = ?
+Inv-loop table₀ n k₀ table k = (k ≤ n) × Bared k table₀ table
 
 abbrev μ-loop : tie.MeasureT-loop
-μ-loop table₀ n k₀ table k = ?
+μ-loop table₀ n k₀ table k = n - k
 
--- src/marks.rt:169:5
 loop-holds : tie.Need-loop-holds Inv-loop μ-loop
-loop-holds c = ?
+loop-holds c = (omega arith, bared-none)
 
--- src/marks.rt:170:30
 mul-table : tie.Need-mul-table Inv-loop μ-loop
-mul-table c = ?
+mul-table c = omega (arith, c .before .before .pre)
 
--- src/marks.rt:170:24
 mul-table-2 : tie.Need-mul-table-2 Inv-loop μ-loop
-mul-table-2 c = ?
+mul-table-2 c = omega (arith, c .before .before .pre)
 
--- src/marks.rt:170:24
 slice-read-table : tie.Need-slice-read-table Inv-loop μ-loop
-slice-read-table c = ?
+slice-read-table c = omega (arith, c .before .before .before .pre, c .before .before .loop .inv .1 .size)
 
--- src/marks.rt:170:15
 mul-table-3 : tie.Need-mul-table-3 Inv-loop μ-loop
-mul-table-3 c = ?
+mul-table-3 c = omega (arith, c .before .before .before .pre)
 
--- src/marks.rt:170:9
 mul-table-4 : tie.Need-mul-table-4 Inv-loop μ-loop
-mul-table-4 c = ?
+mul-table-4 c = omega (arith, c .before .before .before .pre)
 
--- src/marks.rt:170:9
 slice-write-table : tie.Need-slice-write-table Inv-loop μ-loop
-slice-write-table c = ?
+slice-write-table c = omega (arith, c .before .before .before .pre, c .before .before .loop .inv .1 .size)
 
--- src/marks.rt:169:9
 add-k : tie.Need-add-k Inv-loop μ-loop
-add-k c = ?
+add-k c = search needs
 
--- src/marks.rt:169:5
 loop-less : tie.Need-loop-less Inv-loop μ-loop
-loop-less c = ?
+loop-less c = search needs
 
--- src/marks.rt:169:5
 loop-again : tie.Need-loop-again Inv-loop μ-loop
-loop-again c = ?
+loop-again c = (omega arith, bared-more (omega (arith, c .before .before .before .pre, c .before .before .loop .inv .1 .size)) (c .before .before .loop .inv .1))
 
--- src/marks.rt:165:1
 same-length : tie.Need-same-length Inv-loop μ-loop
-same-length c = ?
+same-length c = c .before .loop .inv .1 .size
 
--- src/marks.rt:165:1
 returns : tie.Need-returns Inv-loop μ-loop
-returns c = ?
+returns c = bared-all (omega arith) (c .before .loop .inv .1)
 
 pub clear-marks-spec : {M : Type 1} → statement M
 clear-marks-spec =

@@ -1,60 +1,66 @@
+-- `journeys::marks::mark_ways` meets its contract. The loop's invariant: the table is as it was but for the marks, and the marks of a front cost that were
+-- right at the arrival are right from step t on. The measure is t.
+-- Assumes nothing.
+use mathlib.Core.Path.{_≡_, _∙_, subst}
+use Prim.Native.Nat.{_-_, _≤_}
+use native.Mathlib.Omega.{arith}
+use Rattle.sheet.specs.Store.{sheetIn}
+use Rattle.sheet.specs.Laws.Store.{store-length, head-number}
+use Rattle.costs.specs.Costs.{Cost}
+use Rattle.journeys.specs.Front.{OnFront}
+use Rattle.journeys.specs.Inner.Marks.{SameRows, Marks}
+use Rattle.journeys.proofs.Marking.{same-refl, same-trans, same-rowed}
+use Rattle.journeys.proofs.Tightness.{marks-step, end-rows, end-rowed, end-day, end-within, end-marks}
 use Rattle.journeys.proofs.marks.mark_ways.Statement.{statement}
 use Rattle.journeys.proofs.marks.mark_ways.Tie as tie
-use Rattle.journeys.proofs.marks.mark_ways.Reads as reads
-use Rattle.journeys.proofs.marks.mark_ways.Lts as lts
-use Rattle.journeys.proofs.lookup.row_of.Reads as row-of-reads
-use Rattle.journeys.proofs.marks.mark_step.Reads as mark-step-reads
-use Rattle.journeys.proofs.marks.raise.Reads as raise-reads
 
 abbrev Inv-loop : tie.InvT-loop
-Inv-loop lines all since table₀ n k t₀ table t = ?
+Inv-loop lines all since table₀ n k t₀ table t = (t ≤ t₀) × SameRows n table₀ table
+    × ((f : Cost) → OnFront (sheetIn lines all) f → Marks (sheetIn lines all) f t₀ n table₀ t₀ → Marks (sheetIn lines all) f t₀ n table t)
 
 abbrev μ-loop : tie.MeasureT-loop
-μ-loop lines all since table₀ n k t₀ table t = ?
+μ-loop lines all since table₀ n k t₀ table t = t
 
--- src/marks.rt:154:23
 shared-slice-read-raise : tie.Need-shared-slice-read-raise Inv-loop μ-loop
-shared-slice-read-raise c = ?
+shared-slice-read-raise c = omega (arith, store-length (c .before .before .before .before .before .pre .derived .store))
 
--- src/marks.rt:155:9
 row-of-requires : tie.Need-row-of-requires Inv-loop μ-loop
-row-of-requires c κs = ?
+row-of-requires c κs = end-rows (c .before .before .before .before .before .before .pre) .sorted
 
--- src/marks.rt:156:24
 add-raise : tie.Need-add-raise Inv-loop μ-loop
-add-raise c = ?
+add-raise c = omega (arith, end-day (c .before .before .before .before .before .before .before .before .before .pre))
 
--- src/marks.rt:156:5
 raise-requires : tie.Need-raise-requires Inv-loop μ-loop
-raise-requires c κs = ?
+raise-requires c κs = (end-within (c .before .before .before .before .before .before .before .before .before .pre) (head-number (c .before .before .before .before .before .before .before .before .before .pre .derived .store) 3 (omega arith)) (c .before .before .row-of .ensures), end-rows (c .before .before .before .before .before .before .before .before .before .pre) .sorted .room, omega (arith, end-day (c .before .before .before .before .before .before .before .before .before .pre)))
 
--- src/marks.rt:158:5
 loop-holds : tie.Need-loop-holds Inv-loop μ-loop
-loop-holds c = ?
+loop-holds c = (omega arith, same-refl, λ f o m. m)
 
--- src/marks.rt:159:9
 mark-step-requires : tie.Need-mark-step-requires Inv-loop μ-loop
-mark-step-requires c κs = ?
+mark-step-requires c κs =
+    (same-rowed (c .before .before .loop .inv .1) (same-rowed (c .before .before .before .before .before .raise .ensures .rows) (end-rowed (c .before .before .before .before .before .before .before .before .before .before .before .before .before .before .before .pre))), omega arith, omega (arith, end-day (c .before .before .before .before .before .before .before .before .before .before .before .before .before .before .before .pre), c .before .before .loop .inv .0))
 
--- src/marks.rt:160:9
 sub-t : tie.Need-sub-t Inv-loop μ-loop
-sub-t c = ?
+sub-t c = omega arith
 
--- src/marks.rt:158:5
 loop-less : tie.Need-loop-less Inv-loop μ-loop
-loop-less c = ?
+loop-less c = omega arith
 
--- src/marks.rt:158:5
 loop-again : tie.Need-loop-again Inv-loop μ-loop
-loop-again c = ?
+loop-again c =
+    let l = c .before .before .before .before .before .loop in
+    let rows = same-rowed (l .inv .1) (same-rowed (c .before .before .before .before .before .before .before .before .raise .ensures .rows) (end-rowed (c .before .before .before .before .before .before .before .before .before .before .before .before .before .before .before .before .before .before .pre))) .rows in
+    (omega (arith, l .inv .0), same-trans (l .inv .1) (c .before .before .mark-step .ensures .rows), λ f o m. marks-step o rows (omega arith) (l .inv .0) (l .inv .2 f o m) (c .before .before .mark-step .ensures))
 
--- src/marks.rt:142:1
 same-length : tie.Need-same-length Inv-loop μ-loop
-same-length c = ?
+same-length c = c .before .loop .inv .1 .size ∙ c .before .before .before .before .raise .ensures .rows .size
 
--- src/marks.rt:142:1
 returns : tie.Need-returns Inv-loop μ-loop
-returns c = ?
+returns c =
+    let l = c .before .loop in
+    let z : l .t ≡ 0 = omega arith in
+    let m = l .inv .2 _ (c .before .before .before .before .before .before .before .before .before .before .before .before .before .before .pre .on-front) (end-marks (c .before .before .before .before .before .before .before .before .before .before .before .before .before .before .pre) (head-number (c .before .before .before .before .before .before .before .before .before .before .before .before .before .before .pre .derived .store) 3 (omega arith)) (c .before .before .before .before .before .before .before .row-of .ensures) (c .before .before .before .before .raise .ensures)) in
+    record { rows = same-trans (c .before .before .before .before .raise .ensures .rows) (l .inv .1); marks = subst (Marks _ _ _ _ _) z m }
 
 pub mark-ways-spec : {M : Type 1} → statement M
 mark-ways-spec =
