@@ -97,7 +97,7 @@ fn sheet_b() {
 
 #[test]
 fn sheet_d() {
-    assert_journey(D, 0, ([3, 0, 0], 3, &[0, 2, 3, 5]));
+    assert_journey(D, 0, ([3, 0, 0], 3, &[0, 1, 4, 5]));
 }
 
 #[test]
