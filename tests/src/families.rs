@@ -81,8 +81,8 @@ const LATE: Family = Family {
     ..PLAIN
 };
 
-/// Costs of one figure, with equal sums in any order.
-const UNITS: Costs = Whole(&[[1, 0, 0], [0, 1, 0]]);
+/// Costs of one figure, of which many sums are equal.
+const UNITS: Costs = Whole(&[[0, 1, 0], [0, 0, 1]]);
 
 /// So many of the families, those first, have few ties: costs of the front that several journeys with the same, earliest
 /// arrival have.
@@ -161,7 +161,12 @@ pub const FAMILIES: [Family; 23] = [
         corridors: [8, 14],
         ..LATE
     },
-    Family { name: "equal sums until the goal is free", crossing: UNITS, waiting: UNITS, ..LATE },
+    Family {
+        name: "equal sums until the goal is free",
+        crossing: Whole(&[[1, 0, 0], [0, 1, 0], [0, 0, 1]]),
+        waiting: Whole(&[[1, 0, 0], [0, 1, 0], [0, 0, 1]]),
+        ..LATE
+    },
     Family { name: "free waiting until the goal is free", crossing: UNITS, waiting: Figures(&[0]), ..LATE },
     Family {
         name: "cycles without cost",
@@ -172,7 +177,7 @@ pub const FAMILIES: [Family; 23] = [
     Family {
         name: "long waits",
         places: [3, 4],
-        steps: [8, 24],
+        steps: [7, 10],
         corridors: [2, 4],
         crossing: UNITS,
         waiting: Figures(&[0, 0, 1]),

@@ -1,4 +1,5 @@
-//! Document 01's "Sheets to try", and each refusal of a sheet, through the wrapper.
+//! Document 01's "Sheets to try", sheet D with the journey of document 02, and each refusal of a sheet, through the
+//! wrapper.
 
 use crate::{Cost, Place, Refusal, Room, Step, front, journey, read, write};
 

@@ -1,9 +1,10 @@
 //! Compares planner_front and planner_journey with the step-by-step reference, on the stored cases and on random
 //! sheets.
 //!
-//! `compare_fronts [--seed N] [--runs N]`: each run is one small sheet, with several calls, and five damaged texts,
-//! with one call of the front and one of a journey each. The exit status is 0 if all answers and all cells of all
-//! lent arrays agree and each refusal number, family, size and kind of damage came up often.
+//! `compare_fronts [--seed N] [--runs N]`: each run is one small sheet, with several calls, among them one for each of
+//! its journeys with room, and five damaged texts, with one call of the front and one of a journey each. The exit status
+//! is 0 if all answers and all cells of all lent arrays agree, a third of the small sheets have a tie, and each refusal
+//! number, family, size, way in which the tie rule decides, room and kind of damage came up often.
 
 use planner_tests::cases::{Asked, FrontCase, front_cases};
 use planner_tests::compare_search::{Filled, Tried};
