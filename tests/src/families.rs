@@ -1,4 +1,4 @@
-//! The families of random sheets, most of them small ones.
+//! The families of random sheets of which small ones are taken.
 
 use crate::groups::Groups;
 use crate::random::Random;
