@@ -5,6 +5,7 @@ pub mod cases;
 pub mod compare;
 pub mod compare_search;
 pub mod damage;
+pub mod families;
 pub mod groups;
 pub mod layers;
 pub mod lent;
@@ -17,6 +18,7 @@ pub mod random;
 pub mod sheet;
 pub mod small;
 pub mod step_by_step;
+pub mod ties;
 
 pub use ::planner::calls as answers;
 #[cfg(not(feature = "stub"))]

@@ -5,7 +5,7 @@ use std::process::ExitCode;
 
 use crate::random::Random;
 
-/// Each thing that is counted must come up at least once in so many runs.
+/// Each thing that is counted must come up at least once in so many runs, if nothing else is said; fewer runs say nothing.
 const OFTEN: u64 = 200;
 
 /// How often each refusal number came up, 0 to 16.
@@ -17,21 +17,29 @@ pub struct Options {
     pub runs: u64,
 }
 
-/// Things of one sort, each with how often it came up.
+/// Things of one sort, each with how often it came up, which must be at least once in so many runs.
 pub struct Counts {
-    pub about: &'static str,
-    pub counts: Vec<(String, u64)>,
+    about: &'static str,
+    counts: Vec<(String, u64)>,
+    once_in: u64,
 }
 
 impl Counts {
     /// The counts of some things, by what they show as.
     pub fn of<K: Debug>(about: &'static str, things: &[K], counts: &[u64]) -> Counts {
-        Counts { about, counts: things.iter().zip(counts).map(|(thing, &n)| (format!("{thing:?}"), n)).collect() }
+        let counts = things.iter().zip(counts).map(|(thing, &n)| (format!("{thing:?}"), n)).collect();
+        Counts { about, counts, once_in: OFTEN }
     }
 
     /// The counts of some refusal numbers; 0 is a call that is served.
     pub fn of_refusals(about: &'static str, numbers: &[usize], counts: &ByRefusal) -> Counts {
-        Counts { about, counts: numbers.iter().map(|&number| (number.to_string(), counts[number])).collect() }
+        let counts = numbers.iter().map(|&number| (number.to_string(), counts[number])).collect();
+        Counts { about, counts, once_in: OFTEN }
+    }
+
+    /// The same counts of things that must come up at least once in so many runs.
+    pub fn once_in(self, runs: u64) -> Counts {
+        Counts { once_in: runs, ..self }
     }
 }
 
@@ -42,7 +50,7 @@ pub fn run(name: &str, runs: u64, compared: impl Fn(&Options) -> Result<Vec<Coun
         return ExitCode::from(2);
     };
     println!("{name}: seed {}, {} runs", options.seed, options.runs);
-    match compared(&options).and_then(|counts| print_counts(&counts, options.runs / OFTEN)) {
+    match compared(&options).and_then(|counts| print_counts(&counts, options.runs)) {
         Ok(()) => {
             println!("all answers agree");
             ExitCode::SUCCESS
@@ -81,10 +89,11 @@ fn options(runs: u64, mut arguments: impl Iterator<Item = String>) -> Option<Opt
     Some(options)
 }
 
-/// Prints the counts; a failure where one is too low for the comparison to say anything.
-fn print_counts(all: &[Counts], least: u64) -> Result<(), String> {
+/// Prints the counts of so many runs; a failure where one is too low for the comparison to say anything.
+fn print_counts(all: &[Counts], runs: u64) -> Result<(), String> {
     let mut seldom = Ok(());
-    for Counts { about, counts } in all {
+    for Counts { about, counts, once_in } in all {
+        let least = if runs < OFTEN { 0 } else { runs / once_in };
         let shown: Vec<String> = counts.iter().map(|(name, count)| format!("{name}: {count}")).collect();
         println!("{about}: {}", shown.join(", "));
         if let Some((name, count)) = counts.iter().find(|(_, count)| *count < least) {

@@ -1,4 +1,4 @@
-// The reference for the front and its journeys: every lawful way, step by step, written from document 01 alone.
+// The reference for the front and its journeys: every lawful way, step by step, written from documents 01 and 02 alone.
 
 use crate::answers::{FrontAnswer, JourneyAnswer, SheetRead};
 use crate::sheet::read_sheet;
@@ -142,9 +142,9 @@ impl Way {
         Way { places, cost: sum(self.cost, cost) }
     }
 
-    /// What the tie rule compares: the arrival step, then the places from the last step backwards.
+    /// What the tie rule compares: the arrival step, then the places from step 0 forwards.
     fn rank(&self) -> (u32, Vec<u32>) {
-        (self.step(), self.places.iter().rev().copied().collect())
+        (self.step(), self.places.clone())
     }
 
     /// Where the way stands, when, and at which cost.
@@ -161,10 +161,11 @@ struct Arrival {
     cost: Cost,
 }
 
-/// What a sheet offers: the leading arrivals in the order of rows, and the front with its journeys.
+/// What a sheet offers: the leading arrivals in the order of rows, the front with its journeys, and all lawful ways.
 pub struct Offer {
     leading: Vec<Arrival>,
     front: Vec<Way>,
+    ways: Vec<Way>,
 }
 
 /// The number and the line of a refusal by the reader.
@@ -182,7 +183,7 @@ pub fn offered(text: &[u8]) -> Result<Offer, Refusal> {
     let sheet = Sheet::of(&read);
     let ways = sheet.lawful_ways();
     let arrivals: BTreeSet<Arrival> = ways.iter().map(Way::arrival).collect();
-    Ok(Offer { leading: sheet.leading(&arrivals), front: sheet.front(&ways) })
+    Ok(Offer { leading: sheet.leading(&arrivals), front: sheet.front(&ways), ways })
 }
 
 /// What a call of the front hands back, with what it leaves in the lent arrays.
@@ -225,6 +226,15 @@ impl Offer {
     /// The arrival step of each journey on the front.
     pub fn steps(&self) -> Vec<u32> {
         self.front.iter().map(Way::step).collect()
+    }
+
+    /// For each cost of the front the places of every journey that has it.
+    pub fn journeys(&self) -> Vec<Vec<&[u32]>> {
+        let of_cost = |one: &Way| {
+            let journeys = self.ways.iter().filter(|way| way.place() == one.place() && way.cost == one.cost);
+            journeys.map(|way| &way.places[..]).collect()
+        };
+        self.front.iter().map(of_cost).collect()
     }
 
     /// Whether there are more leading arrivals than an arrivals table has room for.

@@ -1,4 +1,5 @@
-//! Document 01's "Sheets to try", and each refusal of a sheet, through the wrapper.
+//! Document 01's "Sheets to try", sheet D with the journey of document 02, and each refusal of a sheet, through the
+//! wrapper.
 
 use crate::{Cost, Place, Refusal, Room, Step, front, journey, read, write};
 
@@ -97,7 +98,7 @@ fn sheet_b() {
 
 #[test]
 fn sheet_d() {
-    assert_journey(D, 0, ([3, 0, 0], 3, &[0, 2, 3, 5]));
+    assert_journey(D, 0, ([3, 0, 0], 3, &[0, 1, 4, 5]));
 }
 
 #[test]

@@ -1,18 +1,21 @@
 //! Compares planner_front and planner_journey with the step-by-step reference, on the stored cases and on random
 //! sheets.
 //!
-//! `compare_fronts [--seed N] [--runs N]`: each run is one small sheet, with several calls, and five damaged texts,
-//! with one call of the front and one of a journey each. The exit status is 0 if all answers and all cells of all
-//! lent arrays agree and each refusal number, family, size and kind of damage came up often.
+//! `compare_fronts [--seed N] [--runs N]`: each run is one small sheet, with several calls, among them one for each of
+//! its journeys with room, and five damaged texts, with one call of the front and one of a journey each. The exit status
+//! is 0 if all answers and all cells of all lent arrays agree, a third of the small sheets have a tie, and each refusal
+//! number, family, size, way in which the tie rule decides, room and kind of damage came up often.
 
 use planner_tests::cases::{Asked, FrontCase, front_cases};
 use planner_tests::compare_search::{Filled, Tried};
 use planner_tests::damage::of_text::TEXT_DAMAGES;
+use planner_tests::families::{FAMILIES, random_family};
 use planner_tests::page::line_of;
 use planner_tests::program::{self, ByRefusal, Counts, Options};
 use planner_tests::random::Random;
-use planner_tests::small::{FAMILIES, damaged_text, small_text};
+use planner_tests::small::{damaged_text, small_text};
 use planner_tests::step_by_step::Offer;
+use planner_tests::ties::{Choice, DECIDED};
 use std::process::ExitCode;
 
 const FRONT_CASES: &str = include_str!("../../cases/fronts.txt");
@@ -22,6 +25,9 @@ const DAMAGED: usize = 5;
 
 /// The sizes of fronts that must come up.
 const SIZES: [&str; 5] = ["empty", "one cost", "two costs", "three costs", "more"];
+
+/// A sheet with a tie, two journeys of a front cost that arrive at its earliest step, must come up once in so many sheets.
+const TIES: u64 = 3;
 
 /// The lengths of lent arrays that must come up, and the number of a journey.
 const ROOMS: [&str; 7] = [
@@ -34,13 +40,15 @@ const ROOMS: [&str; 7] = [
     "the number after the last",
 ];
 
-/// How many calls or sheets met each refusal number, each family, each size and each kind of damage.
+/// How many calls or sheets met each refusal number, family, size, tie, room and kind of damage.
 #[derive(Default)]
 struct Tally {
     front: ByRefusal,
     journey: ByRefusal,
     families: [u64; FAMILIES.len()],
     sizes: [u64; SIZES.len()],
+    tied: u64,
+    decided: [u64; DECIDED.len()],
     rooms: [u64; ROOMS.len()],
     damages: [u64; TEXT_DAMAGES.len()],
 }
@@ -69,6 +77,8 @@ fn counts(tally: &Tally) -> Vec<Counts> {
         ),
         Counts::of("families of small sheets", &FAMILIES.map(|family| family.name), &tally.families),
         Counts::of("fronts of small sheets", &SIZES, &tally.sizes),
+        Counts::of("small sheets", &["with a tie"], &[tally.tied]).once_in(TIES),
+        Counts::of("small sheets on which the tie rule decides", &DECIDED, &tally.decided),
         Counts::of("rooms of calls", &ROOMS, &tally.rooms),
         Counts::of("damage to texts", &TEXT_DAMAGES, &tally.damages),
     ]
@@ -76,7 +86,7 @@ fn counts(tally: &Tally) -> Vec<Counts> {
 
 /// Compares on one small sheet and on some damaged texts.
 fn compare_run(random: &mut Random, tally: &mut Tally) -> Result<(), String> {
-    let family = random.below(FAMILIES.len());
+    let family = random_family(random);
     let tried = Tried::new(small_text(&FAMILIES[family], random));
     tally.families[family] += 1;
     compare_calls(&tried, random, tally)?;
@@ -90,16 +100,29 @@ fn compare_run(random: &mut Random, tally: &mut Tally) -> Result<(), String> {
     Ok(())
 }
 
-/// Compares calls on a small sheet: of the front, of each journey on it, and of a journey with any number.
+/// Compares calls on a small sheet: of the front, of each journey on it, with room, and of a journey with any number.
 fn compare_calls(tried: &Tried, random: &mut Random, tally: &mut Tally) -> Result<(), String> {
-    let front = tried.offer().map_or(vec![], Offer::steps);
+    let offer = tried.offer().expect("a small sheet is not refused");
+    let front = offer.steps();
     tally.sizes[front.len().min(SIZES.len() - 1)] += 1;
+    count_ties(offer, tally);
     compare_front(tried, random, tally)?;
     compare_front(tried, random, tally)?;
-    for number in 0..front.len() {
-        compare_journey(tried, Some(number as u32), random, tally)?;
+    for (number, &step) in (0..).zip(&front) {
+        let (answer, _) = tried.compare_journey(number, [5 * offer.arrivals(), step as usize + 1], random)?;
+        assert_eq!(answer.refusal, 0, "there is room for each journey of a small sheet");
+        compare_journey(tried, Some(number), random, tally)?;
     }
     compare_journey(tried, None, random, tally)
+}
+
+/// Counts a sheet by its ties: the front costs for which several journeys arrive at the earliest step.
+fn count_ties(offer: &Offer, tally: &mut Tally) {
+    let choices: Vec<Choice> = offer.journeys().into_iter().map(Choice::among).collect();
+    tally.tied += u64::from(choices.iter().any(Choice::is_tie));
+    for (how, count) in tally.decided.iter_mut().enumerate() {
+        *count += u64::from(choices.iter().any(|choice| choice.decided()[how]));
+    }
 }
 
 /// Compares a call of the front, with room at or near the need.

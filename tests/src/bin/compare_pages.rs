@@ -7,12 +7,13 @@
 
 use planner_tests::cases::{front_cases, sheet_cases};
 use planner_tests::damage::of_text::TEXT_DAMAGES;
+use planner_tests::families::{FAMILIES, random_family};
 use planner_tests::layers::layered_text;
 use planner_tests::page::page_of;
 use planner_tests::program::{self, ByRefusal, Counts, Options};
 use planner_tests::random::Random;
 use planner_tests::sheet::read_sheet;
-use planner_tests::small::{FAMILIES, damaged_text, is_small, small_text};
+use planner_tests::small::{damaged_text, is_small, small_text};
 use planner_tests::step_by_step::offered;
 use std::io::{self, ErrorKind, Write};
 use std::process::{Command, ExitCode, Stdio};
@@ -66,7 +67,7 @@ fn counts(tally: &Tally) -> Vec<Counts> {
 
 /// Compares on one small sheet and on some damaged texts, at times on a sheet with a long front.
 fn compare_run(run: u64, random: &mut Random, tally: &mut Tally) -> Result<(), String> {
-    let family = random.below(FAMILIES.len());
+    let family = random_family(random);
     tally.families[family] += 1;
     count_page(&compare_page(&small_text(&FAMILIES[family], random))?, tally);
     for _ in 0..DAMAGED {
