@@ -66,21 +66,25 @@ fn mark_over(
     }
     let place = c.from;
     let cost = less(h, price);
-    let k = waiting_row(lines, all, since, table, n, Stand { place, step: t, cost });
+    let k = waiting_row(
+        lines,
+        all,
+        since,
+        table,
+        n,
+        Stand {
+            place,
+            step: t,
+            cost,
+        },
+    );
     if k < n {
         raise(table, n, k, b.step.0);
     }
 }
 
 // Marks the rows from which a cart can cross and stand as b, up to the step before.
-fn mark_into(
-    lines: &[u32],
-    all: &[u32],
-    since: &[u16],
-    table: &mut [u32],
-    n: usize,
-    b: Stand,
-)
+fn mark_into(lines: &[u32], all: &[u32], since: &[u16], table: &mut [u32], n: usize, b: Stand)
     requires { ⌜ (Rowed (now lines) (now all) (now since) n (now table)) × (1 ≤ b .step .0) × (b .step .0 ≤ 255) ⌝ }
     ensures { λ _. ⌜ Raised n (now (table .entry)) (now (table .exit)) (b .step .0)
         (λ k. CrossesInto (sheetIn (now (lines .entry)) (now (all .entry))) (standAt (now (table .entry)) k) (standing b)) ⌝ }
@@ -113,18 +117,22 @@ fn mark_row(
     let g = e.cost;
     let wait = wait_at(lines, all, place);
     let cost = sum(g, multiple(t.0 - e.step.0, wait));
-    mark_into(lines, all, since, table, n, Stand { place, step: t, cost });
+    mark_into(
+        lines,
+        all,
+        since,
+        table,
+        n,
+        Stand {
+            place,
+            step: t,
+            cost,
+        },
+    );
 }
 
 // Does so for every row. Rows ascend by step, and those of a later step stand nowhere yet.
-fn mark_step(
-    lines: &[u32],
-    all: &[u32],
-    since: &[u16],
-    table: &mut [u32],
-    n: usize,
-    t: Step,
-)
+fn mark_step(lines: &[u32], all: &[u32], since: &[u16], table: &mut [u32], n: usize, t: Step)
     requires { ⌜ (Rowed (now lines) (now all) (now since) n (now table)) × (1 ≤ t .0) × (t .0 ≤ 255) ⌝ }
     ensures { λ _. ⌜ Raised n (now (table .entry)) (now (table .exit)) (t .0)
         (OntoAny (sheetIn (now (lines .entry)) (now (all .entry))) n (now (table .entry)) (t .0)) ⌝ }
@@ -152,7 +160,15 @@ pub fn mark_ways(
     ensures { λ _. ⌜ MarkedAll (sheetIn (now (lines .entry)) (now (all .entry))) cost (arrival .0) n (now (table .entry)) (now (table .exit)) ⌝ }
 {
     let place = Place(all[3]);
-    let k = row_of(table, n, Stand { place, step: arrival, cost });
+    let k = row_of(
+        table,
+        n,
+        Stand {
+            place,
+            step: arrival,
+            cost,
+        },
+    );
     raise(table, n, k, arrival.0 + 1);
     let mut t = arrival.0;
     while 0 < t {

@@ -23,14 +23,7 @@ use sheet::Step;
 use sheet::kinds::C_LINE;
 
 // Whether a cart that stands as a is on the way: a row from which it stands so by waiting is marked past a's step.
-fn is_marked(
-    lines: &[u32],
-    all: &[u32],
-    since: &[u16],
-    table: &[u32],
-    n: usize,
-    a: Stand,
-) -> bool
+fn is_marked(lines: &[u32], all: &[u32], since: &[u16], table: &[u32], n: usize, a: Stand) -> bool
     requires { ⌜ (Rowed (now lines) (now all) (now since) n (now table)) × (a .place .0 < 64) × (a .step .0 ≤ 255) ⌝ }
     ensures { λ r. ⌜ Decided (Marked (sheetIn (now (lines .entry)) (now (all .entry))) n (now (table .entry)) (standing a)) r ⌝ }
 {
@@ -42,14 +35,7 @@ fn is_marked(
 }
 
 // Where a cart that stands as `at` stands after a wait, if that is on the way; at place 64 if it is not.
-fn next_wait(
-    lines: &[u32],
-    all: &[u32],
-    since: &[u16],
-    table: &[u32],
-    n: usize,
-    at: Stand,
-) -> Stand
+fn next_wait(lines: &[u32], all: &[u32], since: &[u16], table: &[u32], n: usize, at: Stand) -> Stand
     requires { ⌜ Walkable (now lines) (now all) (now since) n (now table) (standing at) ⌝ }
     ensures { λ r. ⌜ LowestOf (sheetIn (now (lines .entry)) (now (all .entry))) n (now (table .entry)) (standing at) 0 (standing r) ⌝ }
 {

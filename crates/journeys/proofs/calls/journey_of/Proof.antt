@@ -91,10 +91,10 @@ same-length-5 c = search needs
 
 returns-4 : tie.Need-returns-4
 returns-4 c =
-    let k = c .before .before .before .before .before .before .before .before .before .before .before .before .before .nth-front in
-    let l = c .before .before .lay-path in
-    ap (λ (xs : List ℕ). journeyEnd (record { refusal = 0; line = 0; cost = k .result .cost; arrival = k .result .step .0 }) xs (l .last .1 .1 .1 .1 .1 .1 .1 .0)) (k .ensures .kept)
-    ∙ journey-end (ready (c .before .before .before .before .before .before .before .before .before .before .before .before .before .before .before .before .before)) (head-number (c .before .before .before .before .before .before .before .before .before .before .before .before .before .before .before .before .before .before .before .before .before .before .before .before .before .before .before .before .pre .store) 3 (omega arith)) (head-number (c .before .before .before .before .before .before .before .before .before .before .before .before .before .before .before .before .before .before .before .before .before .before .before .before .before .before .before .before .pre .store) 1 (omega arith)) (k .ensures .numbered) (c .before .before .before .before .before .before .before .before .before .before .before .before .before .before .before .before .before .before .before .before .before .before .before .before .before .before .before .before .args .path .now) (not-false (k .result .found) (c .before .before .before .before .before .before .before .before .before .if2 .left)) (c .before .before .before .before .before .before .if3 .left) (l .ensures)
+    let k = c .before .before .before .before .before .before .before .before .before .before .before .before .before .before .before .nth-front in
+    let l = c .before .before .before .before .lay-path in
+    ap (λ (xs : List ℕ). journeyEnd (record { refusal = 0; line = 0; cost = k .result .cost; arrival = k .result .step .0 }) xs (l .last .1 .1 .1 .1 .1 .1 .1 .0)) (l .ensures .0 ∙ k .ensures .kept)
+    ∙ journey-end (ready (c .before .before .before .before .before .before .before .before .before .before .before .before .before .before .before .before .before .before .before)) (head-number (c .before .before .before .before .before .before .before .before .before .before .before .before .before .before .before .before .before .before .before .before .before .before .before .before .before .before .before .before .before .before .pre .store) 3 (omega arith)) (head-number (c .before .before .before .before .before .before .before .before .before .before .before .before .before .before .before .before .before .before .before .before .before .before .before .before .before .before .before .before .before .before .pre .store) 1 (omega arith)) (k .ensures .numbered) (c .before .before .before .before .before .before .before .before .before .before .before .before .before .before .before .before .before .before .before .before .before .before .before .before .before .before .before .before .before .before .args .path .now) (not-false (k .result .found) (c .before .before .before .before .before .before .before .before .before .before .before .if2 .left)) (c .before .before .before .before .before .before .before .before .if3 .left) (l .ensures .1)
 
 pub journey-of-spec : {M : Type 1} → statement M
 journey-of-spec =
