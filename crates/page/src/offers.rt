@@ -1,4 +1,5 @@
 // The lines of each front cost: its row of the front list, and the places of its journey.
+ghost use mathlib.Core.Path.{_≡_};
 ghost use Prim.Native.Nat.{_+_, _≤_};
 ghost use lib.ListN.{length};
 ghost use Rattle.sheet.specs.Store.{sheetIn};
@@ -28,15 +29,15 @@ fn put_journey(
     lines: &[u32],
     all: &[u32],
     since: &[u16],
-    table: &[u32],
+    table: &mut [u32],
     n: usize,
     row: &[u32],
     out: &mut [u8],
     at: usize,
 ) -> usize
     requires { ⌜ Printable (now lines) (now all) (now since) (now table) n (now row) (now out) at ⌝ }
-    ensures { λ r. ⌜ Puts (journeyLines (sheetIn (now (lines .entry)) (now (all .entry))) (costIn (now (row .entry))))
-        (now (out .entry)) at (now (out .exit)) r ⌝ }
+    ensures { λ r. ⌜ (now (table .exit) ≡ now (table .entry))
+        × (Puts (journeyLines (sheetIn (now (lines .entry)) (now (all .entry))) (costIn (now (row .entry)))) (now (out .entry)) at (now (out .exit)) r) ⌝ }
 {
     let mut path = [0u32; 256];
     let arrival = Step(row[3]);
@@ -52,14 +53,15 @@ pub fn put_journeys(
     lines: &[u32],
     all: &[u32],
     since: &[u16],
-    table: &[u32],
+    table: &mut [u32],
     n: usize,
     list: &[u32],
     out: &mut [u8],
     at: usize,
 ) -> usize
     requires { ⌜ Offered (now lines) (now all) (now since) (now table) n (now list) (now out) at ⌝ }
-    ensures { λ r. ⌜ Puts (offerLines (sheetIn (now (lines .entry)) (now (all .entry)))) (now (out .entry)) at (now (out .exit)) r ⌝ }
+    ensures { λ r. ⌜ (now (table .exit) ≡ now (table .entry))
+        × (Puts (offerLines (sheetIn (now (lines .entry)) (now (all .entry)))) (now (out .entry)) at (now (out .exit)) r) ⌝ }
 {
     let mut next = at;
     let mut i = 0;

@@ -19,31 +19,34 @@ slice-aggregate-lay-path : tie.Need-slice-aggregate-lay-path
 slice-aggregate-lay-path c = search needs
 
 lay-path-requires : tie.Need-lay-path-requires
-lay-path-requires c κs = printable-lays (c .before .before .before .before .before .before .before .before .before .pre) _ (c .before .cost-from .ensures) _ refl
+lay-path-requires c κs = printable-lays (c .before .before .before .before .before .before .before .before .before .before .pre) _ (c .before .before .cost-from .ensures) _ refl
 
 put-row-requires : tie.Need-put-row-requires
-put-row-requires c κs = first-fits (c .before .before .before .before .before .before .before .before .before .before .before .before .pre)
+put-row-requires c κs = first-fits (c .before .before .before .before .before .before .before .before .before .before .before .before .before .before .before .pre)
 
 cast-e : tie.Need-cast-e
-cast-e c = omega (arith, printable-short (c .before .before .before .before .before .before .before .before .before .before .before .before .before .before .before .before .pre))
+cast-e c = omega (arith, printable-short (c .before .before .before .before .before .before .before .before .before .before .before .before .before .before .before .before .before .before .before .pre))
 
 add-e : tie.Need-add-e
-add-e c = omega (arith, printable-short (c .before .before .before .before .before .before .before .before .before .before .before .before .before .before .before .before .pre))
+add-e c = omega (arith, printable-short (c .before .before .before .before .before .before .before .before .before .before .before .before .before .before .before .before .before .before .before .pre))
 
 array-share-prefix-path : tie.Need-array-share-prefix-path
-array-share-prefix-path c = omega (arith, printable-short (c .before .before .before .before .before .before .before .before .before .before .before .before .before .before .before .before .before .pre), printable-path (c .before .before .before .before .before .before .before .before .before .before .before .before .before .before .before .before .before .pre) _ (c .before .before .before .before .before .before .before .before .before .cost-from .ensures) _ (c .before .before .before .before .before .before .before .lay-path .ensures))
+array-share-prefix-path c = omega (arith, printable-short (c .before .before .before .before .before .before .before .before .before .before .before .before .before .before .before .before .before .before .before .before .pre), printable-path (c .before .before .before .before .before .before .before .before .before .before .before .before .before .before .before .before .before .before .before .before .pre) _ (c .before .before .before .before .before .before .before .before .before .before .before .before .cost-from .ensures) _ (c .before .before .before .before .before .before .before .before .before .lay-path .ensures .1))
 
 slice-aggregate-put-row : tie.Need-slice-aggregate-put-row
-slice-aggregate-put-row c = sym (length-take-le _ _ (omega (arith, printable-short (c .before .before .before .before .before .before .before .before .before .before .before .before .before .before .before .before .before .before .pre), printable-path (c .before .before .before .before .before .before .before .before .before .before .before .before .before .before .before .before .before .before .pre) _ (c .before .before .before .before .before .before .before .before .before .before .cost-from .ensures) _ (c .before .before .before .before .before .before .before .before .lay-path .ensures))))
+slice-aggregate-put-row c = sym (length-take-le _ _ (omega (arith, printable-short (c .before .before .before .before .before .before .before .before .before .before .before .before .before .before .before .before .before .before .before .before .before .pre), printable-path (c .before .before .before .before .before .before .before .before .before .before .before .before .before .before .before .before .before .before .before .before .before .pre) _ (c .before .before .before .before .before .before .before .before .before .before .before .before .before .cost-from .ensures) _ (c .before .before .before .before .before .before .before .before .before .before .lay-path .ensures .1))))
 
 put-row-requires-2 : tie.Need-put-row-requires-2
-put-row-requires-2 c κs = second-fits (c .before .before .before .before .before .before .before .before .before .before .before .before .before .before .before .before .before .before .pre) _ (c .before .before .before .before .before .before .before .before .before .before .cost-from .ensures) _ (c .before .before .before .before .before .before .before .before .lay-path .ensures) (c .before .before .before .before .before .put-row .ensures)
+put-row-requires-2 c κs = second-fits (c .before .before .before .before .before .before .before .before .before .before .before .before .before .before .before .before .before .before .before .before .before .pre) _ (c .before .before .before .before .before .before .before .before .before .before .before .before .before .cost-from .ensures) _ (c .before .before .before .before .before .before .before .before .before .before .lay-path .ensures .1) (c .before .before .before .before .before .put-row .ensures)
 
 same-length : tie.Need-same-length
 same-length c = search needs
 
+same-length-2 : tie.Need-same-length-2
+same-length-2 c = search needs
+
 returns : tie.Need-returns
-returns c = prints (c .before .before .before .before .before .before .before .before .before .before .before .before .before .before .before .before .before .before .before .before .before .pre) _ (c .before .before .before .before .before .before .before .before .before .before .before .before .before .cost-from .ensures) _ (c .before .before .before .before .before .before .before .before .before .before .before .lay-path .ensures) (c .before .before .before .before .before .before .before .before .put-row .ensures) (c .before .before .put-row2 .ensures)
+returns c = (c .before .before .before .before .before .before .before .before .before .before .before .before .before .lay-path .ensures .0, prints (c .before .before .before .before .before .before .before .before .before .before .before .before .before .before .before .before .before .before .before .before .before .before .before .before .pre) _ (c .before .before .before .before .before .before .before .before .before .before .before .before .before .before .before .before .cost-from .ensures) _ (c .before .before .before .before .before .before .before .before .before .before .before .before .before .lay-path .ensures .1) (c .before .before .before .before .before .before .before .before .put-row .ensures) (c .before .before .put-row2 .ensures))
 
 pub put-journey-spec : {M : Type 1} → statement M
 put-journey-spec =
@@ -60,4 +63,5 @@ put-journey-spec =
     slice-aggregate-put-row
     put-row-requires-2
     same-length
+    same-length-2
     returns)
