@@ -1,6 +1,6 @@
 -- From which rows a cart can cross to where another stands: by one corridor, by any, onto where one marked row stands, onto any.
 -- Assumes nothing.
-use mathlib.Core.Path.{_≡_, refl, sym, _∙_, ap, subst}
+use mathlib.Core.Path.{_≡_, sym, _∙_, ap, subst}
 use mathlib.Core.Logic.{⊎-elim}
 use mathlib.Core.Bool.{Bool, true, false, _&&_}
 use mathlib.Core.List.{List}
@@ -28,8 +28,8 @@ use Rattle.arrivals.specs.Computed.{arrival}
 use Rattle.arrivals.specs.Laws.Bounds.{arrives-bounded}
 use Rattle.journeys.specs.Inner.Lookup.{markAt, standAt, Sorted}
 use Rattle.journeys.specs.Inner.Waits.{Rowed, WaitingRow}
-use Rattle.journeys.specs.Inner.Marks.{SameRows, Raised, CrossesBy, Onto, OntoAny}
-use Rattle.journeys.specs.Laws.Exact.{kept, Waits}
+use Rattle.journeys.specs.Inner.Marks.{Raised, CrossesBy, Onto, OntoAny}
+use Rattle.journeys.specs.Laws.Exact.{kept}
 use Rattle.journeys.specs.Laws.Tight.{CrossesInto, keptAt}
 use Rattle.journeys.proofs.Waiting.{part-under}
 use Rattle.journeys.proofs.Marking.{same-stand, raised-none, raised-as, raised-past, Below, raised-more}

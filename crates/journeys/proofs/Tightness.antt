@@ -4,11 +4,11 @@
 use mathlib.Core.Path.{_≡_, refl, sym, _∙_, ap, subst}
 use mathlib.Core.Logic.{_⊎_, inl, inr, ⊎-elim}
 use mathlib.Core.List.{List, []}
-use Prim.Native.Nat.{ℕ, suc, _+_, _*_, _-_, _/_, _%_, _≤_, _<_}
+use Prim.Native.Nat.{ℕ, _+_, _*_, _-_, _%_, _≤_, _<_}
 use native.Mathlib.Omega.{arith}
-use lib.ListN.{length, getD, length-map}
+use lib.ListN.{getD, length-map}
 use Rattle.sheet.specs.Lists.{_∈_, rows, Lex}
-use Rattle.sheet.specs.Sheet.{Sheet, places, goal}
+use Rattle.sheet.specs.Sheet.{Sheet, goal}
 use Rattle.sheet.specs.Store.{sheetIn}
 use Rattle.sheet.specs.Valid.{Valid}
 use Rattle.sheet.specs.Laws.Decided.{lt-or-le}
@@ -17,7 +17,7 @@ use Rattle.sheet.specs.Laws.Store.{store-valid}
 use Rattle.sheet.specs.Sorting.{Ascending}
 use Rattle.costs.specs.Costs.{Cost}
 use Rattle.arrivals.specs.Arrivals.{Arrival, Leading, keyOf}
-use Rattle.arrivals.specs.Computed.{arrival, leading}
+use Rattle.arrivals.specs.Computed.{arrival}
 use Rattle.arrivals.specs.Rows.{rowAt}
 use Rattle.arrivals.specs.Laws.Bounds.{arrives-place}
 use Rattle.arrivals.specs.Laws.Leading.{arrival-path, leading-is, is-leading, leading-ascending}
@@ -26,7 +26,7 @@ use Rattle.journeys.specs.Front.{OnFront}
 use Rattle.journeys.specs.Held.{rowOf, tableRows, Holds}
 use Rattle.journeys.specs.Inner.Lookup.{markAt, standAt, RowIs}
 use Rattle.journeys.specs.Inner.Waits.{Rows, Rowed}
-use Rattle.journeys.specs.Inner.Marks.{SameRows, Raised, OntoAny, Marks, Endable}
+use Rattle.journeys.specs.Inner.Marks.{Raised, OntoAny, Marks, Endable}
 use Rattle.journeys.specs.Laws.Demand2.{keys-ascend}
 use Rattle.journeys.specs.Laws.Goal.{arrivalOf-earliest, arrivalOf-leading}
 use Rattle.journeys.specs.Laws.Rows.{table-row, table-at, at-table}

@@ -8,11 +8,11 @@ use native.Mathlib.Omega.{arith}
 use lib.ListN.{length, set, take, drop, replicate, length-append}
 use lib.Seq.{sets, sets-eq, length-sets, take-at}
 use Rattle.sheet.specs.Lists.{filled}
-use Rattle.sheet.specs.Sheet.{Sheet, start, goal, steps}
+use Rattle.sheet.specs.Sheet.{Sheet, start, steps}
 use Rattle.sheet.specs.Store.{sheetIn}
 use Rattle.sheet.specs.Valid.{Valid}
 use Rattle.sheet.specs.Laws.Store.{store-valid}
-use Rattle.costs.specs.Costs.{Cost, figures, zeroCost, add}
+use Rattle.costs.specs.Costs.{Cost, zeroCost, add}
 use Rattle.costs.specs.Laws.Figures.{zero-right}
 use Rattle.intervals.specs.Intervals.{Free}
 use Rattle.arrivals.specs.Ways.{Move}
@@ -25,7 +25,7 @@ use Rattle.journeys.specs.Journeys.{Journey}
 use Rattle.journeys.specs.Computed.{journeyOf, arrivalOf}
 use Rattle.journeys.specs.Front.{OnFront}
 use Rattle.journeys.specs.Held.{Layable}
-use Rattle.journeys.specs.Inner.Lookup.{markAt, standAt}
+use Rattle.journeys.specs.Inner.Lookup.{standAt}
 use Rattle.journeys.specs.Inner.Waits.{Rows, Rowed}
 use Rattle.journeys.specs.Inner.Marks.{SameRows, Marks, Endable, MarkedAll, Bared}
 use Rattle.journeys.specs.Inner.Walk.{Marked, after, NextOf, Lowest, Walkable}

@@ -1,4 +1,4 @@
--- Lawful journeys, the tie rule and allowances (document 01, "Lawful journeys" and "What is handed back").
+-- Lawful journeys, the tie rule and allowances (document 01, "Lawful journeys" and "What is handed back"; document 02, E9).
 -- A journey is what 001 calls a path from the start to the goal.
 use mathlib.Core.Path.{_≡_}
 use mathlib.Core.Logic.{_⊎_}
@@ -31,7 +31,7 @@ pub record Meets (s : Sheet) (allowance : Cost) : Type 0 where
   pub has : HasCost s cost
   pub within : AtMost cost allowance
 
--- The tie rule's order on journeys of one cost: the earlier arrival; of those, from step 0 forwards, at the first difference the lower
+-- The tie rule's order on journeys of one cost (E9): the earlier arrival; of those, from step 0 forwards, at the first difference the lower
 -- place.
 abbrev pub rank : List ℕ → List ℕ
 rank p = length p ∷ p

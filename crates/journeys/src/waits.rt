@@ -1,5 +1,4 @@
 // The row from which a cart can stand at a place and step with a cost, by waiting since it arrived: of the rows of the safe interval at most one.
-ghost use mathlib.Core.Path.{_≡_};
 ghost use Prim.Native.Nat.{_≤_, _<_};
 ghost use Rattle.sheet.specs.Store.{sheetIn};
 ghost use Rattle.costs.specs.Priced.{Within};

@@ -43,9 +43,9 @@ fn next_wait(lines: &[u32], all: &[u32], since: &[u16], table: &[u32], n: usize,
     let g = at.cost;
     let cost = sum(g, wait_at(lines, all, place));
     let step = Step(at.step.0 + 1);
-    let next = Stand { place, step, cost };
-    if is_marked(lines, all, since, table, n, next) {
-        return next;
+    let stay = Stand { place, step, cost };
+    if is_marked(lines, all, since, table, n, stay) {
+        return stay;
     }
     Stand {
         place: Place(64),

@@ -20,7 +20,7 @@ use Rattle.arrivals.specs.Ways.{Move, Way}
 use Rattle.arrivals.specs.Arrivals.{Arrival, keyOf, Arrives, Leading}
 use Rattle.arrivals.specs.Computed.{arrival, waited}
 use Rattle.arrivals.specs.Laws.Trails.{way-on, way-three}
-use Rattle.arrivals.specs.Laws.Leading.{arrival-path, key-inj, fig-waited, arrives-three, Covers, covers-leads, Led, led}
+use Rattle.arrivals.specs.Laws.Leading.{key-inj, fig-waited, arrives-three, Covers, covers-leads, Led, led}
 use Rattle.arrivals.specs.Laws.Steps.{arrives-until}
 use Rattle.journeys.specs.Journeys.{Counts, Journey, HasCost}
 use Rattle.journeys.specs.Front.{OnFront}
@@ -155,13 +155,6 @@ pub record Exact (s : Sheet) (a : Arrival) : Type 0 where
   pub from : Arrival
   pub leads : Leading s from
   pub waits : Waits s from a
-
-pub exact-arrives : (s : Sheet) (a : Arrival) → a .step ≤ steps s → Exact s a → Arrives s a
-exact-arrives s a l x =
-    let e = x .from in
-    let w = x .waits in
-    subst (Arrives s) (arrival-path (arrival (e .place) (a .step) (kept s e (a .step))) a (w .place) refl (w .sum))
-    (arrives-until s (a .step) e (x .leads .arrives) (w .stays .soon) l (w .stays .run))
 
 pub arrives-exact : (s : Sheet) (f : Cost) (A : ℕ) (a : Arrival) → OnFront s f → Towards s f A (a .place) (a .step) (a .cost) → Arrives s a → Exact s a
 arrives-exact s f A a o k r = go (led s a r)

@@ -1,7 +1,6 @@
 -- `journeys::marks::clear_marks` meets its contract. The loop's invariant: the rows below number k have no mark any more, and all else is kept. The measure
 -- is what is left of the rows.
 -- Assumes nothing.
-use mathlib.Core.Path.{refl, _∙_}
 use Prim.Native.Nat.{_-_, _≤_}
 use native.Mathlib.Omega.{arith}
 use Rattle.journeys.specs.Inner.Marks.{Bared}

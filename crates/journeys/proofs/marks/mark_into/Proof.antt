@@ -1,10 +1,9 @@
 -- `journeys::marks::mark_into` meets its contract. The loop's invariant: the rows from which a cart can cross by a corridor below number l are marked.
 -- The measure is what is left of the corridors.
 -- Assumes nothing.
-use mathlib.Core.Path.{_≡_, refl, sym, _∙_}
+use mathlib.Core.Path.{_≡_, refl}
 use Prim.Native.Nat.{_-_, _≤_}
 use native.Mathlib.Omega.{arith}
-use lib.ListN.{length}
 use Rattle.sheet.specs.Lists.{number}
 use Rattle.sheet.specs.Store.{sheetIn}
 use Rattle.sheet.specs.Laws.Store.{store-counts, store-few}

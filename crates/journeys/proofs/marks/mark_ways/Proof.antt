@@ -2,7 +2,7 @@
 -- right at the arrival are right from step t on. The measure is t.
 -- Assumes nothing.
 use mathlib.Core.Path.{_≡_, _∙_, subst}
-use Prim.Native.Nat.{_-_, _≤_}
+use Prim.Native.Nat.{_≤_}
 use native.Mathlib.Omega.{arith}
 use Rattle.sheet.specs.Store.{sheetIn}
 use Rattle.sheet.specs.Laws.Store.{store-length, head-number}

@@ -1,7 +1,6 @@
 -- `journeys::marks::raise` meets its contract: the mark is written where it is the greater, beside the place, which stays.
 -- Assumes nothing.
 use Rattle.journeys.proofs.Marking.{raised-one, raised-not}
-use native.Mathlib.Omega.{arith}
 use borrow.Author.Needs.{needs}
 use Rattle.journeys.proofs.marks.raise.Statement.{statement}
 use Rattle.journeys.proofs.marks.raise.Tie as tie

@@ -1,7 +1,7 @@
 -- `journeys::waits::kept_row` meets its contract. The loop's invariant: no row at a step from s on becomes the cost. The measure is s.
 -- Assumes nothing.
 use mathlib.Core.Path.{_≡_, refl}
-use Prim.Native.Nat.{_+_, _-_, _≤_}
+use Prim.Native.Nat.{_+_, _≤_}
 use native.Mathlib.Omega.{arith}
 use Rattle.journeys.proofs.Waiting.{NoneFrom, none-yet, none-sooner, kept-found, kept-none}
 use borrow.Author.Needs.{needs}

@@ -1,7 +1,6 @@
 -- `journeys::waits::waiting_row` meets its contract: the first step of the safe interval and the cost of a wait are the sheet's.
 -- Assumes nothing.
 use native.Mathlib.Omega.{arith}
-use mathlib.Core.Path.{_∙_}
 use Rattle.intervals.specs.FirstSteps.{some-derived}
 use Rattle.journeys.proofs.Waiting.{wait-within, row-waiting}
 use borrow.Author.Needs.{needs}

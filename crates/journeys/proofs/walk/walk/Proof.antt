@@ -1,7 +1,7 @@
 -- `journeys::walk::walk` meets its contract. The loop's invariant: for any front cost that the marks are of, the walk has come to `at`, and the places gone to
 -- are written. The measure is what is left of the steps.
 -- Assumes nothing.
-use mathlib.Core.Path.{_≡_, refl, sym, _∙_, ap}
+use mathlib.Core.Path.{_≡_, refl, _∙_}
 use Prim.Native.Nat.{_-_, _≤_, _<_}
 use native.Mathlib.Omega.{arith}
 use lib.ListN.{length, length-set}
