@@ -1,10 +1,10 @@
 -- From which rows a cart can cross to where another stands: by one corridor, by any, onto where one marked row stands, onto any.
 -- Assumes nothing.
-use mathlib.Core.Path.{_≡_, sym, _∙_, ap, subst}
-use mathlib.Core.Logic.{⊎-elim}
+use mathlib.Core.Path.{_≡_, refl, sym, _∙_, ap, subst}
+use mathlib.Core.Logic.{inl, ⊎-elim}
 use mathlib.Core.Bool.{Bool, true, false, _&&_}
 use mathlib.Core.List.{List}
-use Prim.Native.Nat.{ℕ, _+_, _*_, _-_, _≤_, _<_}
+use Prim.Native.Nat.{ℕ, suc, _+_, _*_, _-_, _≤_, _<_}
 use native.Mathlib.Omega.{arith}
 use lib.ListN.{length}
 use lib.Dec.{eqb, leb, ltb}
@@ -17,22 +17,25 @@ use Rattle.sheet.specs.Laws.Decided.{false-not-true, lt-or-le, from-length}
 use Rattle.sheet.specs.Laws.Order.{and-true, true-and}
 use Rattle.sheet.specs.Laws.Store.{store-valid}
 use Rattle.costs.specs.Costs.{Cost, figures, add, times, AtMost}
-use Rattle.costs.specs.Moves.{waitOf}
+use Rattle.costs.specs.Moves.{waitOf, Crossing}
 use Rattle.costs.specs.Computed.{atMostb}
 use Rattle.costs.specs.Priced.{Within, CrossingBy, CorridorIs}
 use Rattle.costs.specs.declared.Corridor as corridor
-use Rattle.costs.specs.Laws.Figures.{length-add, length-times, cancel-right, atMostb-true, within-more, within-times}
-use Rattle.costs.specs.Laws.Moves.{wait-three, by-crossing, crossing-by, corridor-count}
+use Rattle.costs.specs.Laws.Figures.{fig-add, length-add, length-times, cancel-right, at-most-antisym, same-figures, atMostb-true, within-more, within-times}
+use Rattle.costs.specs.Laws.Moves.{wait-three, crossing-three, by-crossing, crossing-by, crossing-also, corridor-count}
+use Rattle.intervals.specs.Computed.{sinceOf}
+use Rattle.intervals.specs.FirstSteps.{Derived}
+use Rattle.intervals.specs.Laws.Runs.{run-join, since-run}
 use Rattle.arrivals.specs.Arrivals.{Arrival, keyOf}
 use Rattle.arrivals.specs.Computed.{arrival}
 use Rattle.arrivals.specs.Laws.Bounds.{arrives-bounded}
 use Rattle.journeys.specs.Inner.Lookup.{markAt, standAt, Sorted}
 use Rattle.journeys.specs.Inner.Waits.{Rowed, WaitingRow}
-use Rattle.journeys.specs.Inner.Marks.{Raised, CrossesBy, Onto, OntoAny}
-use Rattle.journeys.specs.Laws.Exact.{kept}
-use Rattle.journeys.specs.Laws.Tight.{CrossesInto, keptAt}
+use Rattle.journeys.specs.Inner.Marks.{Raised, CrossesBy, CrossesLater, Settled, Enterable, Onto, OntoAny, Passed, Passable}
+use Rattle.journeys.specs.Laws.Exact.{kept, Stays}
+use Rattle.journeys.specs.Laws.Tight.{CrossesInto, keptAt, kept-next}
 use Rattle.journeys.proofs.Waiting.{part-under}
-use Rattle.journeys.proofs.Marking.{same-stand, raised-none, raised-as, raised-past, Below, raised-more}
+use Rattle.journeys.proofs.Marking.{same-refl, same-stand, same-rowed, raised-none, raised-as, raised-higher, raised-past, Below, raised-more}
 
 -- a corridor of the sheet in the array leads from a place below 64
 pub from-low : {lines all : List ℕ} → SomeStore lines all → {k u v t : ℕ} {c : Cost} → CrossingBy (sheetIn lines all) k u v t c → u < 64
@@ -92,6 +95,55 @@ module _ {s : Sheet} (b : Arrival) {l : ℕ} (r : corridor.Corridor) (c : Corrid
     pub cross-none : n ≤ k → Raised n xs xs (b .step) (λ j. CrossesBy s b l (standAt xs j))
     cross-none h = raised-none (λ j i x. omega (arith, only j i x))
 
+  -- what can cross by corridor l can wait and cross by it a step later, so where that is settled it is marked
+  module _ {n : ℕ} {xs : List ℕ} (moved : 1 ≤ b .step) (w : Settled s n xs b) (x : CrossesLater s l (r .from .0) (b .place) (b .step)) where
+    later : (k : ℕ) → CrossesBy s b l (standAt xs k) → CrossesInto s (standAt xs k) (arrival (b .place) (b .step + 1) (add (b .cost) (waitOf s (b .place))))
+    later k y =
+        record {
+          price = y .price;
+          cross = subst (λ (i : ℕ). Crossing s (e .place) (b .place) i (y .price)) back (by-crossing s l (e .place) (b .place) (b .step) (y .price) (here .crosses (y .price) (y .cross)));
+          stays = subst (Stays s e) back (record { soon = omega (arith, y .stays .soon); run = run-join s (e .place) (e .step) t (b .step) (y .stays .run) (here .waits) });
+          sum = ap (λ (i : ℕ). add (kept s e i) (y .price)) (sym back) ∙ sum;
+        }
+      where
+        e : Arrival
+        e = standAt xs k
+
+        t : ℕ
+        t = b .step - 1
+
+        back : b .step ≡ b .step + 1 - 1
+        back = omega arith
+
+        next : suc t ≡ b .step
+        next = omega (arith, moved)
+
+        here : CrossesLater s l (e .place) (b .place) (b .step)
+        here = subst (λ (u : ℕ). CrossesLater s l u (b .place) (b .step)) (c .is (e .place) (b .place) (y .price) (y .cross) .1) x
+
+        kept-on : kept s e (b .step) ≡ add (kept s e t) (waitOf s (b .place))
+        kept-on = ap (kept s e) (sym next) ∙ kept-next s e t (y .stays .soon) ∙ ap (add (kept s e t)) (here .same)
+
+        sum : add (kept s e (b .step)) (y .price) ≡ add (b .cost) (waitOf s (b .place))
+        sum =
+            ap (λ (g : Cost). add g (y .price)) kept-on
+            ∙ same-figures (add (add (kept s e t) (waitOf s (b .place))) (y .price)) (add (add (kept s e t) (y .price)) (waitOf s (b .place)))
+            (turned ∙ sym turned′)
+            (λ i. omega (arith, fig-add (add (kept s e t) (waitOf s (b .place))) (y .price) i, fig-add (kept s e t) (waitOf s (b .place)) i, fig-add (add (kept s e t) (y .price)) (waitOf s (b .place)) i, fig-add (kept s e t) (y .price) i))
+            ∙ ap (λ (g : Cost). add g (waitOf s (b .place))) (y .sum)
+          where
+            three : length (y .price) ≡ figures
+            three = crossing-three (by-crossing s l (e .place) (b .place) t (y .price) (y .cross))
+
+            turned : length (add (add (kept s e t) (waitOf s (b .place))) (y .price)) ≡ figures
+            turned = length-add (add (kept s e t) (waitOf s (b .place))) (y .price) figures (length-add (kept s e t) (waitOf s (b .place)) figures (kept-three s xs k t) (wait-three s (b .place))) three
+
+            turned′ : length (add (add (kept s e t) (y .price)) (waitOf s (b .place))) ≡ figures
+            turned′ = length-add (add (kept s e t) (y .price)) (waitOf s (b .place)) figures (length-add (kept s e t) (y .price) figures (kept-three s xs k t) three) (wait-three s (b .place))
+
+    pub cross-settled : Raised n xs xs (b .step) (λ k. CrossesBy s b l (standAt xs k))
+    cross-settled = record { rows = same-refl; either = λ k h. inl refl; every = λ k h y. omega (arith, w .every k h (later k y)) }
+
 -- by any corridor
 abbrev pub ByCorridor : Sheet → List ℕ → Arrival → ℕ → ℕ → Type 0
 ByCorridor s xs b l k = CrossesBy s b l (standAt xs k)
@@ -131,26 +183,30 @@ module _ {s : Sheet} {n t i : ℕ} {xs : List ℕ} where
       (λ k h x. subst (CrossesInto s (standAt xs k)) (sym e) (x .into))
 
 -- onto where any row stands
+onto-back : {s : Sheet} {n i j t : ℕ} {xs ys : List ℕ} {P : ℕ → Type 0} → Raised n xs ys t P → t ≤ j → i < n → (k : ℕ) → Onto s ys j i k → Onto s xs j i k
+onto-back {s} {n} {i} {j} {t} {xs} {ys} p m l k x =
+    let e = same-stand (p .rows) in
+    record {
+      soon = subst (λ (a : Arrival). a .step ≤ j) (e i) (x .soon);
+      marked = raised-past p j i m l (x .marked);
+      into = subst (λ (a : Arrival). CrossesInto s a (keptAt s (standAt xs i) j)) (e k) (subst (λ (a : Arrival). CrossesInto s (standAt ys k) (keptAt s a j)) (e i) (x .into));
+    }
+
+onto-any-back : {s : Sheet} {n j t : ℕ} {xs ys : List ℕ} {P : ℕ → Type 0} → Raised n xs ys t P → t ≤ j → (k : ℕ) → OntoAny s n ys j k → OntoAny s n xs j k
+onto-any-back p m k x = record { row = x .row; within = x .within; onto = onto-back p m (x .within) k (x .onto) }
+
 module _ {s : Sheet} {n t : ℕ} {xs : List ℕ} where
   pub onto-more : {i : ℕ} {ys zs : List ℕ} → i < n → Raised n xs ys t (Below (Onto s xs t) i) → Raised n ys zs t (Onto s ys t i) → Raised n xs zs t (Below (Onto s xs t) (i + 1))
-  onto-more {i} {ys} {zs} l p q = raised-more p q (λ k h x. to k x) (λ k h x. from k x)
+  onto-more {i} {ys} {zs} l p q = raised-more p q (λ k h x. onto-back p (omega arith) l k x) (λ k h x. from k x)
     where
       e : (k : ℕ) → standAt ys k ≡ standAt xs k
       e = same-stand (p .rows)
-
-      to : (k : ℕ) → Onto s ys t i k → Onto s xs t i k
-      to k x =
-          record {
-            soon = subst (λ (a : Arrival). a .step ≤ t) (e i) (x .soon);
-            marked = raised-past p i l .0 (x .marked);
-            into = subst (λ (a : Arrival). CrossesInto s a (keptAt s (standAt xs i) t)) (e k) (subst (λ (a : Arrival). CrossesInto s (standAt ys k) (keptAt s a t)) (e i) (x .into));
-          }
 
       from : (k : ℕ) → Onto s xs t i k → Onto s ys t i k
       from k x =
           record {
             soon = subst (λ (a : Arrival). a .step ≤ t) (sym (e i)) (x .soon);
-            marked = raised-past p i l .1 (x .marked);
+            marked = raised-higher p t i l (x .marked);
             into = subst (λ (a : Arrival). CrossesInto s a (keptAt s (standAt ys i) t)) (sym (e k)) (subst (λ (a : Arrival). CrossesInto s (standAt xs k) (keptAt s a t)) (sym (e i)) (x .into));
           }
 
@@ -160,6 +216,41 @@ module _ {s : Sheet} {n t : ℕ} {xs : List ℕ} where
       raised-as
       (λ k h x. record { row = x .at; within = omega (arith, x .below); onto = x .holds })
       (λ k h x. ⊎-elim (λ l. record { at = x .row; below = l; holds = x .onto }) (λ l. absurd (omega (arith, f (x .row) l (x .within), x .onto .soon))) (lt-or-le (x .row) i))
+
+  -- the step is passed then, and stays so while marks of earlier steps are raised
+  pub step-passed : {ys : List ℕ} → Raised n xs ys t (OntoAny s n xs t) → Passed s n ys t
+  step-passed p = record { every = λ k h x. p .every k h (onto-any-back p (omega arith) k x) }
+
+  pub passed-kept : {j : ℕ} {ys : List ℕ} {P : ℕ → Type 0} → t < j → Raised n xs ys t P → Passed s n xs j → Passed s n ys j
+  passed-kept {j} l p q = record { every = λ k h x. omega (arith, l, raised-higher p (j - 1) k h (omega (arith, l, q .every k h (onto-any-back p (omega arith) k x)))) }
+
+  pub passed-as : {j : ℕ} → t ≡ j → Passed s n xs t → Passed s n xs j
+  passed-as e = subst (Passed s n xs) e
+
+  -- no row is marked past t
+  pub passed-none : ((k : ℕ) → k < n → markAt xs k ≤ t) → Passed s n xs t
+  passed-none f = record { every = λ k h x. absurd (omega (arith, x .onto .marked, f (x .row) (x .within))) }
+
+-- what is settled for a row that is marked past the step after
+pub row-settled : {s : Sheet} {n t i : ℕ} {xs : List ℕ} → Passed s n xs (t + 1) → i < n → standAt xs i .step ≤ t → t + 1 < markAt xs i → Settled s n xs (keptAt s (standAt xs i) t)
+row-settled {s} {n} {t} {i} {xs} p l m h = record { every = λ k j x. omega (arith, p .every k j (record { row = i; within = l; onto = record { soon = omega (arith, m); marked = h; into = subst (CrossesInto s (standAt xs k)) (on k) x } })) }
+  where
+    e : Arrival
+    e = standAt xs i
+
+    on : (k : ℕ) → arrival (e .place) (t + 1) (add (kept s e t) (waitOf s (e .place))) ≡ keptAt s e (t + 1)
+    on k = let z : suc t ≡ t + 1 = omega arith in ap (arrival (e .place) (t + 1)) (sym (kept-next s e t m) ∙ ap (kept s e) z)
+
+pub settled-kept : {s : Sheet} {n t : ℕ} {xs ys : List ℕ} {b : Arrival} {P : ℕ → Type 0} → Raised n xs ys t P → Settled s n xs b → Settled s n ys b
+settled-kept {s} {n} {t} {xs} {ys} {b} p w =
+    record { every = λ k h x. raised-higher p (b .step) k h (w .every k h (subst (λ (a : Arrival). CrossesInto s a (arrival (b .place) (b .step + 1) (add (b .cost) (waitOf s (b .place))))) (same-stand (p .rows) k) x)) }
+
+pub enterable-kept : {lines all since : List ℕ} {n t : ℕ} {xs ys : List ℕ} {b : Arrival} {settled : Bool} {P : ℕ → Type 0} → Raised n xs ys t P
+    → Enterable lines all since n xs b settled → Enterable lines all since n ys b settled
+enterable-kept p x = record { rowed = same-rowed (p .rows) (x .rowed); moved = x .moved; day = x .day; settles = λ e. settled-kept p (x .settles e) }
+
+pub passable-kept : {lines all since : List ℕ} {n t : ℕ} {xs ys : List ℕ} {P : ℕ → Type 0} → Raised n xs ys t P → Passable lines all since n xs t → Passable lines all since n ys t
+passable-kept p x = record { rowed = same-rowed (p .rows) (x .rowed); moved = x .moved; day = x .day; passed = passed-kept (omega arith) p (x .passed) }
 
 -- rows after a row are no sooner
 pub no-sooner : {n : ℕ} {xs : List ℕ} → Sorted n xs → (i j : ℕ) → i ≤ j → j < n → standAt xs i .step ≤ standAt xs j .step
@@ -185,6 +276,24 @@ module _ {s : Sheet} {n t i : ℕ} {xs : List ℕ} {x : Arrival} {m : ℕ} (e : 
       (omega (arith, ltb-true t m (y .1), f))
       (ap (arrival (x .place) t) here ∙ ap (λ (a : Arrival). keptAt s a t) e)
 
+-- where the row stands then can be entered
+pub row-enters : {lines all since : List ℕ} {n t i : ℕ} {xs : List ℕ} → Passable lines all since n xs t → i < n → {x : Arrival} {m : ℕ} → x ≡ standAt xs i → m ≡ markAt xs i
+    → leb (x .step) t && ltb t m ≡ true → {w g : Cost} → w ≡ waitOf (sheetIn lines all) (x .place) → g ≡ add (x .cost) (times (t - x .step) w)
+    → {b : Bool} → (b ≡ true → t + 1 < m) → Enterable lines all since n xs (arrival (x .place) t g) b
+row-enters {lines} {all} {since} {n} {t} {i} {xs} p l {x} {m} e f d {w} {g} q r h =
+    record {
+      rowed = p .rowed;
+      moved = p .moved;
+      day = p .day;
+      settles = λ c. subst (Settled s n xs) (sym here) (row-settled (p .passed) l (omega (arith, leb-true (x .step) t (and-true (leb (x .step) t) (ltb t m) d .0), ap (λ (a : Arrival). a .step) e)) (omega (arith, f, h c)));
+    }
+  where
+    s : Sheet
+    s = sheetIn lines all
+
+    here : arrival (x .place) t g ≡ keptAt s (standAt xs i) t
+    here = ap (arrival (x .place) t) (r ∙ ap (λ (c : Cost). add (x .cost) (times (t - x .step) c)) q) ∙ ap (λ (a : Arrival). keptAt s a t) e
+
 -- figures that can be counted on
 pub row-counted : {lines all since : List ℕ} {n : ℕ} {table : List ℕ} → Rowed lines all since n table → {k : ℕ} → k < n → {x : Arrival} → x ≡ standAt table k → Within 1000000000 (x .cost)
 row-counted {lines} {all} {since} {n} {table} d {k} h e =
@@ -194,3 +303,22 @@ row-counted {lines} {all} {since} {n} {table} d {k} h e =
 
 pub waits-counted : {n : ℕ} {w r : Cost} → n ≤ 255 → Within 60000 w → r ≡ times n w → Within 1000000000 r
 waits-counted {n} {w} h x e = subst (Within 1000000000) (sym e) (within-more (n * 60000) 1000000000 (times n w) (omega arith) (within-times n 60000 w x))
+
+-- what the code tests of a corridor, its first place and both waits
+pub later-crosses : {lines all since : List ℕ} → Derived lines all since → {l u v t : ℕ} (r : corridor.Corridor) → CorridorIs (sheetIn lines all) l t r → u < 64 → t ≤ 255
+    → {first : ℕ} → first ≡ number since (u * 256 + t) → {a b : Cost} → a ≡ waitOf (sheetIn lines all) u → b ≡ waitOf (sheetIn lines all) v → {p q : Bool} → p ≡ atMostb a b → q ≡ atMostb b a
+    → r .open && ltb first t && p && q ≡ true → CrossesLater (sheetIn lines all) l u v t
+later-crosses {lines} {all} d {l} {u} {v} {t} r c low day {first} f {a} {b} e g {p} {q} h k x =
+    let s = sheetIn lines all in
+    let y = and-true (r .open && ltb first t && p) q x in
+    let z = and-true (r .open && ltb first t) p (y .0) in
+    let w = and-true (r .open) (ltb first t) (z .0) in
+    let since-is : first ≡ sinceOf s u t = f ∙ d .firsts .of s refl u t low (omega arith) in
+    record {
+      crosses = λ m n. crossing-also s l u v (t - 1) m n (r .from .0) (r .to .0) t (r .cost) (c .there (w .0));
+      waits = since-run s u (t - 1) t day (omega arith) .0 (omega (arith, since-is, ltb-true first t (w .1)));
+      same =
+          sym e
+          ∙ at-most-antisym a b (ap length e ∙ wait-three s u ∙ sym (ap length g ∙ wait-three s v)) (atMostb-true a b (sym h ∙ z .1)) (atMostb-true b a (sym k ∙ y .1))
+          ∙ g;
+    }

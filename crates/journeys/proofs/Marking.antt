@@ -64,9 +64,12 @@ module _ {n : ℕ} {xs : List ℕ} {t : ℕ} where
         every = λ k h q. r .every k h (g k h q);
       }
 
-  -- a mark past t stays, and none is new
-  pub raised-past : {ys : List ℕ} {P : ℕ → Type 0} → Raised n xs ys t P → (k : ℕ) → k < n → (t < markAt ys k → t < markAt xs k) × (t < markAt xs k → t < markAt ys k)
-  raised-past r k h = ⊎-elim (λ e. (λ l. omega (arith, e), λ l. omega (arith, e))) (λ x. (λ l. absurd (omega (arith, x .1)), λ l. absurd (omega (arith, x .0)))) (r .either k h)
+  -- no mark falls, and none past t is new
+  pub raised-higher : {ys : List ℕ} {P : ℕ → Type 0} → Raised n xs ys t P → (j k : ℕ) → k < n → j < markAt xs k → j < markAt ys k
+  raised-higher r j k h l = ⊎-elim (λ e. omega (arith, e)) (λ x. omega (arith, x .0, x .1)) (r .either k h)
+
+  pub raised-past : {ys : List ℕ} {P : ℕ → Type 0} → Raised n xs ys t P → (j k : ℕ) → t ≤ j → k < n → j < markAt ys k → j < markAt xs k
+  raised-past r j k m h l = ⊎-elim (λ e. omega (arith, e)) (λ x. absurd (omega (arith, x .1))) (r .either k h)
 
   -- one raising after the other
   pub raised-both : {ys zs : List ℕ} {P Q : ℕ → Type 0} → Raised n xs ys t P → Raised n ys zs t Q → Raised n xs zs t (λ k. P k ⊎ Q k)

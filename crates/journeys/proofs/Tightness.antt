@@ -26,12 +26,13 @@ use Rattle.journeys.specs.Front.{OnFront}
 use Rattle.journeys.specs.Held.{rowOf, tableRows, Holds}
 use Rattle.journeys.specs.Inner.Lookup.{markAt, standAt, RowIs}
 use Rattle.journeys.specs.Inner.Waits.{Rows, Rowed}
-use Rattle.journeys.specs.Inner.Marks.{Raised, OntoAny, Marks, Endable}
+use Rattle.journeys.specs.Inner.Marks.{Raised, OntoAny, Passed, Marks, Endable}
 use Rattle.journeys.specs.Laws.Demand2.{keys-ascend}
 use Rattle.journeys.specs.Laws.Goal.{arrivalOf-earliest, arrivalOf-leading}
 use Rattle.journeys.specs.Laws.Rows.{table-row, table-at, at-table}
 use Rattle.journeys.specs.Laws.Tight.{Tight, keptAt, CrossesInto, tight-late, tight-sooner, tight-end, tight-last, tight-cross, tight-on}
-use Rattle.journeys.proofs.Marking.{same-stand}
+use Rattle.journeys.proofs.Marking.{same-stand, raised-higher}
+use Rattle.journeys.proofs.Crossings.{passed-none}
 
 -- a table as the search leaves it: the rows are the leading arrivals, and none is marked
 module _ {s : Sheet} (valid : Valid s) {n : ℕ} {xs : List ℕ} (h : Holds s n xs) where
@@ -106,19 +107,15 @@ module _ {s : Sheet} {f : Cost} {A n : ℕ} (o : OnFront s f) where
           let c = tight-cross s f A (standAt xs i) (standAt xs k) t pos (rows .each k h) (m .sound i t (q .2 .within) (y .soon) (y .marked)) (y .into) in
           subst (λ (x : Arrival). Tight s f A x j) (sym (e k)) (tight-sooner s f A (standAt xs k) j (t - 1) (subst (λ (x : Arrival). x .step ≤ j) (e k) a) (omega (arith, q .1)) c)
 
-      -- marks never fall
-      higher : (k j : ℕ) → k < n → j < markAt xs k → j < markAt ys k
-      higher k j h b = ⊎-elim (λ q. omega (arith, q)) (λ q. omega (arith, q .0, q .1)) (p .either k h)
-
       old : (k j : ℕ) → k < n → Tight s f A (standAt ys k) j → t ≤ j → j < markAt ys k
-      old k j h x l = higher k j h (m .done k j h l (subst (λ (x : Arrival). Tight s f A x j) (e k) x))
+      old k j h x l = raised-higher p j k h (m .done k j h l (subst (λ (x : Arrival). Tight s f A x j) (e k) x))
 
       new : (k j : ℕ) → k < n → t - 1 ≤ j → Tight s f A (standAt ys k) j → j < t → j < markAt ys k
       new k j h a x l =
           let d : j ≡ t - 1 = omega arith in
           let y : Tight s f A (standAt xs k) (t - 1) = subst (Tight s f A (standAt xs k)) d (subst (λ (x : Arrival). Tight s f A x j) (e k) x) in
           ⊎-elim
-          (λ z. omega (arith, higher k t h (m .done k t h (omega arith) z)))
+          (λ z. omega (arith, raised-higher p t k h (m .done k t h (omega arith) z)))
           (λ z. omega (arith, p .every k h (onto k (z .0) (z .1) (z .2))))
           (tight-on s f A (standAt xs k) t o pos late y)
         where
@@ -155,6 +152,10 @@ module _ {lines all since : List ℕ} {n : ℕ} {table : List ℕ} {A : ℕ} {f 
 
   pub end-day : A ≤ 255
   end-day = omega (arith, end-leading .arrives .in-time, store-valid (k .derived .store) .most-steps)
+
+  -- no row is marked past the arrival
+  pub end-passed : {ys : List ℕ} {r : ℕ} → Raised n table ys (A + 1) (λ j. j ≡ r) → Passed (sheetIn lines all) n ys (A + 1)
+  end-passed p = passed-none (λ j h. ⊎-elim (λ e. omega (arith, e, no-marks (store-valid (k .derived .store)) (k .holds) j h)) (λ x. omega (arith, x .1)) (p .either j h))
 
   -- the goal's row
   module _ {v r : ℕ} (e : v ≡ goal (sheetIn lines all)) (w : RowIs n table (arrival v A f) r) where

@@ -2,13 +2,15 @@
 // arrives there can wait and still be on the way to the journey's end, 0 if it is on no such way. The marks are found from the end backwards, step by
 // step: where a marked row stands at a step, the rows from which a cart can cross to it are marked up to the step before.
 ghost use mathlib.Core.Path.{_≡_};
+ghost use mathlib.Core.Bool.{true};
 ghost use Prim.Native.Nat.{_+_, _*_, _≤_, _<_};
 ghost use lib.ListN.{length};
 ghost use Rattle.sheet.specs.Lists.{number};
+ghost use Rattle.sheet.specs.Kinds.{kindC};
 ghost use Rattle.sheet.specs.Store.{sheetIn};
+ghost use Rattle.intervals.specs.FirstSteps.{Derived};
 ghost use Rattle.journeys.specs.Inner.Lookup.{standing, markAt, standAt};
-ghost use Rattle.journeys.specs.Inner.Waits.{Rowed};
-ghost use Rattle.journeys.specs.Inner.Marks.{Raised, CrossesBy, Onto, OntoAny, Endable, MarkedAll, Bared};
+ghost use Rattle.journeys.specs.Inner.Marks.{Raised, CrossesBy, CrossesLater, Enterable, Onto, OntoAny, Passable, Endable, MarkedAll, Bared};
 ghost use Rattle.journeys.specs.Laws.Tight.{CrossesInto};
 use crate::lookup::Stand;
 use crate::lookup::row_at;
@@ -20,6 +22,7 @@ use costs::less;
 use costs::multiple;
 use costs::sum;
 use costs::wait_at;
+use intervals::first_step;
 use sheet::Place;
 use sheet::Step;
 use sheet::kinds::C_LINE;
@@ -43,7 +46,33 @@ fn raise(table: &mut [u32], n: usize, k: usize, m: u32)
     }
 }
 
-// Marks the row from which a cart can cross by corridor l and stand as b, up to the step before.
+// Whether it is settled that a cart which can cross from u to v by corridor l before step t need not be sought: it can wait at u and cross a step later
+// as well, at what crossing and waiting at v costs.
+fn crosses_later(
+    lines: &[u32],
+    all: &[u32],
+    since: &[u16],
+    settled: bool,
+    u: Place,
+    v: Place,
+    l: usize,
+    t: Step,
+) -> bool
+    requires { ⌜ (Derived (now lines) (now all) (now since)) × (u .0 < 64) × (l < number (now lines) (kindC .order)) × (t .0 ≤ 255) ⌝ }
+    ensures { λ r. ⌜ (r ≡ true → (settled ≡ true) × CrossesLater (sheetIn (now (lines .entry)) (now (all .entry))) l (u .0) (v .0) (t .0)) ⌝ }
+{
+    if !settled {
+        return false;
+    }
+    let c = corridor_at(lines, all, l, t);
+    let first = first_step(since, u, t);
+    let a = wait_at(lines, all, u);
+    let b = wait_at(lines, all, v);
+    c.open & (first.0 < t.0) & at_most(a, b) & at_most(b, a)
+}
+
+// Marks the row from which a cart can cross by corridor l and stand as b, up to the step before. `settled` says that the rows from which it can cross
+// and stand where b stands after a wait are marked already.
 fn mark_over(
     lines: &[u32],
     all: &[u32],
@@ -51,9 +80,10 @@ fn mark_over(
     table: &mut [u32],
     n: usize,
     b: Stand,
+    settled: bool,
     l: usize,
 )
-    requires { ⌜ (Rowed (now lines) (now all) (now since) n (now table)) × (1 ≤ b .step .0) × (b .step .0 ≤ 255) × (l < number (now lines) 1) ⌝ }
+    requires { ⌜ (Enterable (now lines) (now all) (now since) n (now table) (standing b) settled) × (l < number (now lines) (kindC .order)) ⌝ }
     ensures { λ _. ⌜ Raised n (now (table .entry)) (now (table .exit)) (b .step .0)
         (λ k. CrossesBy (sheetIn (now (lines .entry)) (now (all .entry))) (standing b) l (standAt (now (table .entry)) k)) ⌝ }
 {
@@ -65,6 +95,9 @@ fn mark_over(
         return;
     }
     let place = c.from;
+    if crosses_later(lines, all, since, settled, place, b.place, l, b.step) {
+        return;
+    }
     let cost = less(h, price);
     let k = waiting_row(
         lines,
@@ -84,14 +117,22 @@ fn mark_over(
 }
 
 // Marks the rows from which a cart can cross and stand as b, up to the step before.
-fn mark_into(lines: &[u32], all: &[u32], since: &[u16], table: &mut [u32], n: usize, b: Stand)
-    requires { ⌜ (Rowed (now lines) (now all) (now since) n (now table)) × (1 ≤ b .step .0) × (b .step .0 ≤ 255) ⌝ }
+fn mark_into(
+    lines: &[u32],
+    all: &[u32],
+    since: &[u16],
+    table: &mut [u32],
+    n: usize,
+    b: Stand,
+    settled: bool,
+)
+    requires { ⌜ Enterable (now lines) (now all) (now since) n (now table) (standing b) settled ⌝ }
     ensures { λ _. ⌜ Raised n (now (table .entry)) (now (table .exit)) (b .step .0)
         (λ k. CrossesInto (sheetIn (now (lines .entry)) (now (all .entry))) (standAt (now (table .entry)) k) (standing b)) ⌝ }
 {
     let count = lines[C_LINE] as usize;
     for l in 0..count {
-        mark_over(lines, all, since, table, n, b, l);
+        mark_over(lines, all, since, table, n, b, settled, l);
     }
 }
 
@@ -105,12 +146,13 @@ fn mark_row(
     k: usize,
     t: Step,
 )
-    requires { ⌜ (Rowed (now lines) (now all) (now since) n (now table)) × (k < n) × (1 ≤ t .0) × (t .0 ≤ 255) ⌝ }
+    requires { ⌜ (Passable (now lines) (now all) (now since) n (now table) (t .0)) × (k < n) ⌝ }
     ensures { λ _. ⌜ Raised n (now (table .entry)) (now (table .exit)) (t .0)
         (Onto (sheetIn (now (lines .entry)) (now (all .entry))) (now (table .entry)) (t .0) k) ⌝ }
 {
     let e = row_at(table, k);
-    if !((e.step.0 <= t.0) & (t.0 < mark_of(table, k))) {
+    let mark = mark_of(table, k);
+    if !((e.step.0 <= t.0) & (t.0 < mark)) {
         return;
     }
     let place = e.place;
@@ -128,12 +170,13 @@ fn mark_row(
             step: t,
             cost,
         },
+        t.0 + 1 < mark,
     );
 }
 
 // Does so for every row. Rows ascend by step, and those of a later step stand nowhere yet.
 fn mark_step(lines: &[u32], all: &[u32], since: &[u16], table: &mut [u32], n: usize, t: Step)
-    requires { ⌜ (Rowed (now lines) (now all) (now since) n (now table)) × (1 ≤ t .0) × (t .0 ≤ 255) ⌝ }
+    requires { ⌜ Passable (now lines) (now all) (now since) n (now table) (t .0) ⌝ }
     ensures { λ _. ⌜ Raised n (now (table .entry)) (now (table .exit)) (t .0)
         (OntoAny (sheetIn (now (lines .entry)) (now (all .entry))) n (now (table .entry)) (t .0)) ⌝ }
 {

@@ -3,6 +3,7 @@ ghost use mathlib.Core.Path.{_≡_};
 ghost use Prim.Native.Nat.{_+_, _≤_, _<_};
 ghost use lib.Seq.{sets};
 ghost use Rattle.sheet.specs.Lists.{number};
+ghost use Rattle.sheet.specs.Kinds.{kindC};
 ghost use Rattle.sheet.specs.Store.{sheetIn};
 ghost use Rattle.sheet.specs.Laws.Decided.{Decided};
 ghost use Rattle.journeys.specs.Computed.{journeyOf};
@@ -65,7 +66,7 @@ fn next_over(
     l: usize,
     best: Stand,
 ) -> Stand
-    requires { ⌜ (Walkable (now lines) (now all) (now since) n (now table) (standing at)) × (l < number (now lines) 1)
+    requires { ⌜ (Walkable (now lines) (now all) (now since) n (now table) (standing at)) × (l < number (now lines) (kindC .order))
         × (LowestOf (sheetIn (now lines) (now all)) n (now table) (standing at) l (standing best)) ⌝ }
     ensures { λ r. ⌜ LowestOf (sheetIn (now (lines .entry)) (now (all .entry))) n (now (table .entry)) (standing at) (l + 1) (standing r) ⌝ }
 {

@@ -93,6 +93,10 @@ crossing-by s u v t c x =
     (r .0, record { listed = r .1; leaves = ap from (r .2) ∙ x .leaves; enters = ap to (r .2) ∙ x .enters; price = x .price ∙ ap costOf (sym (r .2)) })
 
 -- how many corridors the sheet in the array has
+-- a corridor that can be departed by at another step too has the same ends and the same cost then
+pub crossing-also : (s : Sheet) (k u v t : ℕ) (c : Cost) → CrossingBy s k u v t c → (u′ v′ t′ : ℕ) (c′ : Cost) → CrossingBy s k u′ v′ t′ c′ → CrossingBy s k u v t′ c
+crossing-also s k u v t c x u′ v′ t′ c′ y = record { listed = x .listed; leaves = x .leaves; enters = x .enters; price = x .price }
+
 pub corridor-count : {lines all : List ℕ} → SomeStore lines all → number lines (kindC .order) ≡ length (sheetIn lines all .corridors)
 corridor-count {lines} {all} S =
     let cs = partOf lines all (kindC .order) in

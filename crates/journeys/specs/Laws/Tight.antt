@@ -58,7 +58,7 @@ waits-self s a h = record { place = refl; stays = stay; sum = same-figures (kept
     each : (i : ℕ) → fig (kept s a t) i ≡ fig (a .cost) i
     each i = let z : t - t ≡ 0 = omega arith in rw z (omega (arith, fig-waited s (a .place) 0 (a .cost) i))
 
-kept-next : (s : Sheet) (e : Arrival) (t : ℕ) → e .step ≤ t → kept s e (suc t) ≡ add (kept s e t) (waitOf s (e .place))
+pub kept-next : (s : Sheet) (e : Arrival) (t : ℕ) → e .step ≤ t → kept s e (suc t) ≡ add (kept s e t) (waitOf s (e .place))
 kept-next s e t l =
     let q : suc t - e .step ≡ suc (t - e .step) = omega arith in
     ap (λ (n : ℕ). waited s (e .place) n (e .cost)) q ∙ waited-suc s (e .place) (t - e .step) (e .cost)

@@ -7,8 +7,8 @@ use native.Mathlib.Omega.{arith}
 use Rattle.sheet.specs.Store.{sheetIn}
 use Rattle.arrivals.specs.Arrivals.{Arrival}
 use Rattle.journeys.specs.Inner.Marks.{Raised, Onto}
-use Rattle.journeys.proofs.Marking.{same-stand, same-rowed, Below, raised-start}
-use Rattle.journeys.proofs.Crossings.{no-sooner, onto-more, onto-all}
+use Rattle.journeys.proofs.Marking.{same-stand, Below, raised-start}
+use Rattle.journeys.proofs.Crossings.{no-sooner, onto-more, onto-all, passable-kept}
 use borrow.Author.Needs.{needs}
 use Rattle.journeys.proofs.marks.mark_step.Statement.{statement}
 use Rattle.journeys.proofs.marks.mark_step.Tie as tie
@@ -23,7 +23,7 @@ loop-holds : tie.Need-loop-holds Inv-loop μ-loop
 loop-holds c = (omega arith, raised-start)
 
 mul-if1 : tie.Need-mul-if1 Inv-loop μ-loop
-mul-if1 c = omega (arith, c .before .before .before .before .before .before .pre .0 .rows .sorted .room)
+mul-if1 c = omega (arith, c .before .before .before .before .before .before .pre .rowed .rows .sorted .room)
 
 add-if1 : tie.Need-add-if1 Inv-loop μ-loop
 add-if1 c = search needs
@@ -32,7 +32,7 @@ mul-if1-2 : tie.Need-mul-if1-2 Inv-loop μ-loop
 mul-if1-2 c = search needs
 
 slice-read-if1 : tie.Need-slice-read-if1 Inv-loop μ-loop
-slice-read-if1 c = omega (arith, c .before .before .before .before .before .before .before .pre .0 .rows .sorted .room, c .before .before .loop .inv .1 .rows .size)
+slice-read-if1 c = omega (arith, c .before .before .before .before .before .before .before .pre .rowed .rows .sorted .room, c .before .before .loop .inv .1 .rows .size)
 
 same-length : tie.Need-same-length Inv-loop μ-loop
 same-length c = c .before .before .before .before .loop .inv .1 .rows .size
@@ -40,10 +40,10 @@ same-length c = c .before .before .before .before .loop .inv .1 .rows .size
 returns : tie.Need-returns Inv-loop μ-loop
 returns c =
     let l = c .before .before .before .before .loop in
-    onto-all (l .inv .0) (λ j h m. omega (arith, no-sooner (c .before .before .before .before .before .before .before .before .before .pre .0 .rows .sorted) (l .k) j h m, ap (λ (a : Arrival). a .step) (same-stand (l .inv .1 .rows) (l .k)))) (l .inv .1)
+    onto-all (l .inv .0) (λ j h m. omega (arith, no-sooner (c .before .before .before .before .before .before .before .before .before .pre .rowed .rows .sorted) (l .k) j h m, ap (λ (a : Arrival). a .step) (same-stand (l .inv .1 .rows) (l .k)))) (l .inv .1)
 
 mark-row-requires : tie.Need-mark-row-requires Inv-loop μ-loop
-mark-row-requires c κs = (same-rowed (c .before .before .before .before .before .loop .inv .1 .rows) (c .before .before .before .before .before .before .before .before .before .before .pre .0), omega arith, c .before .before .before .before .before .before .before .before .before .before .pre .1, c .before .before .before .before .before .before .before .before .before .before .pre .2)
+mark-row-requires c κs = (passable-kept (c .before .before .before .before .before .loop .inv .1) (c .before .before .before .before .before .before .before .before .before .before .pre), omega arith)
 
 add-k : tie.Need-add-k Inv-loop μ-loop
 add-k c = search needs

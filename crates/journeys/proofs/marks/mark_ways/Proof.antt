@@ -2,20 +2,21 @@
 -- right at the arrival are right from step t on. The measure is t.
 -- Assumes nothing.
 use mathlib.Core.Path.{_≡_, _∙_, subst}
-use Prim.Native.Nat.{_≤_}
+use Prim.Native.Nat.{_+_, _≤_}
 use native.Mathlib.Omega.{arith}
 use Rattle.sheet.specs.Store.{sheetIn}
 use Rattle.sheet.specs.Laws.Store.{store-length, head-number}
 use Rattle.costs.specs.Costs.{Cost}
 use Rattle.journeys.specs.Front.{OnFront}
-use Rattle.journeys.specs.Inner.Marks.{SameRows, Marks}
+use Rattle.journeys.specs.Inner.Marks.{SameRows, Passed, Marks}
 use Rattle.journeys.proofs.Marking.{same-refl, same-trans, same-rowed}
-use Rattle.journeys.proofs.Tightness.{marks-step, end-rows, end-rowed, end-day, end-within, end-marks}
+use Rattle.journeys.proofs.Crossings.{step-passed, passed-as}
+use Rattle.journeys.proofs.Tightness.{marks-step, end-rows, end-rowed, end-day, end-within, end-passed, end-marks}
 use Rattle.journeys.proofs.marks.mark_ways.Statement.{statement}
 use Rattle.journeys.proofs.marks.mark_ways.Tie as tie
 
 abbrev Inv-loop : tie.InvT-loop
-Inv-loop lines all since table₀ n k t₀ table t = (t ≤ t₀) × SameRows n table₀ table
+Inv-loop lines all since table₀ n k t₀ table t = (t ≤ t₀) × SameRows n table₀ table × Passed (sheetIn lines all) n table (t + 1)
     × ((f : Cost) → OnFront (sheetIn lines all) f → Marks (sheetIn lines all) f t₀ n table₀ t₀ → Marks (sheetIn lines all) f t₀ n table t)
 
 abbrev μ-loop : tie.MeasureT-loop
@@ -34,11 +35,11 @@ raise-requires : tie.Need-raise-requires Inv-loop μ-loop
 raise-requires c κs = (end-within (c .before .before .before .before .before .before .before .before .before .pre) (head-number (c .before .before .before .before .before .before .before .before .before .pre .derived .store) 3 (omega arith)) (c .before .before .row-of .ensures), end-rows (c .before .before .before .before .before .before .before .before .before .pre) .sorted .room, omega (arith, end-day (c .before .before .before .before .before .before .before .before .before .pre)))
 
 loop-holds : tie.Need-loop-holds Inv-loop μ-loop
-loop-holds c = (omega arith, same-refl, λ f o m. m)
+loop-holds c = (omega arith, same-refl, end-passed (c .before .before .before .before .before .before .before .before .before .before .before .before .pre) (c .before .before .raise .ensures), λ f o m. m)
 
 mark-step-requires : tie.Need-mark-step-requires Inv-loop μ-loop
 mark-step-requires c κs =
-    (same-rowed (c .before .before .loop .inv .1) (same-rowed (c .before .before .before .before .before .raise .ensures .rows) (end-rowed (c .before .before .before .before .before .before .before .before .before .before .before .before .before .before .before .pre))), omega arith, omega (arith, end-day (c .before .before .before .before .before .before .before .before .before .before .before .before .before .before .before .pre), c .before .before .loop .inv .0))
+    record { rowed = same-rowed (c .before .before .loop .inv .1) (same-rowed (c .before .before .before .before .before .raise .ensures .rows) (end-rowed (c .before .before .before .before .before .before .before .before .before .before .before .before .before .before .before .pre))); moved = omega arith; day = omega (arith, end-day (c .before .before .before .before .before .before .before .before .before .before .before .before .before .before .before .pre), c .before .before .loop .inv .0); passed = c .before .before .loop .inv .2 }
 
 sub-t : tie.Need-sub-t Inv-loop μ-loop
 sub-t c = omega arith
@@ -50,7 +51,7 @@ loop-again : tie.Need-loop-again Inv-loop μ-loop
 loop-again c =
     let l = c .before .before .before .before .before .loop in
     let rows = same-rowed (l .inv .1) (same-rowed (c .before .before .before .before .before .before .before .before .raise .ensures .rows) (end-rowed (c .before .before .before .before .before .before .before .before .before .before .before .before .before .before .before .before .before .before .pre))) .rows in
-    (omega (arith, l .inv .0), same-trans (l .inv .1) (c .before .before .mark-step .ensures .rows), λ f o m. marks-step o rows (omega arith) (l .inv .0) (l .inv .2 f o m) (c .before .before .mark-step .ensures))
+    (omega (arith, l .inv .0), same-trans (l .inv .1) (c .before .before .mark-step .ensures .rows), passed-as (omega arith) (step-passed (c .before .before .mark-step .ensures)), λ f o m. marks-step o rows (omega arith) (l .inv .0) (l .inv .3 f o m) (c .before .before .mark-step .ensures))
 
 same-length : tie.Need-same-length Inv-loop μ-loop
 same-length c = c .before .loop .inv .1 .size ∙ c .before .before .before .before .raise .ensures .rows .size
@@ -59,7 +60,7 @@ returns : tie.Need-returns Inv-loop μ-loop
 returns c =
     let l = c .before .loop in
     let z : l .t ≡ 0 = omega arith in
-    let m = l .inv .2 _ (c .before .before .before .before .before .before .before .before .before .before .before .before .before .before .pre .on-front) (end-marks (c .before .before .before .before .before .before .before .before .before .before .before .before .before .before .pre) (head-number (c .before .before .before .before .before .before .before .before .before .before .before .before .before .before .pre .derived .store) 3 (omega arith)) (c .before .before .before .before .before .before .before .row-of .ensures) (c .before .before .before .before .raise .ensures)) in
+    let m = l .inv .3 _ (c .before .before .before .before .before .before .before .before .before .before .before .before .before .before .pre .on-front) (end-marks (c .before .before .before .before .before .before .before .before .before .before .before .before .before .before .pre) (head-number (c .before .before .before .before .before .before .before .before .before .before .before .before .before .before .pre .derived .store) 3 (omega arith)) (c .before .before .before .before .before .before .before .row-of .ensures) (c .before .before .before .before .raise .ensures)) in
     record { rows = same-trans (c .before .before .before .before .raise .ensures .rows) (l .inv .1); marks = subst (Marks _ _ _ _ _) z m }
 
 pub mark-ways-spec : {M : Type 1} → statement M
