@@ -27,7 +27,7 @@ use Rattle.arrivals.specs.Laws.Leading.{arrival-path}
 use Rattle.journeys.specs.declared.lookup.Stand.{Stand}
 use Rattle.journeys.specs.Inner.Lookup.{markAt}
 use Rattle.journeys.specs.Inner.Waits.{WaitingRow}
-use Rattle.journeys.specs.Inner.Walk.{Marked, after, NextOf, LowestOf, Lowest}
+use Rattle.journeys.specs.Inner.Walk.{Marked, after, NextOf, LowestOf, LowestNext}
 
 -- the row from which a cart stands as a by waiting, and its mark, tell whether a is marked
 module _ {s : Sheet} {n : ℕ} {xs : List ℕ} {a : Arrival} {k : ℕ} (w : WaitingRow s n xs a k) where
@@ -145,7 +145,7 @@ module _ {s : Sheet} {n : ℕ} {xs : List ℕ} {a : Arrival} where
                 absurd (no-of j f (subst (Marked s n xs) (sym q) x))
 
   -- all corridors
-  pub lowest-all : {l : ℕ} {b : Arrival} → LowestOf s n xs a l b → length (s .corridors) ≤ l → (e : Arrival) × NextOf s n xs a e → Lowest s n xs a b
+  pub lowest-all : {l : ℕ} {b : Arrival} → LowestOf s n xs a l b → length (s .corridors) ≤ l → (e : Arrival) × NextOf s n xs a e → LowestNext s n xs a b
   lowest-all {l} {b} best h some = record { next = best .next (omega (arith, least (some .0 .place) (some .1 .price) (some .1 .move) x, marked-place x)); least = least }
     where
       x : Marked s n xs (after a (some .0 .place) (some .1 .price))

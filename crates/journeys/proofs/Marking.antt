@@ -18,14 +18,14 @@ use Rattle.arrivals.specs.Arrivals.{Arrival, Leading, keyOf}
 use Rattle.arrivals.specs.Laws.Leading.{arrival-path}
 use Rattle.journeys.specs.Inner.Lookup.{placeAt, markAt, standAt, Sorted}
 use Rattle.journeys.specs.Inner.Waits.{Rows, Rowed}
-use Rattle.journeys.specs.Inner.Marks.{SameRows, Raised, Bared}
+use Rattle.journeys.specs.Inner.Marks.{SameButMarks, Raised, Bared}
 
 -- the rows are the same but for the marks
-pub same-refl : {n : ℕ} {xs : List ℕ} → SameRows n xs xs
+pub same-refl : {n : ℕ} {xs : List ℕ} → SameButMarks n xs xs
 same-refl = record { size = refl; place = λ k. refl; others = λ i h. refl }
 
-module _ {n : ℕ} {xs ys : List ℕ} (r : SameRows n xs ys) where
-  pub same-trans : {zs : List ℕ} → SameRows n ys zs → SameRows n xs zs
+module _ {n : ℕ} {xs ys : List ℕ} (r : SameButMarks n xs ys) where
+  pub same-trans : {zs : List ℕ} → SameButMarks n ys zs → SameButMarks n xs zs
   same-trans q = record { size = q .size ∙ r .size; place = λ k. q .place k ∙ r .place k; others = λ i h. q .others i h ∙ r .others i h }
 
   pub same-stand : (k : ℕ) → standAt ys k ≡ standAt xs k
@@ -172,7 +172,7 @@ bared-more {k} {xs} {ys} room b =
         getD-set-other ys (k * 5) (j * 5) x 0 (λ q. d (omega arith)) ∙ b .place j (omega arith)
 
 -- without marks the table is what it was
-pub bared-back : {n : ℕ} {xs ys zs : List ℕ} → ((k : ℕ) → k < n → getD xs (k * 5) 0 < 64) → SameRows n xs ys → Bared n ys zs → zs ≡ xs
+pub bared-back : {n : ℕ} {xs ys zs : List ℕ} → ((k : ℕ) → k < n → getD xs (k * 5) 0 < 64) → SameButMarks n xs ys → Bared n ys zs → zs ≡ xs
 bared-back {n} {xs} {ys} {zs} low r b = ext-getD 0 zs xs (b .size ∙ r .size) (λ i h. cell i (eqb (i / 5 * 5) i) refl)
   where
     kept : (i : ℕ) → ((k : ℕ) → k < n → i ≡ k * 5 → ⊥) → getD zs i 0 ≡ getD xs i 0

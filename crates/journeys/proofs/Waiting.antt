@@ -18,7 +18,7 @@ use Rattle.sheet.specs.declared.Place.{Place}
 use Rattle.sheet.specs.declared.Step.{Step}
 use Rattle.costs.specs.Costs.{Cost, figures, fig, add, times}
 use Rattle.costs.specs.Computed.{atMostb, waitAt}
-use Rattle.costs.specs.Priced as priced
+use Rattle.costs.specs.Priced.{Within}
 use Rattle.costs.specs.Laws.Moves.{wait-bounded}
 use Rattle.costs.specs.Moves.{waitOf}
 use Rattle.costs.specs.Laws.Figures.{fig-add, cancel-right, at-most-atMostb}
@@ -30,11 +30,8 @@ use Rattle.arrivals.specs.Computed.{arrival}
 use Rattle.arrivals.specs.declared.network.Here.{Here}
 use Rattle.arrivals.specs.Laws.Leading.{arrival-path}
 use Rattle.journeys.specs.Inner.Lookup.{standAt, Sorted, RowIs}
-use Rattle.journeys.specs.Inner.Waits.{Becomes, KeptFrom, Within, KeptRow, Rows, Rowed, WaitingRow}
+use Rattle.journeys.specs.Inner.Waits.{Becomes, KeptFrom, InRun, KeptRow, Rows, Rowed, WaitingRow}
 use Rattle.journeys.specs.Laws.Exact.{Waits, waits-once}
-
-abbrev Bounded : ℕ → Cost → Type 0
-Bounded = priced.Within
 
 -- a part of a sum is nowhere above it
 pub part-under : (g c h : Cost) → add g c ≡ h → atMostb c h ≡ true
@@ -109,7 +106,7 @@ module _ {s : Sheet} {n : ℕ} {xs : List ℕ} (rows : Rows s n xs) (here : Here
   abbrev this : Arrival
   this = arrival (here .place .0) (here .step .0) h
 
-  becomes-waits : (e : Arrival) → Within here (e .step) → Becomes here h e → Waits s e this
+  becomes-waits : (e : Arrival) → InRun here (e .step) → Becomes here h e → Waits s e this
   becomes-waits e w b =
       let run : Run s (here .place .0) (e .step) (here .step .0) = since-run s (here .place .0) (e .step) (here .step .0) day (w .until) .0 (omega (arith, since-is, w .since)) in
       record {
@@ -118,7 +115,7 @@ module _ {s : Sheet} {n : ℕ} {xs : List ℕ} (rows : Rows s n xs) (here : Here
         sum = ap (λ (c : Cost). add (e .cost) (times (here .step .0 - e .step) c)) (ap (waitOf s) (b .place) ∙ sym wait-of) ∙ b .sum;
       }
 
-  waits-becomes : (e : Arrival) → Waits s e this → Within here (e .step) × Becomes here h e
+  waits-becomes : (e : Arrival) → Waits s e this → InRun here (e .step) × Becomes here h e
   waits-becomes e x =
       let run : Run s (here .place .0) (e .step) (here .step .0) = subst (λ (v : ℕ). Run s v (e .step) (here .step .0)) (x .place) (x .stays .run) in (
         record { since = omega (arith, since-is, since-run s (here .place .0) (e .step) (here .step .0) day (x .stays .soon) .1 run); until = x .stays .soon },
@@ -139,9 +136,9 @@ module _ {s : Sheet} {n : ℕ} {xs : List ℕ} (rows : Rows s n xs) (here : Here
           (lt-or-le r n)
 
 -- what the code reads off the array and the table of first steps
-pub wait-within : {lines all : List ℕ} → SomeStore lines all → (v : Place) {w : Cost} → w ≡ waitAt (sheetIn lines all) v → Bounded 60000 w
+pub wait-within : {lines all : List ℕ} → SomeStore lines all → (v : Place) {w : Cost} → w ≡ waitAt (sheetIn lines all) v → Within 60000 w
 unfolding waitAt
-wait-within {lines} {all} d v e = subst (Bounded 60000) (sym e) (record { every = wait-bounded (sheetIn lines all) (store-valid (d .store)) (v .0) })
+wait-within {lines} {all} d v e = subst (Within 60000) (sym e) (record { every = wait-bounded (sheetIn lines all) (store-valid (d .store)) (v .0) })
 
 pub wait-is : (s : Sheet) (v : Place) {w : Cost} → w ≡ waitAt s v → w ≡ waitOf s (v .0)
 unfolding waitAt

@@ -27,8 +27,8 @@ use Rattle.journeys.specs.Front.{OnFront}
 use Rattle.journeys.specs.Held.{Layable}
 use Rattle.journeys.specs.Inner.Lookup.{standAt}
 use Rattle.journeys.specs.Inner.Waits.{Rows, Rowed}
-use Rattle.journeys.specs.Inner.Marks.{SameRows, Marks, Endable, MarkedAll, Bared}
-use Rattle.journeys.specs.Inner.Walk.{Marked, after, NextOf, Lowest, Walkable}
+use Rattle.journeys.specs.Inner.Marks.{SameButMarks, Marks, Endable, MarkedAll, Bared}
+use Rattle.journeys.specs.Inner.Walk.{Marked, after, NextOf, LowestNext, Walkable}
 use Rattle.journeys.specs.Laws.Exact.{Waits, Goes, Home, Rest, Towards, towards-within, towards-next}
 use Rattle.journeys.specs.Laws.Goal.{Earliest, arrivalOf-earliest}
 use Rattle.journeys.specs.Laws.Journeys.{has-three, journeyOf-selected, journey-length}
@@ -71,14 +71,14 @@ sets-more [] l i j u e = let z : j ≡ i = omega (arith, e) in ap (λ (k : ℕ).
 sets-more (x ∷ q) l i j u e = sets-more q (set l i x) (suc i) j u (omega (arith, e))
 
 -- what the sheet, its front cost f and the marks for it give
-pub record Led (s : Sheet) (f : Cost) (A n : ℕ) (xs : List ℕ) : Type 0 where
+pub record Guided (s : Sheet) (f : Cost) (A n : ℕ) (xs : List ℕ) : Type 0 where
   pub valid : Valid s
   pub on-front : OnFront s f
   pub arrives-at : A ≡ arrivalOf s f
   pub rows : Rows s n xs
   pub marks : Marks s f A n xs 0
 
-module _ {s : Sheet} {f : Cost} {A n : ℕ} {xs : List ℕ} (k : Led s f A n xs) where
+module _ {s : Sheet} {f : Cost} {A n : ℕ} {xs : List ℕ} (k : Guided s f A n xs) where
   journey : Journey s (journeyOf s f) f
   journey = journeyOf-selected s f (k .on-front .has) .journey
 
@@ -120,7 +120,7 @@ module _ {s : Sheet} {f : Cost} {A n : ℕ} {xs : List ℕ} (k : Led s f A n xs)
       let x = towards-next s f A (a .place) (a .step) (a .cost) t l in
       (after a (x .to) (x .price), record { price = x .price; move = x .goes .move; is = refl; marked = goes-marked h (x .to) (x .price) (x .goes) (x .towards) })
 
-  pub come-on : {a b : Arrival} {path path′ : List ℕ} → CameTo s f A a path path′ → Lowest s n xs a b → CameTo s f A b path (set path′ (b .step) (b .place))
+  pub come-on : {a b : Arrival} {path path′ : List ℕ} → CameTo s f A a path path′ → LowestNext s n xs a b → CameTo s f A b path (set path′ (b .step) (b .place))
   come-on {a} {b} {path} {path′} x w =
       let c = w .next .price in
       let v = b .place in
@@ -173,10 +173,10 @@ module _ {lines all since : List ℕ} {n : ℕ} {table : List ℕ} {A : ℕ} {f 
     pub rowed : Rowed lines all since n ys
     rowed = same-rowed (m .rows) (end-rowed endable)
 
-    pub led : Led (sheetIn lines all) f A n ys
+    pub led : Guided (sheetIn lines all) f A n ys
     led = record { valid = store-valid (k .derived .store); on-front = k .on-front; arrives-at = k .arrives-at; rows = rowed .rows; marks = m .marks }
 
-  pub bare-again : {ys zs : List ℕ} → SameRows n table ys → Bared n ys zs → zs ≡ table
+  pub bare-again : {ys zs : List ℕ} → SameButMarks n table ys → Bared n ys zs → zs ≡ table
   bare-again = bared-back (low-place (store-valid (k .derived .store)) (k .holds))
 
   -- zeros past the path
@@ -191,11 +191,11 @@ module _ {lines all since : List ℕ} {n : ℕ} {table : List ℕ} {A : ℕ} {f 
       ap₂ (λ (a : List ℕ) (i : ℕ). a ++ replicate i 0) (ap (take (A + 1)) s ∙ take-at j (drop (0 + length j) path) (A + 1) l) z
 
 -- the next step is one later
-pub next-step : {s : Sheet} {n : ℕ} {xs : List ℕ} {a b : Arrival} → Lowest s n xs a b → b .step ≡ suc (a .step)
+pub next-step : {s : Sheet} {n : ℕ} {xs : List ℕ} {a b : Arrival} → LowestNext s n xs a b → b .step ≡ suc (a .step)
 next-step w = ap (λ (x : Arrival). x .step) (w .next .is)
 
 -- where the walk has come it can go on
-pub walkable : {lines all since : List ℕ} {n A : ℕ} {table : List ℕ} {f : Cost} → Rowed lines all since n table → Led (sheetIn lines all) f A n table
+pub walkable : {lines all since : List ℕ} {n A : ℕ} {table : List ℕ} {f : Cost} → Rowed lines all since n table → Guided (sheetIn lines all) f A n table
     → {a : Arrival} {path path′ : List ℕ} → CameTo (sheetIn lines all) f A a path path′ → a .step < A → Walkable lines all since n table a
 walkable {lines} {all} d k {a} x l =
     let s = sheetIn lines all in

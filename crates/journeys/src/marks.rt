@@ -174,7 +174,8 @@ fn mark_row(
     );
 }
 
-// Does so for every row. Rows ascend by step, and those of a later step stand nowhere yet.
+// Marks the rows from which a cart can cross and stand at step t where a row marked past it stands then. Rows ascend by step, and those of a later step
+// stand nowhere yet.
 fn mark_step(lines: &[u32], all: &[u32], since: &[u16], table: &mut [u32], n: usize, t: Step)
     requires { ⌜ Passable (now lines) (now all) (now since) n (now table) (t .0) ⌝ }
     ensures { λ _. ⌜ Raised n (now (table .entry)) (now (table .exit)) (t .0)
@@ -189,7 +190,8 @@ fn mark_step(lines: &[u32], all: &[u32], since: &[u16], table: &mut [u32], n: us
 }
 
 // Marks the rows that are on the way to the front cost `cost` at the goal at step `arrival`, where no row is marked yet.
-// The time grows with the steps, for each with the rows so far, and with the rows marked, for each with the corridors and the time to find a row.
+// The time grows with the steps up to the arrival, for each with the rows so far, and for each of them that is marked past it with the corridors; a
+// row is sought over a corridor that leads there unless that was done a step later and waiting makes no difference.
 pub fn mark_ways(
     lines: &[u32],
     all: &[u32],

@@ -10,7 +10,7 @@ ghost use Rattle.journeys.specs.Computed.{journeyOf};
 ghost use Rattle.journeys.specs.Held.{Layable};
 ghost use Rattle.journeys.specs.Inner.Lookup.{standing};
 ghost use Rattle.journeys.specs.Inner.Waits.{Rowed};
-ghost use Rattle.journeys.specs.Inner.Walk.{Marked, Walkable, LowestOf, Lowest};
+ghost use Rattle.journeys.specs.Inner.Walk.{Marked, Walkable, LowestOf, LowestNext};
 use crate::lookup::Stand;
 use crate::marks::clear_marks;
 use crate::marks::mark_of;
@@ -96,7 +96,7 @@ fn next_stand(
     at: Stand,
 ) -> Stand
     requires { ⌜ Walkable (now lines) (now all) (now since) n (now table) (standing at) ⌝ }
-    ensures { λ r. ⌜ Lowest (sheetIn (now (lines .entry)) (now (all .entry))) n (now (table .entry)) (standing at) (standing r) ⌝ }
+    ensures { λ r. ⌜ LowestNext (sheetIn (now (lines .entry)) (now (all .entry))) n (now (table .entry)) (standing at) (standing r) ⌝ }
 {
     let count = lines[C_LINE] as usize;
     let mut best = next_wait(lines, all, since, table, n, at);
@@ -107,7 +107,7 @@ fn next_stand(
 }
 
 // Writes the places of the journey of the front cost `cost`, which arrives at step `arrival`, for each step from 0 on; what is past them is kept, and
-// so is the table, which bears marks meanwhile.
+// so is the table, which bears marks meanwhile. The time is that of the marks, and for each step the corridors and the time to find a row.
 pub fn walk(
     lines: &[u32],
     all: &[u32],

@@ -24,7 +24,7 @@ fn put_row(out: &mut [u8], at: usize, letter: u8, numbers: &[u32]) -> usize
     put_line(out, at, letter, &wide[..n], 10)
 }
 
-// Writes the two lines of the front cost whose row this is; the position after them.
+// Writes the two lines of the front cost whose row this is; the position after them. The table is kept.
 fn put_journey(
     lines: &[u32],
     all: &[u32],
@@ -48,7 +48,7 @@ fn put_journey(
     put_row(out, next, 80, &path[..e])
 }
 
-// Writes the lines of every row of the front list of the sheet in the array; the position after them.
+// Writes the lines of every row of the front list of the sheet in the array; the position after them. The table is kept.
 pub fn put_journeys(
     lines: &[u32],
     all: &[u32],

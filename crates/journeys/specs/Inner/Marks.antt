@@ -23,14 +23,14 @@ use Rattle.journeys.specs.Laws.Exact.{kept, Stays}
 use Rattle.journeys.specs.Laws.Tight.{Tight, CrossesInto, keptAt}
 
 -- ys is xs but for the marks of the first n rows
-pub record SameRows (n : ℕ) (xs ys : List ℕ) : Type 0 where
+pub record SameButMarks (n : ℕ) (xs ys : List ℕ) : Type 0 where
   pub size : length ys ≡ length xs
   pub place : (k : ℕ) → placeAt ys k ≡ placeAt xs k
   pub others : (i : ℕ) → ((k : ℕ) → k < n → i ≡ k * 5 → ⊥) → getD ys i 0 ≡ getD xs i 0
 
 -- the rows for which P holds, and no others, have their mark raised to t, if it was less
 pub record Raised (n : ℕ) (xs ys : List ℕ) (t : ℕ) (P : ℕ → Type 0) : Type 0 where
-  pub rows : SameRows n xs ys
+  pub rows : SameButMarks n xs ys
   pub either : (k : ℕ) → k < n → (markAt ys k ≡ markAt xs k) ⊎ ((markAt xs k < t) × (markAt ys k ≡ t) × P k)
   pub every : (k : ℕ) → k < n → P k → t ≤ markAt ys k
 
@@ -95,7 +95,7 @@ pub record Endable (lines all since : List ℕ) (n : ℕ) (table : List ℕ) (A 
 
 -- ys is xs with all marks
 pub record MarkedAll (s : Sheet) (f : Cost) (A n : ℕ) (xs ys : List ℕ) : Type 0 where
-  pub rows : SameRows n xs ys
+  pub rows : SameButMarks n xs ys
   pub marks : Marks s f A n ys 0
 
 -- ys is xs without the marks of the first n rows

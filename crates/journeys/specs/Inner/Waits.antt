@@ -24,16 +24,16 @@ pub record KeptFrom (n : ℕ) (xs : List ℕ) (here : Here) (h : Cost) (t r : �
   pub only : (k : ℕ) → k < n → standAt xs k .step ≡ t → Becomes here h (standAt xs k) → k ≡ r
 
 -- the step t is one of here's safe interval, up to here's step
-pub record Within (here : Here) (t : ℕ) : Type 0 where
+pub record InRun (here : Here) (t : ℕ) : Type 0 where
   pub since : here .since .0 ≤ t
   pub until : t ≤ here .step .0
 
 -- of the first n rows the one with number r is at a step of here's safe interval and becomes h; r is n where none does
 pub record KeptRow (n : ℕ) (xs : List ℕ) (here : Here) (h : Cost) (r : ℕ) : Type 0 where
   pub most : r ≤ n
-  pub within : r < n → Within here (standAt xs r .step)
+  pub within : r < n → InRun here (standAt xs r .step)
   pub is : r < n → Becomes here h (standAt xs r)
-  pub none : n ≤ r → (k : ℕ) → k < n → Within here (standAt xs k .step) → Becomes here h (standAt xs k) → ⊥
+  pub none : n ≤ r → (k : ℕ) → k < n → InRun here (standAt xs k .step) → Becomes here h (standAt xs k) → ⊥
 
 -- the first n rows are the leading arrivals of s, in order
 pub record Rows (s : Sheet) (n : ℕ) (xs : List ℕ) : Type 0 where

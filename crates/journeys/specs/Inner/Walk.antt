@@ -32,14 +32,15 @@ pub record NextOf (s : Sheet) (n : ℕ) (xs : List ℕ) (a b : Arrival) : Type 0
   pub is : b ≡ after a (b .place) price
   pub marked : Marked s n xs b
 
--- of what a wait and the corridors below number l make of a, and is marked, b has the lowest place; 64 where there is nothing
+-- of what a wait and the corridors below number l make of a, and is marked, b has the lowest place; b is at no place below 64 where
+-- there is nothing
 pub record LowestOf (s : Sheet) (n : ℕ) (xs : List ℕ) (a : Arrival) (l : ℕ) (b : Arrival) : Type 0 where
   pub next : b .place < 64 → NextOf s n xs a b
   pub waits : Marked s n xs (after a (a .place) (waitOf s (a .place))) → b .place ≤ a .place
   pub crosses : (k v : ℕ) (c : Cost) → k < l → CrossingBy s k (a .place) v (a .step) c → Marked s n xs (after a v c) → b .place ≤ v
 
 -- of what a move makes of a, and is marked, b has the lowest place
-pub record Lowest (s : Sheet) (n : ℕ) (xs : List ℕ) (a b : Arrival) : Type 0 where
+pub record LowestNext (s : Sheet) (n : ℕ) (xs : List ℕ) (a b : Arrival) : Type 0 where
   pub next : NextOf s n xs a b
   pub least : (v : ℕ) (c : Cost) → Move s (a .place) v (a .step) c → Marked s n xs (after a v c) → b .place ≤ v
 

@@ -1,6 +1,6 @@
--- Waiting and what lies ahead. On the way to a front cost, a place, a step and a cost are an arrival exactly when some leading arrival of that safe
--- interval becomes it by waiting, and then one does. Were the leading arrival lower, the front cost would be dominated; were there two, the earlier
--- would lead the other. What lies ahead is read forwards from any place and step, over any relation of steps and any end.
+-- Waiting and what lies ahead. An arrival on the way to a front cost is what a leading arrival of its safe interval becomes by waiting, and what
+-- only one becomes: were the leading arrival lower, the front cost would be dominated; were there two, the earlier would lead the other. What lies
+-- ahead is read forwards from any place and step, over any relation of steps and any end.
 use mathlib.Core.Path.{_≡_, refl, sym, _∙_, ap, subst}
 use mathlib.Core.Bool.{Bool, true, false}
 use mathlib.Core.List.{List, [], _∷_, _++_, append-nil}

@@ -8,7 +8,7 @@ use Rattle.sheet.specs.Store.{sheetIn}
 use Rattle.sheet.specs.Laws.Store.{store-length, head-number}
 use Rattle.costs.specs.Costs.{Cost}
 use Rattle.journeys.specs.Front.{OnFront}
-use Rattle.journeys.specs.Inner.Marks.{SameRows, Passed, Marks}
+use Rattle.journeys.specs.Inner.Marks.{SameButMarks, Passed, Marks}
 use Rattle.journeys.proofs.Marking.{same-refl, same-trans, same-rowed}
 use Rattle.journeys.proofs.Crossings.{step-passed, passed-as}
 use Rattle.journeys.proofs.Tightness.{marks-step, end-rows, end-rowed, end-day, end-within, end-passed, end-marks}
@@ -16,7 +16,7 @@ use Rattle.journeys.proofs.marks.mark_ways.Statement.{statement}
 use Rattle.journeys.proofs.marks.mark_ways.Tie as tie
 
 abbrev Inv-loop : tie.InvT-loop
-Inv-loop lines all since table₀ n k t₀ table t = (t ≤ t₀) × SameRows n table₀ table × Passed (sheetIn lines all) n table (t + 1)
+Inv-loop lines all since table₀ n k t₀ table t = (t ≤ t₀) × SameButMarks n table₀ table × Passed (sheetIn lines all) n table (t + 1)
     × ((f : Cost) → OnFront (sheetIn lines all) f → Marks (sheetIn lines all) f t₀ n table₀ t₀ → Marks (sheetIn lines all) f t₀ n table t)
 
 abbrev μ-loop : tie.MeasureT-loop

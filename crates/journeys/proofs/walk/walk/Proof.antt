@@ -11,14 +11,14 @@ use Rattle.sheet.specs.Laws.Store.{store-length, head-number}
 use Rattle.costs.specs.Costs.{Cost}
 use Rattle.journeys.specs.Inner.Lookup.{standing}
 use Rattle.journeys.proofs.Tightness.{end-day}
-use Rattle.journeys.proofs.Walking.{Led, CameTo, come-start, come-on, come-end, begins, endable, rowed, led, bare-again, next-step, walkable}
+use Rattle.journeys.proofs.Walking.{Guided, CameTo, come-start, come-on, come-end, begins, endable, rowed, led, bare-again, next-step, walkable}
 use borrow.Author.Needs.{needs}
 use Rattle.journeys.proofs.walk.walk.Statement.{statement}
 use Rattle.journeys.proofs.walk.walk.Tie as tie
 
 abbrev Inv-loop : tie.InvT-loop
 Inv-loop lines all since table n arrival path₀ at₀ path at = (at .step .0 ≤ arrival .0) × (length path ≡ length path₀) × (arrival .0 < length path)
-    × ((f : Cost) → Led (sheetIn lines all) f (arrival .0) n table → CameTo (sheetIn lines all) f (arrival .0) (standing at) path₀ path)
+    × ((f : Cost) → Guided (sheetIn lines all) f (arrival .0) n table → CameTo (sheetIn lines all) f (arrival .0) (standing at) path₀ path)
 
 abbrev μ-loop : tie.MeasureT-loop
 μ-loop lines all since table n arrival path₀ at₀ path at = arrival .0 - at .step .0

@@ -1,4 +1,4 @@
--- `page::offers::put_journeys` meets its contract. Invariant: the lines of the rows below position i are written.
+-- `page::offers::put_journeys` meets its contract. Invariant: the lines of the rows below position i are written, and the table is what it was.
 -- Assumes nothing.
 use mathlib.Core.Path.{_≡_, refl, sym, _∙_, ap, subst}
 use mathlib.Core.List.{List}
