@@ -140,7 +140,7 @@ pub layable : {lines all since : List ℕ} → Derived lines all since → {tabl
     (a : v ≡ goal (sheetIn lines all)) (b : last ≡ steps (sheetIn lines all)) {i : ℕ} {o : Offered} → NumberIs (goalRows v last n table′) i o → (path : List ℕ)
     → o .found ≡ true → o .step .0 < length path → Layable lines all since n table′ (o .step .0) (o .cost) path
 layable d p a b h path t l =
-    record { derived = d; holds = p .holds; on-front = on p a b h t; arrives-at = step-is p a b h t; room = omega (arith, l) }
+    record { ends = record { derived = d; holds = p .holds; on-front = on p a b h t; arrives-at = step-is p a b h t }; room = omega (arith, l) }
 
 -- a call on bytes that were not read, or that read as the sheet in the array
 module _ (b : List ℕ) {lines all : List ℕ} {v : Verdict} (q : VerdictIs (readOf b) lines all v) where

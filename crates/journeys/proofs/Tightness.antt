@@ -23,13 +23,12 @@ use Rattle.arrivals.specs.Laws.Bounds.{arrives-place}
 use Rattle.arrivals.specs.Laws.Leading.{arrival-path, leading-is, is-leading, leading-ascending}
 use Rattle.journeys.specs.Journeys.{Counts}
 use Rattle.journeys.specs.Front.{OnFront}
-use Rattle.journeys.specs.Held.{rowOf, tableRows, Holds}
+use Rattle.journeys.specs.Held.{rowOf, tableRows, Holds, Endable}
 use Rattle.journeys.specs.Inner.Lookup.{markAt, standAt, RowIs}
 use Rattle.journeys.specs.Inner.Waits.{Rows, Rowed}
-use Rattle.journeys.specs.Inner.Marks.{Raised, OntoAny, Passed, Marks, Endable}
-use Rattle.journeys.specs.Laws.Demand2.{keys-ascend}
+use Rattle.journeys.specs.Inner.Marks.{Raised, OntoAny, Passed, Marks}
 use Rattle.journeys.specs.Laws.Goal.{arrivalOf-earliest, arrivalOf-leading}
-use Rattle.journeys.specs.Laws.Rows.{table-row, table-at, at-table}
+use Rattle.journeys.specs.Laws.Rows.{keys-ascend, table-row, table-at, at-table}
 use Rattle.journeys.specs.Laws.Tight.{Tight, keptAt, CrossesInto, tight-late, tight-sooner, tight-end, tight-last, tight-cross, tight-on}
 use Rattle.journeys.proofs.Marking.{same-stand, raised-higher}
 use Rattle.journeys.proofs.Crossings.{passed-none}

@@ -27,7 +27,7 @@ use Rattle.journeys.specs.Front.{OnFront}
 use Rattle.journeys.specs.Held.{Layable}
 use Rattle.journeys.specs.Inner.Lookup.{standAt}
 use Rattle.journeys.specs.Inner.Waits.{Rows, Rowed}
-use Rattle.journeys.specs.Inner.Marks.{SameButMarks, Marks, Endable, MarkedAll, Bared}
+use Rattle.journeys.specs.Inner.Marks.{SameButMarks, Marks, MarkedAll, Bared}
 use Rattle.journeys.specs.Inner.Walk.{Marked, after, NextOf, LowestNext, Walkable}
 use Rattle.journeys.specs.Laws.Exact.{Waits, Goes, Home, Rest, Towards, towards-within, towards-next}
 use Rattle.journeys.specs.Laws.Goal.{Earliest, arrivalOf-earliest}
@@ -166,25 +166,22 @@ module _ {s : Sheet} {f : Cost} {A n : ℕ} {xs : List ℕ} (k : Guided s f A n 
 
 -- what the code lends
 module _ {lines all since : List ℕ} {n : ℕ} {table : List ℕ} {A : ℕ} {f : Cost} {path : List ℕ} (k : Layable lines all since n table A f path) where
-  pub endable : Endable lines all since n table A f
-  endable = record { derived = k .derived; holds = k .holds; on-front = k .on-front; arrives-at = k .arrives-at }
-
   module _ {ys : List ℕ} (m : MarkedAll (sheetIn lines all) f A n table ys) where
     pub rowed : Rowed lines all since n ys
-    rowed = same-rowed (m .rows) (end-rowed endable)
+    rowed = same-rowed (m .rows) (end-rowed (k .ends))
 
     pub led : Guided (sheetIn lines all) f A n ys
-    led = record { valid = store-valid (k .derived .store); on-front = k .on-front; arrives-at = k .arrives-at; rows = rowed .rows; marks = m .marks }
+    led = record { valid = store-valid (k .ends .derived .store); on-front = k .ends .on-front; arrives-at = k .ends .arrives-at; rows = rowed .rows; marks = m .marks }
 
   pub bare-again : {ys zs : List ℕ} → SameButMarks n table ys → Bared n ys zs → zs ≡ table
-  bare-again = bared-back (low-place (store-valid (k .derived .store)) (k .holds))
+  bare-again = bared-back (low-place (store-valid (k .ends .derived .store)) (k .ends .holds))
 
   -- zeros past the path
   pub laid : (p : List ℕ) → p ≡ sets path 0 (journeyOf (sheetIn lines all) f)
       → take (A + 1) p ++ replicate (length p - (A + 1)) 0 ≡ filled (length path) (journeyOf (sheetIn lines all) f)
   laid p e =
       let j = journeyOf (sheetIn lines all) f in
-      let l : length j ≡ A + 1 = omega (arith, journey-length (sheetIn lines all) f (k .on-front .has), k .arrives-at) in
+      let l : length j ≡ A + 1 = omega (arith, journey-length (sheetIn lines all) f (k .ends .on-front .has), k .ends .arrives-at) in
       let q : 0 + length j ≤ length path = omega (arith, l, k .room) in
       let s : p ≡ j ++ drop (0 + length j) path = e ∙ sets-eq j path 0 q in
       let z : length p - (A + 1) ≡ length path - length j = omega (arith, ap (λ (x : List ℕ). length x) e, length-sets path 0 j, l) in

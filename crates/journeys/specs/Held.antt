@@ -26,10 +26,14 @@ pub record Holds (s : Sheet) (n : ℕ) (xs : List ℕ) : Type 0 where
   pub room : n * 5 ≤ length xs
   pub rows-are : tableRows n xs ≡ leading s
 
--- on the sheet in the array, whose leading arrivals the table holds, the journey of the front cost f arrives at step A, and the path buffer has room for it
-pub record Layable (lines all since : List ℕ) (n : ℕ) (table : List ℕ) (A : ℕ) (f : Cost) (path : List ℕ) : Type 0 where
+-- on the sheet in the array, whose leading arrivals the table holds, the journey of the front cost f arrives at step A
+pub record Endable (lines all since : List ℕ) (n : ℕ) (table : List ℕ) (A : ℕ) (f : Cost) : Type 0 where
   pub derived : Derived lines all since
   pub holds : Holds (sheetIn lines all) n table
   pub on-front : OnFront (sheetIn lines all) f
   pub arrives-at : A ≡ arrivalOf (sheetIn lines all) f
+
+-- and the path buffer has room for it
+pub record Layable (lines all since : List ℕ) (n : ℕ) (table : List ℕ) (A : ℕ) (f : Cost) (path : List ℕ) : Type 0 where
+  pub ends : Endable lines all since n table A f
   pub room : suc A ≤ length path

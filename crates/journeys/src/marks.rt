@@ -9,8 +9,9 @@ ghost use Rattle.sheet.specs.Lists.{number};
 ghost use Rattle.sheet.specs.Kinds.{kindC};
 ghost use Rattle.sheet.specs.Store.{sheetIn};
 ghost use Rattle.intervals.specs.FirstSteps.{Derived};
+ghost use Rattle.journeys.specs.Held.{Endable};
 ghost use Rattle.journeys.specs.Inner.Lookup.{standing, markAt, standAt};
-ghost use Rattle.journeys.specs.Inner.Marks.{Raised, CrossesBy, CrossesLater, Enterable, Onto, OntoAny, Passable, Endable, MarkedAll, Bared};
+ghost use Rattle.journeys.specs.Inner.Marks.{Raised, CrossesBy, CrossesLater, Enterable, Onto, OntoAny, Passable, MarkedAll, Bared};
 ghost use Rattle.journeys.specs.Laws.Tight.{CrossesInto};
 use crate::lookup::Stand;
 use crate::lookup::row_at;
@@ -87,8 +88,8 @@ fn mark_over(
     ensures { λ _. ⌜ Raised n (now (table .entry)) (now (table .exit)) (b .step .0)
         (λ k. CrossesBy (sheetIn (now (lines .entry)) (now (all .entry))) (standing b) l (standAt (now (table .entry)) k)) ⌝ }
 {
-    let t = Step(b.step.0 - 1);
-    let c = corridor_at(lines, all, l, t);
+    let step = Step(b.step.0 - 1);
+    let c = corridor_at(lines, all, l, step);
     let price = c.cost;
     let h = b.cost;
     if !(c.open & (c.to.0 == b.place.0) & at_most(price, h)) {
@@ -99,18 +100,8 @@ fn mark_over(
         return;
     }
     let cost = less(h, price);
-    let k = waiting_row(
-        lines,
-        all,
-        since,
-        table,
-        n,
-        Stand {
-            place,
-            step: t,
-            cost,
-        },
-    );
+    let a = Stand { place, step, cost };
+    let k = waiting_row(lines, all, since, table, n, a);
     if k < n {
         raise(table, n, k, b.step.0);
     }

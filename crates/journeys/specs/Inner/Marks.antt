@@ -11,12 +11,8 @@ use Rattle.costs.specs.Costs.{Cost, add}
 use Rattle.costs.specs.Moves.{waitOf}
 use Rattle.costs.specs.Priced.{CrossingBy}
 use Rattle.intervals.specs.Intervals.{Run}
-use Rattle.intervals.specs.FirstSteps.{Derived}
 use Rattle.arrivals.specs.Arrivals.{Arrival}
 use Rattle.arrivals.specs.Computed.{arrival}
-use Rattle.journeys.specs.Computed.{arrivalOf}
-use Rattle.journeys.specs.Front.{OnFront}
-use Rattle.journeys.specs.Held.{Holds}
 use Rattle.journeys.specs.Inner.Lookup.{placeAt, markAt, standAt}
 use Rattle.journeys.specs.Inner.Waits.{Rowed}
 use Rattle.journeys.specs.Laws.Exact.{kept, Stays}
@@ -85,13 +81,6 @@ pub record Passable (lines all since : List ℕ) (n : ℕ) (table : List ℕ) (t
 pub record Marks (s : Sheet) (f : Cost) (A n : ℕ) (xs : List ℕ) (t : ℕ) : Type 0 where
   pub sound : (k j : ℕ) → k < n → standAt xs k .step ≤ j → j < markAt xs k → Tight s f A (standAt xs k) j
   pub done : (k j : ℕ) → k < n → t ≤ j → Tight s f A (standAt xs k) j → j < markAt xs k
-
--- on the sheet in the array, whose leading arrivals the table holds, the journey of the front cost f arrives at step A
-pub record Endable (lines all since : List ℕ) (n : ℕ) (table : List ℕ) (A : ℕ) (f : Cost) : Type 0 where
-  pub derived : Derived lines all since
-  pub holds : Holds (sheetIn lines all) n table
-  pub on-front : OnFront (sheetIn lines all) f
-  pub arrives-at : A ≡ arrivalOf (sheetIn lines all) f
 
 -- ys is xs with all marks
 pub record MarkedAll (s : Sheet) (f : Cost) (A n : ℕ) (xs ys : List ℕ) : Type 0 where

@@ -6,18 +6,16 @@ use mathlib.Core.Path.{_≡_, refl, sym, _∙_, ap, subst}
 use mathlib.Core.Logic.{inl, inr}
 use mathlib.Core.Bool.{Bool, true, false}
 use mathlib.Core.List.{List, [], _∷_}
-use Prim.Native.Nat.{ℕ, zero, suc, _+_, _*_, _-_, _≤_, _<_, _/_}
+use Prim.Native.Nat.{ℕ, suc, _+_, _*_, _-_, _≤_, _<_, _/_}
 use native.Mathlib.Omega.{arith}
 use lib.Dec.{leb}
 use lib.ListN.{length, getD, take, drop, replicate, length-append}
 use lib.Seq.{take-at, take-append-seam, getD-at}
 use borrow.Author.Tests.{le-ltb}
 use Rattle.sheet.specs.Lists.{_∈_, number, pick, bind, Lex}
-use Rattle.sheet.specs.Sorting.{Ascending}
 use Rattle.sheet.specs.Sheet.{Sheet, loaded, told, readOf}
 use Rattle.sheet.specs.Calls.{WriteEnd}
 use Rattle.sheet.specs.Laws.Members.{mem-at}
-use Rattle.sheet.specs.Laws.Ascending.{before-all}
 use Rattle.sheet.specs.Laws.Stores.{filled-past}
 use Rattle.sheet.specs.Laws.Judge.{loaded-inj}
 use Rattle.sheet.specs.Laws.RoundTrip.{write-read-answer, write-read-groups, read-write-calls}
@@ -36,21 +34,15 @@ use Rattle.journeys.specs.Laws.Front.{front-on, on-front, front-ascendin
 use Rattle.journeys.specs.Laws.Goal.{selected-earliest}
 use Rattle.arrivals.specs.Laws.Leading.{leading-is, is-leading, leading-ascending}
 use Rattle.journeys.specs.Laws.Searched.{Ready, ready-is, rows-length}
-use Rattle.journeys.specs.Laws.Rows.{table-row}
+use Rattle.journeys.specs.Laws.Rows.{keys-ascend, table-row}
 use Rattle.journeys.specs.Laws.Served.{served, member, list-length, row-listed, listed}
 
--- a member of a list has a number in it; and of an ascending list, the member with the lower number stands before
+-- a member of a list has a number in it
 module _ {A : Type 0} (d : A) where
   position : (g : A) (l : List A) → g ∈ l → (i : ℕ) × (i < length l) × (getD l i d ≡ g)
   position g [] m = absurd m
   position g (x ∷ l) (inl e) = (0, omega arith, sym e)
   position g (x ∷ l) (inr m) = let r = position g l m in (suc (r .0), omega (arith, r .1), r .2)
-
-  pub keys-ascend : (key : A → List ℕ) (l : List A) → Ascending key l → (i j : ℕ) → i < j → j < length l → Lex (key (getD l i d)) (key (getD l j d))
-  keys-ascend key [] a i j h k = absurd (omega arith)
-  keys-ascend key (x ∷ l) a i zero h k = absurd (omega arith)
-  keys-ascend key (x ∷ l) a zero (suc j) h k = before-all key x l (a .0) (a .1) (getD l j d) (mem-at d l j (omega arith))
-  keys-ascend key (x ∷ l) a (suc i) (suc j) h k = keys-ascend key l (a .1) i j (omega arith) (omega arith)
 
 no-costs : (l : List Cost) → length l ≡ 0 → l ≡ []
 no-costs [] e = refl

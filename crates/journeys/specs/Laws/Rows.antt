@@ -9,10 +9,12 @@ use native.Mathlib.Omega.{arith}
 use native.Mathlib.Nat.{zero-mul}
 use native.Mathlib.Numerals.{add-one}
 use lib.Dec.{eqb}
-use lib.ListN.{getD, take, drop}
+use lib.ListN.{length, getD, take, drop}
 use borrow.Author.Tests.{eqb-true, eqb-false}
-use Rattle.sheet.specs.Lists.{_∈_, pick, number, numbersFrom, rows, keep, filter}
-use Rattle.sheet.specs.Laws.Members.{filter-mem, map-mem, mem-map, mem-left, mem-right, getD-map}
+use Rattle.sheet.specs.Lists.{_∈_, pick, number, numbersFrom, rows, keep, filter, Lex}
+use Rattle.sheet.specs.Sorting.{Ascending}
+use Rattle.sheet.specs.Laws.Ascending.{before-all}
+use Rattle.sheet.specs.Laws.Members.{mem-at, filter-mem, map-mem, mem-map, mem-left, mem-right, getD-map}
 use Rattle.sheet.specs.Laws.Rows.{rows-count, rows-at}
 use Rattle.costs.specs.Costs.{Cost, figures}
 use Rattle.costs.specs.Computed.{sameb}
@@ -24,6 +26,14 @@ use Rattle.arrivals.specs.Laws.Leading.{arrival-path}
 use Rattle.arrivals.specs.Rows.{costAt, rowAt}
 use Rattle.journeys.specs.Held.{rowOf, tableRows}
 use Rattle.journeys.specs.Inner.{isGoalRow, goalRows, costsOf, firstStep}
+
+-- of an ascending list, the member with the lower number stands before
+module _ {A : Type 0} (d : A) where
+  pub keys-ascend : (key : A → List ℕ) (l : List A) → Ascending key l → (i j : ℕ) → i < j → j < length l → Lex (key (getD l i d)) (key (getD l j d))
+  keys-ascend key [] a i j h k = absurd (omega arith)
+  keys-ascend key (x ∷ l) a i zero h k = absurd (omega arith)
+  keys-ascend key (x ∷ l) a zero (suc j) h k = before-all key x l (a .0) (a .1) (getD l j d) (mem-at d l j (omega arith))
+  keys-ascend key (x ∷ l) a (suc i) (suc j) h k = keys-ascend key l (a .1) i j (omega arith) (omega arith)
 
 -- row k of the table, by the table's numbers
 pub rowAt-is : (xs : List ℕ) (k : ℕ) → rowOf (row 5 xs k) ≡ rowAt xs k

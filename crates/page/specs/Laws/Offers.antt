@@ -68,7 +68,7 @@ module _ {lines all since table : List ℕ} {n : ℕ} {row out : List ℕ} {at :
   pub printable-lays : (g : Cost) → g ≡ costIn row → (path : List ℕ) → length path ≡ 256 → Layable lines all since n table (number row 3) g path
   printable-lays g e path z =
       subst (λ (h : Cost). Layable lines all since n table (number row 3) h path) (sym e)
-      (record { derived = p .derived; holds = p .holds; on-front = p .on-front; arrives-at = arrives; room = omega (arith, printable-short, z) })
+      (record { ends = record { derived = p .derived; holds = p .holds; on-front = p .on-front; arrives-at = arrives }; room = omega (arith, printable-short, z) })
 
   both : length (journeyLines sheet (costIn row)) ≡ length (printed mostPrinted 74 row) + length (printed mostPrinted 80 path-of)
   unfolding journeyLines

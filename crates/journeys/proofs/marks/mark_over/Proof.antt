@@ -11,8 +11,8 @@ use borrow.Author.Needs.{needs}
 use Rattle.journeys.proofs.marks.mark_over.Statement.{statement}
 use Rattle.journeys.proofs.marks.mark_over.Tie as tie
 
-sub-t16 : tie.Need-sub-t16
-sub-t16 c = c .before .before .before .before .before .pre .0 .moved
+sub-t17 : tie.Need-sub-t17
+sub-t17 c = c .before .before .before .before .before .pre .0 .moved
 
 corridor-at-requires : tie.Need-corridor-at-requires
 corridor-at-requires c κs = (some-derived (c .before .before .before .before .before .pre .0 .rowed .derived), c .before .before .before .before .before .pre .1)
@@ -65,7 +65,7 @@ pub mark-over-spec : {M : Type 1} → statement M
 mark-over-spec =
     tie.close
     (tie.spec
-    sub-t16
+    sub-t17
     corridor-at-requires
     at-most-requires
     returns

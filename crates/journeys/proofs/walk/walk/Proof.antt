@@ -11,7 +11,7 @@ use Rattle.sheet.specs.Laws.Store.{store-length, head-number}
 use Rattle.costs.specs.Costs.{Cost}
 use Rattle.journeys.specs.Inner.Lookup.{standing}
 use Rattle.journeys.proofs.Tightness.{end-day}
-use Rattle.journeys.proofs.Walking.{Guided, CameTo, come-start, come-on, come-end, begins, endable, rowed, led, bare-again, next-step, walkable}
+use Rattle.journeys.proofs.Walking.{Guided, CameTo, come-start, come-on, come-end, begins, rowed, led, bare-again, next-step, walkable}
 use borrow.Author.Needs.{needs}
 use Rattle.journeys.proofs.walk.walk.Statement.{statement}
 use Rattle.journeys.proofs.walk.walk.Tie as tie
@@ -24,16 +24,16 @@ abbrev μ-loop : tie.MeasureT-loop
 μ-loop lines all since table n arrival path₀ at₀ path at = arrival .0 - at .step .0
 
 mark-ways-requires : tie.Need-mark-ways-requires Inv-loop μ-loop
-mark-ways-requires c κs = endable (c .before .before .before .before .before .before .pre)
+mark-ways-requires c κs = c .before .before .before .before .before .before .pre .ends
 
 shared-slice-read-t14 : tie.Need-shared-slice-read-t14 Inv-loop μ-loop
-shared-slice-read-t14 c = omega (arith, store-length (c .before .before .before .before .before .before .before .before .before .before .pre .derived .store))
+shared-slice-read-t14 c = omega (arith, store-length (c .before .before .before .before .before .before .before .before .before .before .pre .ends .derived .store))
 
 slice-write-path : tie.Need-slice-write-path Inv-loop μ-loop
 slice-write-path c = omega (arith, c .before .before .before .before .before .before .before .before .before .before .pre .room)
 
 loop-holds : tie.Need-loop-holds Inv-loop μ-loop
-loop-holds c = (omega arith, refl, omega (arith, c .before .before .before .before .before .before .before .before .before .before .pre .room, length-set (c .before .before .before .before .before .before .before .before .before .before .args .path .now) 0 (number (c .before .before .before .before .before .before .before .before .before .before .args .all .now) 2)), λ f k. come-start k (head-number (c .before .before .before .before .before .before .before .before .before .before .pre .derived .store) 2 (omega arith)) refl)
+loop-holds c = (omega arith, refl, omega (arith, c .before .before .before .before .before .before .before .before .before .before .pre .room, length-set (c .before .before .before .before .before .before .before .before .before .before .args .path .now) 0 (number (c .before .before .before .before .before .before .before .before .before .before .args .all .now) 2)), λ f k. come-start k (head-number (c .before .before .before .before .before .before .before .before .before .before .pre .ends .derived .store) 2 (omega arith)) refl)
 
 next-stand-requires : tie.Need-next-stand-requires Inv-loop μ-loop
 next-stand-requires c κs =
@@ -44,7 +44,7 @@ cast-path : tie.Need-cast-path Inv-loop μ-loop
 cast-path c = search needs
 
 mul-path : tie.Need-mul-path Inv-loop μ-loop
-mul-path c = omega (arith, next-step (c .before .next-stand .ensures), end-day (endable (c .before .before .before .before .before .before .before .before .before .before .before .before .before .before .before .before .before .pre)))
+mul-path c = omega (arith, next-step (c .before .next-stand .ensures), end-day (c .before .before .before .before .before .before .before .before .before .before .before .before .before .before .before .before .before .pre .ends))
 
 slice-write-path-2 : tie.Need-slice-write-path-2 Inv-loop μ-loop
 slice-write-path-2 c = omega (arith, next-step (c .before .next-stand .ensures), c .before .before .before .before .before .before .loop .inv .2)
@@ -72,7 +72,7 @@ returns : tie.Need-returns Inv-loop μ-loop
 returns c =
     let l = c .before .before .before .before .before .before .before .loop in
     let m = led (c .before .before .before .before .before .before .before .before .before .before .before .before .before .before .before .before .before .before .pre) (c .before .before .before .before .before .before .before .before .before .before .before .mark-ways .ensures) in
-    let e = head-number (c .before .before .before .before .before .before .before .before .before .before .before .before .before .before .before .before .before .before .pre .derived .store) 2 (omega arith) in
+    let e = head-number (c .before .before .before .before .before .before .before .before .before .before .before .before .before .before .before .before .before .before .pre .ends .derived .store) 2 (omega arith) in
     (bare-again (c .before .before .before .before .before .before .before .before .before .before .before .before .before .before .before .before .before .before .pre) (c .before .before .before .before .before .before .before .before .before .before .before .mark-ways .ensures .rows) (c .before .before .clear-marks .ensures), come-end m (l .inv .3 _ m) (omega (arith, l .inv .0)) ∙ begins m (c .before .before .before .before .before .before .before .before .before .before .before .before .before .before .before .before .before .before .args .path .now) e)
 
 pub walk-spec : {M : Type 1} → statement M
