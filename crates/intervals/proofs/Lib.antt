@@ -1,3 +1,4 @@
 pub mod Covers
 pub mod Tables
 pub mod Fill
+pub mod Staying

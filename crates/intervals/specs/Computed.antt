@@ -2,8 +2,8 @@
 -- (`runb-true`, `intervals-are`, `are-intervals`, `since-is`, `is-since`).
 use mathlib.Core.Bool.{Bool, _&&_}
 use mathlib.Core.List.{List, [], _∷_, _++_, map}
-use Prim.Native.Nat.{ℕ, zero, suc, _-_}
-use lib.Dec.{eqb}
+use Prim.Native.Nat.{ℕ, zero, suc, _+_, _-_}
+use lib.Dec.{eqb, leb}
 use Rattle.sheet.specs.Lists.{pick, filter}
 use Rattle.sheet.specs.Sheet.{Sheet, steps}
 use Rattle.intervals.specs.Intervals.{freeb}
@@ -12,6 +12,11 @@ use Rattle.intervals.specs.Intervals.{freeb}
 abbrev pub runb : Sheet → ℕ → ℕ → ℕ → Bool
 runb s v t zero = freeb s v t
 runb s v t (suc n) = let r = runb s v (suc t) n in freeb s v t && r
+
+-- v is free from t to n steps after it, no later than the step `last`
+unfoldable pub stayb : Sheet → ℕ → ℕ → ℕ → ℕ → Bool
+unfolding freeb
+stayb s v last n t = let r = runb s v t n in leb (t + n) last && r
 
 -- the first step of the free run that holds t, where v is free at t
 unfoldable pub firstOf : Sheet → ℕ → ℕ → ℕ

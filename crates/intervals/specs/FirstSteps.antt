@@ -2,13 +2,14 @@
 use mathlib.Core.Path.{_≡_}
 use mathlib.Core.List.{List}
 use Prim.Native.Nat.{ℕ, _+_, _*_, _≤_, _<_, _%_}
+use lib.Dec.{eqb}
 use lib.ListN.{length}
 use Rattle.sheet.specs.Lists.{_∈_, number}
 use Rattle.sheet.specs.Kinds.{width, room, kindO}
 use Rattle.sheet.specs.Sheet.{Sheet, placeOf, last}
 use Rattle.sheet.specs.Calls.{groupRows}
 use Rattle.sheet.specs.Store.{StoreOf, SomeStore, partOf}
-use Rattle.intervals.specs.Computed.{sinceOf}
+use Rattle.intervals.specs.Computed.{stayb, sinceOf}
 
 -- whole lines, at most 256, of places below 64 and steps up to 255
 pub record ValidGroup (occupancies : List ℕ) : Type 0 where
@@ -21,6 +22,18 @@ pub record ValidGroup (occupancies : List ℕ) : Type 0 where
 pub record SinceTable (occupancies since : List ℕ) : Type 0 where
   pub size : length since ≡ 16384
   pub of : (s : Sheet) → s .occupancies ≡ groupRows kindO occupancies → (v t : ℕ) → v < 64 → t < 256 → number since (v * 256 + t) ≡ sinceOf s v t
+
+-- a table of first steps, a place, a last step, and so many steps
+pub record Stayable (since : List ℕ) (v last n : ℕ) : Type 0 where
+  pub size : length since ≡ 16384
+  pub place : v < 64
+  pub day : last ≤ 255
+  pub short : n ≤ 255
+
+-- r tells for each step by 1 that v is free from it to n steps after it, no later than `last`, on every sheet whose first steps the table holds
+pub record StayTable (since : List ℕ) (v last n : ℕ) (r : List ℕ) : Type 0 where
+  pub of : (occupancies : List ℕ) → SinceTable occupancies since → (s : Sheet) → s .occupancies ≡ groupRows kindO occupancies
+      → (t : ℕ) → eqb (number r t) 1 ≡ stayb s v last n t
 
 -- a valid sheet stands in the array, and the table holds the first steps of its free runs
 pub record Derived (lines all since : List ℕ) : Type 0 where

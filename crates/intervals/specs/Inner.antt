@@ -5,7 +5,7 @@ use mathlib.Core.List.{List}
 use Prim.Native.Nat.{ℕ, _+_, _*_, _≤_, _<_}
 use lib.Dec.{leb, eqb}
 use lib.ListN.{length}
-use Rattle.sheet.specs.Lists.{number}
+use Rattle.sheet.specs.Lists.{pick, number}
 
 -- line k occupies place v at step t
 abbrev pub coversb : List ℕ → ℕ → ℕ → ℕ → Bool
@@ -14,6 +14,10 @@ coversb l v t k = eqb (number l (k * 3)) v && leb (number l (k * 3 + 1)) t && le
 -- the entry of place v and step t
 abbrev pub entry : List ℕ → ℕ → ℕ → ℕ
 entry since v t = number since (v * 256 + t)
+
+-- 1 where n steps after t is no later than `last`, and the free run of v that holds it begins at t or before
+abbrev pub stayBy : List ℕ → ℕ → ℕ → ℕ → ℕ → ℕ
+stayBy since v last n t = pick (leb (t + n) last && leb (entry since v (t + n)) t) 1 0
 
 pub record Blank (since : List ℕ) : Type 0 where
   pub every : (i : ℕ) → i < 16384 → number since i ≡ 0

@@ -14,6 +14,8 @@ use sheet::kinds::FIRST_OCCUPANCY;
 use sheet::kinds::O_LINE;
 use sheet::kinds::OCCUPANCY;
 
+pub mod stays; // stays.rt: from which steps a place stays free for a while
+
 // Sets every entry to 0.
 fn clear(since: &mut [u16])
     requires { ⌜ length (now since) ≡ 16384 ⌝ }

@@ -9,13 +9,13 @@ use mathlib.Core.List.{[], _∷_, _++_, map}
 use Prim.Native.Nat.{ℕ, zero, suc, _+_, _-_, _≤_, _<_}
 use native.Mathlib.Omega.{arith}
 use lib.Dec.{eqb, leb}
-use borrow.Author.Tests.{eqb-true, eq-eqb, eqb-false, leb-true, leb-false}
+use borrow.Author.Tests.{eqb-true, eq-eqb, eqb-false, leb-true, leb-false, le-leb}
 use Rattle.sheet.specs.Lists.{_∈_, pick, filter}
 use Rattle.sheet.specs.Sheet.{Sheet, steps}
 use Rattle.sheet.specs.Laws.Order.{and-true, true-and}
 use Rattle.sheet.specs.Laws.Members.{mem-left, mem-right, mem-append, filter-mem, mem-filter, map-mem, mem-map}
 use Rattle.intervals.specs.Intervals.{freeb, Free, Run, Interval, Together}
-use Rattle.intervals.specs.Computed.{runb, firstOf, lastOf, Span, beginsb, stepsTo, intervalsOf, sinceOf}
+use Rattle.intervals.specs.Computed.{runb, stayb, firstOf, lastOf, Span, beginsb, stepsTo, intervalsOf, sinceOf}
 
 pub run-one : (s : Sheet) (v t : ℕ) → Free s v t → Run s v t t
 run-one s v t f i p q = let e : i ≡ t = omega arith in rw e f
@@ -178,6 +178,14 @@ pub run-runb : (s : Sheet) (v t n : ℕ) → Run s v t (t + n) → runb s v t n 
 run-runb s v t zero r = r t (omega arith) (omega arith)
 run-runb s v t (suc n) r =
     true-and (freeb s v t) (runb s v (suc t) n) (r t (omega arith) (omega arith)) (run-runb s v (suc t) n (λ i p q. r i (omega arith) (omega arith)))
+
+pub stayb-true : (s : Sheet) (v last n t : ℕ) → stayb s v last n t ≡ true → (t + n ≤ last) × Run s v t (t + n)
+unfolding stayb
+stayb-true s v last n t h = let q = and-true (leb (t + n) last) (runb s v t n) h in (leb-true (t + n) last (q .0), runb-true s v t n (q .1))
+
+pub stays-stayb : (s : Sheet) (v last n t : ℕ) → t + n ≤ last → Run s v t (t + n) → stayb s v last n t ≡ true
+unfolding stayb
+stays-stayb s v last n t h r = true-and (leb (t + n) last) (runb s v t n) (le-leb (t + n) last h) (run-runb s v t n r)
 
 -- the list of a place's safe intervals
 steps-mem : (n t : ℕ) → t ≤ n → t ∈ stepsTo n

@@ -7,7 +7,7 @@ use borrow.Author.Tests.{not-true, not-false}
 use Rattle.sheet.specs.Store.{sheetIn}
 use Rattle.sheet.specs.Laws.Store.{store-length, head-number}
 use Rattle.journeys.specs.Laws.Searched.{Ready, search-full, search-ready}
-use Rattle.journeys.proofs.Unloading.{countable, counting-of}
+use Rattle.journeys.proofs.Unloading.{countable}
 use Rattle.journeys.proofs.Ends.{front-eight}
 use Rattle.journeys.proofs.calls.front_of.Statement.{statement}
 use Rattle.journeys.proofs.calls.front_of.Tie as tie
@@ -56,7 +56,7 @@ same-length-3 c = search needs
 returns-2 : tie.Need-returns-2
 returns-2 c =
     c .before .before .before .before .offer-front .ensures .of _ _ (ready (c .before .before .before .before .before .before .before .before .before .before)) (head-number (c .before .before .before .before .before .before .before .before .before .before .before .before .before .before .before .before .before .before .before .before .before .pre .store) 3 (omega arith))
-    (counting-of (c .before .before .before .before .before .before .before .before .before .before .before .before .before .before .before .before .before .before .before .before .before .pre) (c .before .before .before .before .before .before .before .before .before .counting-of .ensures))
+    (c .before .before .before .before .before .before .before .before .before .counting-of .ensures .of _ (c .before .before .before .before .before .before .before .before .before .before .before .before .before .before .before .before .before .before .before .before .before .pre))
 
 pub front-of-spec : {M : Type 1} → statement M
 front-of-spec =

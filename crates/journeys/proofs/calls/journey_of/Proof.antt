@@ -13,7 +13,7 @@ use Rattle.sheet.specs.Store.{sheetIn}
 use Rattle.sheet.specs.Laws.Store.{store-length, head-number}
 use Rattle.journeys.specs.Calls.{journeyEnd}
 use Rattle.journeys.specs.Laws.Searched.{Ready, search-full, search-ready}
-use Rattle.journeys.proofs.Unloading.{countable, counting-of}
+use Rattle.journeys.proofs.Unloading.{countable}
 use Rattle.journeys.proofs.Ends.{journey-eight, journey-ten, journey-eleven, journey-end, layable}
 use Rattle.journeys.proofs.calls.journey_of.Statement.{statement}
 use Rattle.journeys.proofs.calls.journey_of.Tie as tie
@@ -62,7 +62,7 @@ returns-2 : tie.Need-returns-2
 returns-2 c =
     let k = c .before .before .before .before .before .before .before .before .nth-front in
     let r = c .before .before .refuse-searched in
-    journey-ten (ready (c .before .before .before .before .before .before .before .before .before .before .before .before .before)) (head-number (c .before .before .before .before .before .before .before .before .before .before .before .before .before .before .before .before .before .before .before .before .before .before .before .before .pre .store) 3 (omega arith)) (counting-of (c .before .before .before .before .before .before .before .before .before .before .before .before .before .before .before .before .before .before .before .before .before .before .before .before .pre) (c .before .before .before .before .before .before .before .before .before .before .before .before .counting-of .ensures)) (k .ensures .numbered) (c .before .before .before .before .before .before .before .before .before .before .before .before .before .before .before .before .before .before .before .before .before .before .before .before .args .path .now)
+    journey-ten (ready (c .before .before .before .before .before .before .before .before .before .before .before .before .before)) (head-number (c .before .before .before .before .before .before .before .before .before .before .before .before .before .before .before .before .before .before .before .before .before .before .before .before .pre .store) 3 (omega arith)) (c .before .before .before .before .before .before .before .before .before .before .before .before .counting-of .ensures .of _ (c .before .before .before .before .before .before .before .before .before .before .before .before .before .before .before .before .before .before .before .before .before .before .before .before .pre)) (k .ensures .numbered) (c .before .before .before .before .before .before .before .before .before .before .before .before .before .before .before .before .before .before .before .before .before .before .before .before .args .path .now)
     (r .ensures .0) (r .ensures .1 ∙ ap (λ (xs : List ℕ). filled (length xs) []) (k .ensures .kept)) (not-true (k .result .found) (c .before .before .before .before .if2 .taken))
 
 cast-if3 : tie.Need-cast-if3
@@ -78,14 +78,14 @@ returns-3 : tie.Need-returns-3
 returns-3 c =
     let k = c .before .before .before .before .before .before .before .before .before .before .before .nth-front in
     let r = c .before .before .refuse-searched2 in
-    journey-eleven (ready (c .before .before .before .before .before .before .before .before .before .before .before .before .before .before .before .before)) (head-number (c .before .before .before .before .before .before .before .before .before .before .before .before .before .before .before .before .before .before .before .before .before .before .before .before .before .before .before .pre .store) 3 (omega arith)) (counting-of (c .before .before .before .before .before .before .before .before .before .before .before .before .before .before .before .before .before .before .before .before .before .before .before .before .before .before .before .pre) (c .before .before .before .before .before .before .before .before .before .before .before .before .before .before .before .counting-of .ensures)) (k .ensures .numbered) (c .before .before .before .before .before .before .before .before .before .before .before .before .before .before .before .before .before .before .before .before .before .before .before .before .before .before .before .args .path .now)
+    journey-eleven (ready (c .before .before .before .before .before .before .before .before .before .before .before .before .before .before .before .before)) (head-number (c .before .before .before .before .before .before .before .before .before .before .before .before .before .before .before .before .before .before .before .before .before .before .before .before .before .before .before .pre .store) 3 (omega arith)) (c .before .before .before .before .before .before .before .before .before .before .before .before .before .before .before .counting-of .ensures .of _ (c .before .before .before .before .before .before .before .before .before .before .before .before .before .before .before .before .before .before .before .before .before .before .before .before .before .before .before .pre)) (k .ensures .numbered) (c .before .before .before .before .before .before .before .before .before .before .before .before .before .before .before .before .before .before .before .before .before .before .before .before .before .before .before .args .path .now)
     (r .ensures .0) (r .ensures .1 ∙ ap (λ (xs : List ℕ). filled (length xs) []) (k .ensures .kept)) (not-false (k .result .found) (c .before .before .before .before .before .before .before .if2 .left)) (c .before .before .before .before .if3 .taken)
 
 lay-path-requires : tie.Need-lay-path-requires
 lay-path-requires c κs =
     let k = c .before .before .before .before .before .before .before .before .before .before .nth-front in
     rw (k .ensures .kept)
-    (layable (c .before .before .before .before .before .before .before .before .before .before .before .before .before .before .before .before .before .before .before .before .before .before .before .before .before .before .pre) (ready (c .before .before .before .before .before .before .before .before .before .before .before .before .before .before .before)) (head-number (c .before .before .before .before .before .before .before .before .before .before .before .before .before .before .before .before .before .before .before .before .before .before .before .before .before .before .pre .store) 3 (omega arith)) (counting-of (c .before .before .before .before .before .before .before .before .before .before .before .before .before .before .before .before .before .before .before .before .before .before .before .before .before .before .pre) (c .before .before .before .before .before .before .before .before .before .before .before .before .before .before .counting-of .ensures)) (k .ensures .numbered) (c .before .before .before .before .before .before .before .before .before .before .before .before .before .before .before .before .before .before .before .before .before .before .before .before .before .before .args .path .now) (not-false (k .result .found) (c .before .before .before .before .before .before .if2 .left)) (c .before .before .before .if3 .left))
+    (layable (c .before .before .before .before .before .before .before .before .before .before .before .before .before .before .before .before .before .before .before .before .before .before .before .before .before .before .pre) (ready (c .before .before .before .before .before .before .before .before .before .before .before .before .before .before .before)) (head-number (c .before .before .before .before .before .before .before .before .before .before .before .before .before .before .before .before .before .before .before .before .before .before .before .before .before .before .pre .store) 3 (omega arith)) (c .before .before .before .before .before .before .before .before .before .before .before .before .before .before .counting-of .ensures .of _ (c .before .before .before .before .before .before .before .before .before .before .before .before .before .before .before .before .before .before .before .before .before .before .before .before .before .before .pre)) (k .ensures .numbered) (c .before .before .before .before .before .before .before .before .before .before .before .before .before .before .before .before .before .before .before .before .before .before .before .before .before .before .args .path .now) (not-false (k .result .found) (c .before .before .before .before .before .before .if2 .left)) (c .before .before .before .if3 .left))
 
 same-length-4 : tie.Need-same-length-4
 same-length-4 c = search needs
@@ -98,7 +98,7 @@ returns-4 c =
     let k = c .before .before .before .before .before .before .before .before .before .before .before .before .before .before .before .nth-front in
     let l = c .before .before .before .before .lay-path in
     ap (λ (xs : List ℕ). journeyEnd (record { refusal = 0; line = 0; cost = k .result .cost; arrival = k .result .step .0 }) xs (l .last .1 .1 .1 .1 .1 .1 .1 .0)) (l .ensures .0 ∙ k .ensures .kept)
-    ∙ journey-end (ready (c .before .before .before .before .before .before .before .before .before .before .before .before .before .before .before .before .before .before .before .before)) (head-number (c .before .before .before .before .before .before .before .before .before .before .before .before .before .before .before .before .before .before .before .before .before .before .before .before .before .before .before .before .before .before .before .pre .store) 3 (omega arith)) (counting-of (c .before .before .before .before .before .before .before .before .before .before .before .before .before .before .before .before .before .before .before .before .before .before .before .before .before .before .before .before .before .before .before .pre) (c .before .before .before .before .before .before .before .before .before .before .before .before .before .before .before .before .before .before .before .counting-of .ensures)) (k .ensures .numbered) (c .before .before .before .before .before .before .before .before .before .before .before .before .before .before .before .before .before .before .before .before .before .before .before .before .before .before .before .before .before .before .before .args .path .now) (not-false (k .result .found) (c .before .before .before .before .before .before .before .before .before .before .before .if2 .left)) (c .before .before .before .before .before .before .before .before .if3 .left) (l .ensures .1)
+    ∙ journey-end (ready (c .before .before .before .before .before .before .before .before .before .before .before .before .before .before .before .before .before .before .before .before)) (head-number (c .before .before .before .before .before .before .before .before .before .before .before .before .before .before .before .before .before .before .before .before .before .before .before .before .before .before .before .before .before .before .before .pre .store) 3 (omega arith)) (c .before .before .before .before .before .before .before .before .before .before .before .before .before .before .before .before .before .before .before .counting-of .ensures .of _ (c .before .before .before .before .before .before .before .before .before .before .before .before .before .before .before .before .before .before .before .before .before .before .before .before .before .before .before .before .before .before .before .pre)) (k .ensures .numbered) (c .before .before .before .before .before .before .before .before .before .before .before .before .before .before .before .before .before .before .before .before .before .before .before .before .before .before .before .before .before .before .before .args .path .now) (not-false (k .result .found) (c .before .before .before .before .before .before .before .before .before .before .before .if2 .left)) (c .before .before .before .before .before .before .before .before .if3 .left) (l .ensures .1)
 
 pub journey-of-spec : {M : Type 1} → statement M
 journey-of-spec =

@@ -1,58 +1,31 @@
--- `journeys::counting::counting_of` meets its contract. The loop's invariant: the first t steps are told.
--- The measure is what is left of the steps.
+-- `journeys::counting::counting_of` meets its contract: the goal, the last step and the time to unload are numbers of the S line.
 -- Assumes nothing.
-use mathlib.Core.Path.{refl}
-use Prim.Native.Nat.{_-_, _≤_}
-use native.Mathlib.Omega.{arith}
 use borrow.Author.Needs.{needs}
-use Rattle.costs.specs.Laws.Figures.{Stored, stored-none, stored-more, stored-all}
-use Rattle.journeys.specs.Inner.Counting.{countedBy}
+use Rattle.journeys.proofs.Unloading.{counting-in}
 use Rattle.journeys.proofs.counting.counting_of.Statement.{statement}
 use Rattle.journeys.proofs.counting.counting_of.Tie as tie
 
-abbrev Inv-loop : tie.InvT-loop
-Inv-loop all since counting₀ t₀ counting t = (t ≤ 256) × Stored 256 (countedBy all since) t counting
+shared-slice-read-t4 : tie.Need-shared-slice-read-t4
+shared-slice-read-t4 c = search needs
 
-abbrev μ-loop : tie.MeasureT-loop
-μ-loop all since counting₀ t₀ counting t = 256 - t
+shared-slice-read-t7 : tie.Need-shared-slice-read-t7
+shared-slice-read-t7 c = search needs
 
-loop-holds : tie.Need-loop-holds Inv-loop μ-loop
-loop-holds c = (omega arith, stored-none 256 _ _ refl)
+shared-slice-read-stays : tie.Need-shared-slice-read-stays
+shared-slice-read-stays c = search needs
 
-cast-t7 : tie.Need-cast-t7 Inv-loop μ-loop
-cast-t7 c = search needs
+stays-requires : tie.Need-stays-requires
+stays-requires c κs = search needs
 
-counted-requires : tie.Need-counted-requires Inv-loop μ-loop
-counted-requires c κs = (c .before .before .before .before .pre, omega arith)
-
-array-write-counting : tie.Need-array-write-counting Inv-loop μ-loop
-array-write-counting c = search needs
-
-add-t : tie.Need-add-t Inv-loop μ-loop
-add-t c = search needs
-
-loop-less : tie.Need-loop-less Inv-loop μ-loop
-loop-less c = search needs
-
-loop-again : tie.Need-loop-again Inv-loop μ-loop
-loop-again c =
-    let a = c .before .before .before .before .before .args in
-    (omega arith, rw (c .counted .ensures) (stored-more 256 (countedBy (a .all .now) (a .since .now)) (c .before .before .loop .t) (c .before .before .loop .counting) (omega arith) (c .before .before .loop .inv .1)))
-
-returns : tie.Need-returns Inv-loop μ-loop
-returns c = stored-all 256 _ (c .before .loop .t) _ (omega arith) (c .before .loop .inv .1)
+returns : tie.Need-returns
+returns c = counting-in (c .stays .ensures)
 
 pub counting-of-spec : {M : Type 1} → statement M
 counting-of-spec =
     tie.close
     (tie.spec
-    Inv-loop
-    μ-loop
-    loop-holds
-    cast-t7
-    counted-requires
-    array-write-counting
-    add-t
-    loop-less
-    loop-again
+    shared-slice-read-t4
+    shared-slice-read-t7
+    shared-slice-read-stays
+    stays-requires
     returns)
