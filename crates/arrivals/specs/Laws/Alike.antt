@@ -2,7 +2,7 @@
 -- the horizon. So the goal plays no part, and a step past T has no effect.
 use mathlib.Core.Path.{_≡_, refl, sym, _∙_, subst}
 use mathlib.Core.List.{List}
-use Prim.Native.Nat.{ℕ, suc, _-_, _≤_}
+use Prim.Native.Nat.{ℕ, suc, _-_, _≤_, _<_}
 use native.Mathlib.Omega.{arith}
 use lib.ListN.{set}
 use lib.Seq.{getD-set-other}
@@ -71,30 +71,33 @@ leading-alike s r h =
     (λ a m. is-leading r a (alike-leading s r h a (leading-is s a m)))
     (λ a m. is-leading s a (alike-leading r s (alike-back s r h) a (leading-is r a m)))
 
--- the sheet with another goal
-unfoldable pub withGoal : Sheet → ℕ → Sheet
-withGoal s g = record { head = set (s .head) 3 g; corridors = s .corridors; occupancies = s .occupancies }
+-- the sheet with another goal and another time to unload there
+unfoldable pub withGoal : Sheet → ℕ → ℕ → Sheet
+withGoal s g u = record { head = set (set (s .head) 3 g) 7 u; corridors = s .corridors; occupancies = s .occupancies }
 
 same-crossing : (s r : Sheet) → s .corridors ≡ r .corridors → (u v t : ℕ) (c : Cost) → Crossing s u v t c → Crossing r u v t c
 same-crossing s r e u v t c x = record { line = x .line; listed = subst (λ (l : List (List ℕ)). x .line ∈ l) e (x .listed); leaves = x .leaves; enters = x .enters; price = x .price }
 
-goal-alike : (s : Sheet) (g : ℕ) → Alike (withGoal s g) s
+goal-alike : (s : Sheet) (g u : ℕ) → Alike (withGoal s g u) s
 unfolding withGoal waitOf freeb
-goal-alike s g =
+goal-alike s g u =
     record {
-      starts = other 2 (λ e. omega arith);
-      within = record { horizon = other 1 (λ e. omega arith); free = λ v t l. refl };
-      wait = λ v. (let a = other 4 (λ e. omega arith) in let b = other 5 (λ e. omega arith) in let c = other 6 (λ e. omega arith) in cc);
-      forth = same-crossing (withGoal s g) s refl;
-      back = same-crossing s (withGoal s g) refl;
+      starts = other 2 (λ e. omega arith) (omega arith);
+      within = record { horizon = other 1 (λ e. omega arith) (omega arith); free = λ v t l. refl };
+      wait = λ v. (let a = wait 4 (omega arith) (omega arith) in let b = wait 5 (omega arith) (omega arith) in let c = wait 6 (omega arith) (omega arith) in cc);
+      forth = same-crossing (withGoal s g u) s refl;
+      back = same-crossing s (withGoal s g u) refl;
     }
   where
-    other : (i : ℕ) → (i ≡ 3 → ⊥) → number (set (s .head) 3 g) i ≡ number (s .head) i
-    other i n = getD-set-other (s .head) 3 i g 0 n
+    other : (i : ℕ) → (i ≡ 3 → ⊥) → i < 7 → number (set (set (s .head) 3 g) 7 u) i ≡ number (s .head) i
+    other i n h = getD-set-other (set (s .head) 3 g) 7 i u 0 (λ e. omega arith) ∙ getD-set-other (s .head) 3 i g 0 n
+
+    wait : (i : ℕ) → 4 ≤ i → i < 7 → number (set (set (s .head) 3 g) 7 u) i ≡ number (s .head) i
+    wait i l h = other i (λ e. omega arith) h
 
 -- the goal plays no part
-pub leading-any-goal : (s : Sheet) (g : ℕ) → leading (withGoal s g) ≡ leading s
-leading-any-goal s g = leading-alike (withGoal s g) s (goal-alike s g)
+pub leading-any-goal : (s : Sheet) (g u : ℕ) → leading (withGoal s g u) ≡ leading s
+leading-any-goal s g u = leading-alike (withGoal s g u) s (goal-alike s g u)
 
 -- a step past T has no effect
 pub horizon-alike : (s : Sheet) → Alike (withinHorizon s) s
