@@ -1,4 +1,4 @@
--- The sheets to try of document 01 that are marked with *: from the bytes on standard input to the bytes printed, one table, one theorem.
+-- The sheets to try of document 01 that are marked with *, and sheet A with time to unload (document 02, E2): from the bytes on standard input to the bytes printed, one table, one theorem.
 use mathlib.Core.Path.{_≡_, refl}
 use mathlib.Core.List.{List, [], _∷_, map}
 use Prim.Native.String.{String, _++_}
@@ -38,6 +38,14 @@ table =
     ∷ shows "S,5,4,0,4,1,0,0,0\nC,0,1,1,0,0\nC,0,3,1,0,0\nC,1,2,1,0,0\nC,2,3,0,0,0\nC,3,4,0,0,0\nO,4,0,3\n" "F,1,6\nJ,2,0,0,4\nP,0,1,2,3,4\n"
     -- D: path 0,1,4,5, by E9 of document 02
     ∷ shows "S,6,3,0,5,0,0,0,0\nC,0,1,1,0,0\nC,0,2,1,0,0\nC,1,4,1,0,0\nC,2,3,1,0,0\nC,3,5,1,0,0\nC,4,5,1,0,0\n" "F,1,6\nJ,3,0,0,3\nP,0,1,4,5\n"
+    -- A with time to unload, T 6: 2 ends at 6 for the arrival at 4, 3 would end at 7
+    ∷ shows ("S,4,6,0,3,1,0,0,2\n" ++ corridorsA ++ "O,1,1,2\n") "F,2,5\nJ,2,6,0,2\nP,0,2,3\nJ,4,0,8,4\nP,0,0,0,1,3\n"
+    ∷ shows ("S,4,6,0,3,1,0,0,3\n" ++ corridorsA ++ "O,1,1,2\n") "F,1,5\nJ,2,6,0,2\nP,0,2,3\n"
+    -- the goal occupied right after the first arrival: a later and dearer one counts
+    ∷ shows ("S,4,6,0,3,1,0,0,1\n" ++ corridorsA ++ "O,1,1,2\nO,3,3,3\n") "F,2,6\nJ,4,0,8,4\nP,0,0,0,1,3\nJ,4,6,0,4\nP,0,0,0,2,3\n"
+    -- the goal free at one step: a journey, and none where unloading takes a step
+    ∷ shows ("S,4,6,0,3,1,0,0,0\n" ++ corridorsA ++ "O,1,1,2\nO,3,0,1\nO,3,3,6\n") "F,1,4\nJ,2,6,0,2\nP,0,2,3\n"
+    ∷ shows ("S,4,6,0,3,1,0,0,1\n" ++ corridorsA ++ "O,1,1,2\nO,3,0,1\nO,3,3,6\n") "F,0,4\n"
     ∷ []
 
 pub marked : map (λ e. page (bytes (e .input))) table ≡ map (λ e. bytes (e .output)) table
