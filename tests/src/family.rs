@@ -52,7 +52,7 @@ pub enum Ends {
     GoalOccupied,
     /// No corridor leads from the start to the goal, but corridors by another place do.
     Apart,
-    /// The same, and the goal is occupied from step 0 to one in the second half, before the last.
+    /// The same, and the goal is occupied from step 0 to one in the second half, mostly so that unloading can end.
     ApartAndLate,
     /// Occupancies of the goal part its steps into short safe intervals.
     GoalParted,
@@ -70,12 +70,12 @@ impl Family {
         let [places, steps] = [self.places, self.steps].map(|[least, most]| random.from_to(least, most));
         let start = random.from_to(0, places - 1);
         let goal = self.goal(places, start, random);
-        let mut head = vec![places, steps, start, goal];
-        head.extend(self.waiting.cost(random));
-        head.push(self.unloading.steps(steps, random));
+        let unloading = self.unloading.steps(steps, random);
+        let [w1, w2, w3] = self.waiting.cost(random);
+        let head = vec![places, steps, start, goal, w1, w2, w3, unloading];
         let corridors = self.corridors(places, start, goal, random);
         let mut occupancies = self.occupancies(places, steps, random);
-        occupancies.extend(self.ends.occupancies(start, goal, steps, random));
+        occupancies.extend(self.ends.occupancies(&head, random));
         Groups { head, corridors, occupancies: occupancies.into_iter().take(256).flatten().collect() }
     }
 
@@ -127,13 +127,17 @@ impl Family {
 }
 
 impl Ends {
-    /// The occupancies that make the start or the goal special.
-    fn occupancies(self, start: u32, goal: u32, steps: u32, random: &mut Random) -> Vec<[u32; 3]> {
+    /// The occupancies that make the start or the goal of a sheet with these numbers special.
+    fn occupancies(self, head: &[u32], random: &mut Random) -> Vec<[u32; 3]> {
+        let [steps, start, goal, unloading] = [1, 2, 3, 7].map(|at| head[at]);
         match self {
             Ends::Any | Ends::GoalAtStart | Ends::Apart => vec![],
             Ends::StartOccupied => vec![occupancy_near([0, 1], start, steps, random)],
             Ends::GoalOccupied => vec![occupancy_near([0, steps], goal, steps, random)],
-            Ends::ApartAndLate => vec![[goal, 0, random.from_to(steps / 2, steps - 1)]],
+            Ends::ApartAndLate => {
+                let least = steps / 2;
+                vec![[goal, 0, random.from_to(least, least.max(steps - 1 - unloading))]]
+            }
             Ends::GoalParted | Ends::ApartAndParted | Ends::StartParted => parting(goal, steps, random),
             Ends::StartLeft => vec![[start, random.from_to(1, 4), 255]],
         }
@@ -164,12 +168,11 @@ impl Costs {
 fn random_unloading(steps: u32, random: &mut Random) -> u32 {
     let drawn = match random.below(20) {
         0..10 => 0,
-        10..13 => 1,
-        13..15 => 2,
-        15..17 => random.from_to(1, steps.max(1)),
-        17 => steps,
-        18 => steps + 1,
-        _ => random.pick(&[3, 4, 98, 99]),
+        10..15 => 1,
+        15..17 => 2,
+        17 => random.from_to(1, steps.max(1)),
+        18 => random.pick(&[3, 4, steps, steps]),
+        _ => random.pick(&[steps + 1, 98, 99]),
     };
     drawn.min(99)
 }
@@ -179,7 +182,7 @@ fn parting(place: u32, steps: u32, random: &mut Random) -> Vec<[u32; 3]> {
     let first = random.from_to(1, 3);
     let last = first + random.from_to(0, 1);
     let again = last + random.from_to(2, 4);
-    let both = again <= steps && random.percent(60);
+    let both = again <= steps && random.percent(50);
     let one = [place, first, last];
     if both { vec![one, [place, again, again + random.from_to(0, 1)]] } else { vec![one] }
 }

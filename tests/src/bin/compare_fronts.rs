@@ -4,7 +4,7 @@
 //! `compare_fronts [--seed N] [--runs N]`: each run is one small sheet, with several calls, among them one for each of
 //! its journeys with room, and five damaged texts, with one call of the front and one of a journey each. The exit status
 //! is 0 if all answers and all cells of all lent arrays agree, a third of the small sheets have a tie, the time to unload
-//! changes the front of a fifth of them, and each refusal number, family, size, way in which the tie rule decides, change
+//! changes the front of a sixth of them, and each refusal number, family, size, way in which the tie rule decides, change
 //! by unloading, room and kind of damage came up often.
 
 use planner_tests::cases::{Asked, FrontCase, front_cases};
@@ -32,7 +32,7 @@ const SIZES: [&str; 5] = ["empty", "one cost", "two costs", "three costs", "more
 const TIES: u64 = 3;
 
 /// A sheet whose front is another one without the time to unload must come up once in so many sheets.
-const CHANGED: u64 = 5;
+const CHANGED: u64 = 6;
 
 /// The lengths of lent arrays that must come up, and the number of a journey.
 const ROOMS: [&str; 7] = [
