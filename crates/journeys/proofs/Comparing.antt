@@ -139,33 +139,33 @@ at-position (y ∷ l) x (inr m) = let r = at-position l x m in (suc (r .0), omeg
 
 -- the goal's rows in order, and those that a sweep of them leaves
 abbrev goalOrder : ℕ → ℕ → ℕ → List ℕ → List ℕ
-goalOrder v last n xs = sortUnique (rank (costAt xs)) (filter (λ k. isGoalRow v last (rowAt xs k)) (below n))
+goalOrder v counting n xs = sortUnique (rank (costAt xs)) (filter (λ k. isGoalRow v counting (rowAt xs k)) (below n))
 
 abbrev pub frontList : ℕ → ℕ → ℕ → List ℕ → List ℕ
-frontList v last n xs = swept (costAt xs) [] (goalOrder v last n xs)
+frontList v counting n xs = swept (costAt xs) [] (goalOrder v counting n xs)
 
-module _ (v last n : ℕ) (xs : List ℕ) where
+module _ (v : ℕ) (counting : List ℕ) (n : ℕ) (xs : List ℕ) where
   c : ℕ → Cost
   c = costAt xs
 
   goal : ℕ → Bool
-  goal k = isGoalRow v last (rowAt xs k)
+  goal k = isGoalRow v counting (rowAt xs k)
 
-  ordered : Ordered v last n xs xs (goalOrder v last n xs)
+  ordered : Ordered v counting n xs xs (goalOrder v counting n xs)
   unfolding goal
   ordered =
       record {
         ascending = sortUnique-ascending (rank (costAt xs)) l;
         are = λ k m. (let r = filter-mem goal k (below n) (sortUnique-mem (rank (costAt xs)) k l m) in (below-lt n k (r .0), r .1));
         all = λ k h e. mem-sortUnique (rank (costAt xs)) (λ a b e. cc) k l (mem-filter goal k (below n) (lt-below n k h) e);
-        differ = differ-none xs (goalOrder v last n xs);
+        differ = differ-none xs (goalOrder v counting n xs);
       }
     where
       l : List ℕ
       l = filter goal (below n)
 
   -- a row that keeps another off
-  off-true : (k j : ℕ) → keptOff v last xs k j ≡ true → (goal j ≡ true) × AtMost (c j) (c k) × Lex (rank c j) (rank c k)
+  off-true : (k j : ℕ) → keptOff v counting xs k j ≡ true → (goal j ≡ true) × AtMost (c j) (c k) × Lex (rank c j) (rank c k)
   unfolding keptOff goal c
   off-true k j e =
       let a = and-true (goal j && atMostb (c j) (c k)) (lexb (c j) (c k) || ltb j k) e in
@@ -177,7 +177,7 @@ module _ (v last n : ℕ) (xs : List ℕ) where
       lower false q h (inl l) = rank-tie xs j k l (ltb-true j k h)
       lower false q h (inr l) = rank-cost xs j k l
 
-  true-off : (k j : ℕ) → goal j ≡ true → AtMost (c j) (c k) → Lex (c j) (c k) ⊎ (j < k) → keptOff v last xs k j ≡ true
+  true-off : (k j : ℕ) → goal j ≡ true → AtMost (c j) (c k) → Lex (c j) (c k) ⊎ (j < k) → keptOff v counting xs k j ≡ true
   unfolding keptOff goal c
   true-off k j e h l = rw (e, at-most-atMostb (c j) (c k) h) (go (lexb (c j) (c k)) refl l)
     where
@@ -187,98 +187,98 @@ module _ (v last n : ℕ) (xs : List ℕ) where
       go false q (inr l) = lt-ltb j k l
 
   -- the rows that none keeps off are those left
-  in-front : (k : ℕ) → k ∈ frontList v last n xs → (k < n) × (isFrontRow v last n xs k ≡ true)
+  in-front : (k : ℕ) → k ∈ frontList v counting n xs → (k < n) × (isFrontRow v counting n xs k ≡ true)
   unfolding isFrontRow goal c
   in-front k m =
-      let r = swept-left c (goalOrder v last n xs) [] (ordered .ascending) k m in
+      let r = swept-left c (goalOrder v counting n xs) [] (ordered .ascending) k m in
       let q = ordered .are k (r .member) in
-      (q .0, true-and (noneOf (keptOff v last xs k) n) (goal k) (is-none (keptOff v last xs k) n (λ j h e. (let o = off-true k j e in r .first j (ordered .all j h (o .0)) (o .2) (o .1)))) (q .1))
+      (q .0, true-and (noneOf (keptOff v counting xs k) n) (goal k) (is-none (keptOff v counting xs k) n (λ j h e. (let o = off-true k j e in r .first j (ordered .all j h (o .0)) (o .2) (o .1)))) (q .1))
 
-  front-in : (k : ℕ) → k < n → isFrontRow v last n xs k ≡ true → k ∈ frontList v last n xs
+  front-in : (k : ℕ) → k < n → isFrontRow v counting n xs k ≡ true → k ∈ frontList v counting n xs
   unfolding isFrontRow goal c
   front-in k h e =
       same
-      (map-mem c (c k) (frontList v last n xs)
-      (left-swept c (λ i j. refl) (goalOrder v last n xs) [] k (ordered .all k h (a .1)) refl
+      (map-mem c (c k) (frontList v counting n xs)
+      (left-swept c (λ i j. refl) (goalOrder v counting n xs) [] k (ordered .all k h (a .1)) refl
       (λ j i d. (let q = ordered .are j i in none j (q .0) (q .1) (d .at-most) (inl (⊎-elim (λ z. absurd (dominates-irrefl (c k) (subst (λ (g : Cost). Dominates g (c k)) z d))) (λ z. z) (at-most-Lex (c j) (c k) refl (d .at-most))))))))
     where
-      a : (noneOf (keptOff v last xs k) n ≡ true) × (goal k ≡ true)
-      a = and-true (noneOf (keptOff v last xs k) n) (goal k) e
+      a : (noneOf (keptOff v counting xs k) n ≡ true) × (goal k ≡ true)
+      a = and-true (noneOf (keptOff v counting xs k) n) (goal k) e
 
       none : (j : ℕ) → j < n → goal j ≡ true → AtMost (c j) (c k) → Lex (c j) (c k) ⊎ (j < k) → ⊥
-      none j l g m o = none-of (keptOff v last xs k) n j (a .0) l (true-off k j g m o)
+      none j l g m o = none-of (keptOff v counting xs k) n j (a .0) l (true-off k j g m o)
 
-      same : (i : ℕ) × (i ∈ frontList v last n xs) × (c k ≡ c i) → k ∈ frontList v last n xs
+      same : (i : ℕ) × (i ∈ frontList v counting n xs) × (c k ≡ c i) → k ∈ frontList v counting n xs
       same w =
           let i = w .0 in
-          let r = swept-left c (goalOrder v last n xs) [] (ordered .ascending) i (w .1) in
+          let r = swept-left c (goalOrder v counting n xs) [] (ordered .ascending) i (w .1) in
           let q = ordered .are i (r .member) in
           ⊎-elim
           (λ l. absurd (none i (q .0) (q .1) (subst (AtMost (c i)) (sym (w .2)) (at-most-refl (c i))) (inr l)))
           (λ l. ⊎-elim
           (λ u. absurd (r .first k (ordered .all k h (a .1)) (rank-tie xs k i (w .2) u) (subst (AtMost (c k)) (w .2) (at-most-refl (c k)))))
-          (λ u. subst (λ (j : ℕ). j ∈ frontList v last n xs) (let z : i ≡ k = omega arith in z) (w .1))
+          (λ u. subst (λ (j : ℕ). j ∈ frontList v counting n xs) (let z : i ≡ k = omega arith in z) (w .1))
           (lt-or-le k i))
           (lt-or-le i k)
 
   -- counted
-  rows-ascend : Ascending c (frontList v last n xs)
+  rows-ascend : Ascending c (frontList v counting n xs)
   unfolding c
-  rows-ascend = by-cost (costAt xs) (frontList v last n xs) (swept-ascending (costAt xs) (λ i j. refl) (goalOrder v last n xs) [] (ordered .ascending))
+  rows-ascend = by-cost (costAt xs) (frontList v counting n xs) (swept-ascending (costAt xs) (λ i j. refl) (goalOrder v counting n xs) [] (ordered .ascending))
 
-  counted-rows : (every : Bool) (g : Cost) → countTo v last n xs every g n ≡ length (filter (λ k. every || lexb (costAt xs k) g) (frontList v last n xs))
-  counted-rows every g = omega (arith, fewer counted others (once-filter (inCount v last n xs every g) (below n) (below-once n)) into, fewer others counted (once-filter test fs (once-ascending c fs rows-ascend)) back)
+  counted-rows : (every : Bool) (g : Cost) → countTo v counting n xs every g n ≡ length (filter (λ k. every || lexb (costAt xs k) g) (frontList v counting n xs))
+  counted-rows every g = omega (arith, fewer counted others (once-filter (inCount v counting n xs every g) (below n) (below-once n)) into, fewer others counted (once-filter test fs (once-ascending c fs rows-ascend)) back)
     where
       fs : List ℕ
-      fs = frontList v last n xs
+      fs = frontList v counting n xs
 
       test : ℕ → Bool
       test k = every || lexb (costAt xs k) g
 
       counted : List ℕ
-      counted = filter (inCount v last n xs every g) (below n)
+      counted = filter (inCount v counting n xs every g) (below n)
 
       others : List ℕ
-      others = filter (λ k. every || lexb (costAt xs k) g) (frontList v last n xs)
+      others = filter (λ k. every || lexb (costAt xs k) g) (frontList v counting n xs)
 
       into : (k : ℕ) → k ∈ counted → k ∈ others
       into k m =
-          let r = filter-mem (inCount v last n xs every g) k (below n) m in
-          let q = and-true (isFrontRow v last n xs k) (test k) (r .1) in
+          let r = filter-mem (inCount v counting n xs every g) k (below n) m in
+          let q = and-true (isFrontRow v counting n xs k) (test k) (r .1) in
           mem-filter test k fs (front-in k (below-lt n k (r .0)) (q .0)) (q .1)
 
       back : (k : ℕ) → k ∈ others → k ∈ counted
       back k m =
           let r = filter-mem test k fs m in
           let q = in-front k (r .0) in
-          mem-filter (inCount v last n xs every g) k (below n) (lt-below n k (q .0)) (true-and (isFrontRow v last n xs k) (test k) (q .1) (r .1))
+          mem-filter (inCount v counting n xs every g) k (below n) (lt-below n k (q .0)) (true-and (isFrontRow v counting n xs k) (test k) (q .1) (r .1))
 
-  pub slow-front : FrontRows v last n xs (frontList v last n xs)
-  slow-front = front-rows v last n xs xs (goalOrder v last n xs) ordered
+  pub slow-front : FrontRows v counting n xs (frontList v counting n xs)
+  slow-front = front-rows v counting n xs xs (goalOrder v counting n xs) ordered
 
-  pub slow-count : (g : Cost) → countTo v last n xs true g n ≡ length (frontOf (costsOf (goalRows v last n xs)))
-  slow-count g = counted-rows true g ∙ ap length (all-kept (frontList v last n xs)) ∙ front-counted slow-front
+  pub slow-count : (g : Cost) → countTo v counting n xs true g n ≡ length (frontOf (costsOf (goalRows v counting n xs)))
+  slow-count g = counted-rows true g ∙ ap length (all-kept (frontList v counting n xs)) ∙ front-counted slow-front
 
-  before-row : (i : ℕ) → i < length (frontList v last n xs) → countTo v last n xs false (costAt xs (getD (frontList v last n xs) i 0)) n ≡ i
+  before-row : (i : ℕ) → i < length (frontList v counting n xs) → countTo v counting n xs false (costAt xs (getD (frontList v counting n xs) i 0)) n ≡ i
   unfolding c
-  before-row i h = counted-rows false (costAt xs (getD (frontList v last n xs) i 0)) ∙ position (costAt xs) (frontList v last n xs) i rows-ascend h
+  before-row i h = counted-rows false (costAt xs (getD (frontList v counting n xs) i 0)) ∙ position (costAt xs) (frontList v counting n xs) i rows-ascend h
 
-  pub slow-on : (i k : ℕ) (o : Offered) → k < n → hasNumber v last n xs i k ≡ true → o .found ≡ true → o .cost ≡ costAt xs k → o .step .0 ≡ rowAt xs k .step → NumberIs (goalRows v last n xs) i o
+  pub slow-on : (i k : ℕ) (o : Offered) → k < n → hasNumber v counting n xs i k ≡ true → o .found ≡ true → o .cost ≡ costAt xs k → o .step .0 ≡ rowAt xs k .step → NumberIs (goalRows v counting n xs) i o
   slow-on i k o h b t g s =
-      let f = and-true (isFrontRow v last n xs k) (eqb (countTo v last n xs false (costAt xs k) n) i) b in
-      let p = at-position (frontList v last n xs) k (front-in k h (f .0)) in
-      let z : i ≡ p .0 = sym (eqb-true (countTo v last n xs false (costAt xs k) n) i (f .1)) ∙ ap (λ (j : ℕ). countTo v last n xs false (costAt xs j) n) (p .2) ∙ before-row (p .0) (p .1) in
-      let q : k ≡ getD (frontList v last n xs) i 0 = p .2 ∙ ap (λ (j : ℕ). getD (frontList v last n xs) j 0) (sym z) in
+      let f = and-true (isFrontRow v counting n xs k) (eqb (countTo v counting n xs false (costAt xs k) n) i) b in
+      let p = at-position (frontList v counting n xs) k (front-in k h (f .0)) in
+      let z : i ≡ p .0 = sym (eqb-true (countTo v counting n xs false (costAt xs k) n) i (f .1)) ∙ ap (λ (j : ℕ). countTo v counting n xs false (costAt xs j) n) (p .2) ∙ before-row (p .0) (p .1) in
+      let q : k ≡ getD (frontList v counting n xs) i 0 = p .2 ∙ ap (λ (j : ℕ). getD (frontList v counting n xs) j 0) (sym z) in
       number-at slow-front i o t (omega (arith, p .1)) (g ∙ ap (costAt xs) q) (s ∙ ap (λ (j : ℕ). rowAt xs j .step) q)
 
-  pub slow-off : (i : ℕ) (o : Offered) → noneOf (hasNumber v last n xs i) n ≡ true → o .found ≡ false → NumberIs (goalRows v last n xs) i o
+  pub slow-off : (i : ℕ) (o : Offered) → noneOf (hasNumber v counting n xs i) n ≡ true → o .found ≡ false → NumberIs (goalRows v counting n xs) i o
   slow-off i o f e = record { on = λ t. absurd (true≢false (sym t ∙ e)); off = λ t. ⊎-elim (λ h. absurd (none h)) (λ h. omega (arith, front-counted slow-front)) (lt-or-le i (length fs)) }
     where
       fs : List ℕ
-      fs = frontList v last n xs
+      fs = frontList v counting n xs
 
-      none : i < length (frontList v last n xs) → ⊥
+      none : i < length (frontList v counting n xs) → ⊥
       none h =
           let k = getD fs i 0 in
           let q = in-front k (get-member fs i h) in
-          none-of (hasNumber v last n xs i) n k f (q .0) (true-and (isFrontRow v last n xs k) (eqb (countTo v last n xs false (costAt xs k) n) i) (q .1) (eq-eqb (countTo v last n xs false (costAt xs k) n) i (before-row i h)))
+          none-of (hasNumber v counting n xs i) n k f (q .0) (true-and (isFrontRow v counting n xs k) (eqb (countTo v counting n xs false (costAt xs k) n) i) (q .1) (eq-eqb (countTo v counting n xs false (costAt xs k) n) i (before-row i h)))

@@ -10,7 +10,7 @@ use native.Mathlib.Omega.{arith}
 use lib.ListN.{length, getD, take, replicate}
 use borrow.Author.Tests.{lt-ltb, le-ltb, lt-leb, le-leb}
 use Rattle.sheet.specs.Lists.{_∈_, filled, bind}
-use Rattle.sheet.specs.Sheet.{Sheet, readOf, goal, steps}
+use Rattle.sheet.specs.Sheet.{Sheet, readOf, goal}
 use Rattle.sheet.specs.Store.{sheetIn, VerdictIs}
 use Rattle.sheet.specs.Laws.Store.{store-sheet}
 use Rattle.sheet.specs.declared.reader.Verdict.{Verdict}
@@ -23,6 +23,7 @@ use Rattle.journeys.specs.Front.{OnFront}
 use Rattle.journeys.specs.Calls.{cleared, frontRow, overfull, frontEnd, frontRefused, frontServed, frontOn, frontCall, journeyEnd, journeyRefused, tooShort, journeyServed, journeyOn, journeyCall}
 use Rattle.journeys.specs.Held.{Layable}
 use Rattle.journeys.specs.Inner.{goalRows, costsOf, firstStep, offeredRows, NumberIs}
+use Rattle.journeys.specs.Inner.Counting.{CountingOf}
 use Rattle.journeys.specs.declared.FrontAnswer.{FrontAnswer}
 use Rattle.journeys.specs.declared.JourneyAnswer.{JourneyAnswer}
 use Rattle.journeys.specs.declared.front.Offered.{Offered}
@@ -40,19 +41,19 @@ bind-same : (l : List Cost) (f g : Cost → List ℕ) → ((x : Cost) → x ∈ 
 bind-same [] f g h = refl
 bind-same (x ∷ l) f g h = ap₂ (λ (p q : List ℕ). p ++ q) (h x (inl refl)) (bind-same l f g (λ y m. h y (inr m)))
 
--- the arrivals at the goal, off a table that is ready; v and last are the goal and the last step of the sheet
-module _ {s : Sheet} {table table′ : List ℕ} {n : ℕ} (p : Ready s table table′ n) {v last : ℕ} (a : v ≡ goal s) (b : last ≡ steps s) where
+-- the arrivals at the goal, off a table that is ready; v is the goal of the sheet, and the array tells which arrivals there count
+module _ {s : Sheet} {table table′ : List ℕ} {n : ℕ} (p : Ready s table table′ n) {v : ℕ} {counting : List ℕ} (a : v ≡ goal s) (b : CountingOf s counting) where
   abbrev offers : List Arrival
-  offers = goalRows v last n table′
+  offers = goalRows v counting n table′
 
-  offers-are : offers ≡ goalRows (goal s) (steps s) n table′
-  offers-are = ap₂ (λ (x y : ℕ). goalRows x y n table′) a b
+  offers-are : offers ≡ goalRows (goal s) counting n table′
+  offers-are = ap (λ (x : ℕ). goalRows x counting n table′) a
 
   front-off : frontOf (costsOf offers) ≡ front s
-  front-off = ap (λ (l : List Arrival). frontOf (costsOf l)) offers-are ∙ sym (holds-front s n table′ (p .holds))
+  front-off = ap (λ (l : List Arrival). frontOf (costsOf l)) offers-are ∙ sym (holds-front s n table′ counting (p .holds) b)
 
   step-off : (g : Cost) → g ∈ front s → firstStep g offers ≡ arrivalOf s g
-  step-off g m = ap (firstStep g) offers-are ∙ holds-step s n table′ g (p .holds) m
+  step-off g m = ap (firstStep g) offers-are ∙ holds-step s n table′ counting g (p .holds) b m
 
   rows-off : offeredRows offers ≡ bind (front s) (frontRow s)
   rows-off =
@@ -136,8 +137,8 @@ unfolding journeyOn
 journey-eight s i table path e f c = ap₂ (λ (x : JourneyAnswer) (y : List ℕ). journeyEnd x y path) e f ∙ sym (rw c)
 
 -- the path of a cost that was found
-pub layable : {lines all since : List ℕ} → Derived lines all since → {table table′ : List ℕ} {n : ℕ} (p : Ready (sheetIn lines all) table table′ n) {v last : ℕ}
-    (a : v ≡ goal (sheetIn lines all)) (b : last ≡ steps (sheetIn lines all)) {i : ℕ} {o : Offered} → NumberIs (goalRows v last n table′) i o → (path : List ℕ)
+pub layable : {lines all since : List ℕ} → Derived lines all since → {table table′ : List ℕ} {n : ℕ} (p : Ready (sheetIn lines all) table table′ n) {v : ℕ} {counting : List ℕ}
+    (a : v ≡ goal (sheetIn lines all)) (b : CountingOf (sheetIn lines all) counting) {i : ℕ} {o : Offered} → NumberIs (goalRows v counting n table′) i o → (path : List ℕ)
     → o .found ≡ true → o .step .0 < length path → Layable lines all since n table′ (o .step .0) (o .cost) path
 layable d p a b h path t l =
     record { ends = record { derived = d; holds = p .holds; on-front = on p a b h t; arrives-at = step-is p a b h t }; room = omega (arith, l) }

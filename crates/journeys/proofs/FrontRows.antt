@@ -32,8 +32,8 @@ use Rattle.journeys.proofs.Ordering.{rank-cost, rank-tie}
 use Rattle.journeys.proofs.Swept.{Left, swept-left, left-swept, swept-ascending}
 
 -- the rows of the front
-pub front-rows : (v last n : ℕ) (base xs ks : List ℕ) → Ordered v last n base xs ks → FrontRows v last n base (swept (costAt base) [] ks)
-front-rows v last n base xs ks o =
+pub front-rows : (v : ℕ) (counting : List ℕ) (n : ℕ) (base xs ks : List ℕ) → Ordered v counting n base xs ks → FrontRows v counting n base (swept (costAt base) [] ks)
+front-rows v counting n base xs ks o =
     record {
       costs-are = ascending-unique self (map c fs) (frontOf l) (swept-ascending c (λ i j. refl) ks [] (o .ascending)) (frontOf-ascending l) (λ g m. into g (map-mem c g fs m)) (λ g m. onto g m);
       steps-are = λ k m. sym (steps k (swept-left c ks [] (o .ascending) k m));
@@ -46,7 +46,7 @@ front-rows v last n base xs ks o =
     fs = swept (costAt base) [] ks
 
     l : List Cost
-    l = costsOf (goalRows v last n base)
+    l = costsOf (goalRows v counting n base)
 
     lower : (j k : ℕ) → Dominates (c j) (c k) → Lex (rank c j) (rank c k)
     lower j k d = ⊎-elim (λ e. absurd (dominates-irrefl (c k) (subst (λ (g : Cost). Dominates g (c k)) e d))) (rank-cost base j k) (at-most-Lex (c j) (c k) refl (d .at-most))
@@ -59,8 +59,8 @@ front-rows v last n base xs ks o =
         subst (λ (h : Cost). h ∈ frontOf l) (sym (w .2))
         (is-frontOf l (c k)
         (record {
-          member = at-cost v last n base k (q .0) (q .1);
-          none = λ h m d. (let a = cost-at v last n base h m in
+          member = at-cost v counting n base k (q .0) (q .1);
+          none = λ h m d. (let a = cost-at v counting n base h m in
               let e = subst (λ (x : Cost). Dominates x (c k)) (a .3) d in
               r .first (a .0) (o .all (a .0) (a .1) (a .2)) (lower (a .0) k e) (e .at-most));
         }))
@@ -68,31 +68,31 @@ front-rows v last n base xs ks o =
     onto : (g : Cost) → g ∈ frontOf l → g ∈ map c fs
     onto g m =
         let u = frontOf-is l g m in
-        let a = cost-at v last n base g (u .member) in
+        let a = cost-at v counting n base g (u .member) in
         subst (λ (h : Cost). h ∈ map c fs) (sym (a .3))
         (left-swept c (λ i j. refl) ks [] (a .0) (o .all (a .0) (a .1) (a .2)) refl
-        (λ j i d. let q = o .are j i in u .none (c j) (at-cost v last n base j (q .0) (q .1)) (subst (Dominates (c j)) (sym (a .3)) d)))
+        (λ j i d. let q = o .are j i in u .none (c j) (at-cost v counting n base j (q .0) (q .1)) (subst (Dominates (c j)) (sym (a .3)) d)))
 
-    steps : (k : ℕ) → Left c [] ks k → firstStep (c k) (goalRows v last n base) ≡ rowAt base k .step
+    steps : (k : ℕ) → Left c [] ks k → firstStep (c k) (goalRows v counting n base) ≡ rowAt base k .step
     steps k r =
         let q = o .are k (r .member) in
-        first-row v last n base k (q .0) (q .1)
-        (λ m. let a = cost-at v last k base (c k) m in
+        first-row v counting n base k (q .0) (q .1)
+        (λ m. let a = cost-at v counting k base (c k) m in
         r .first (a .0) (o .all (a .0) (omega (arith, a .1, q .0)) (a .2)) (rank-tie base (a .0) k (sym (a .3)) (a .1)) (subst (λ (g : Cost). AtMost (c (a .0)) g) (sym (a .3)) (at-most-refl (c (a .0)))))
 
 -- a sweep begins
-pub sweep-begins : (v last n : ℕ) (base xs : List ℕ) (r : Gap) → n ≤ 4294967295 → n * 5 ≤ length base → OrderedAll v last n base xs r
-    → Begun v last n base xs (record { at = r .first; rest = r .rows; top = 0; size = 0; count = 0; row = 0 })
-sweep-begins v last n base xs r few room o =
+pub sweep-begins : (v : ℕ) (counting : List ℕ) (n : ℕ) (base xs : List ℕ) (r : Gap) → n ≤ 4294967295 → n * 5 ≤ length base → OrderedAll v counting n base xs r
+    → Begun v counting n base xs (record { at = r .first; rest = r .rows; top = 0; size = 0; count = 0; row = 0 })
+sweep-begins v counting n base xs r few room o =
     record {
       fs = fs;
-      front = front-rows v last n base xs ks (o .ordered);
+      front = front-rows v counting n base xs ks (o .ordered);
       sweeps = record {
         on = record {
           ahead = o .ordered .ascending;
           stair = tt;
           past = λ e k m. absurd m;
-          rows = λ k m. (in-base k m, eqb-true (rowAt base k .place) v (and-true (eqb (rowAt base k .place) v) (countsAt last (rowAt base k .step)) (o .ordered .are k m .1) .0));
+          rows = λ k m. (in-base k m, eqb-true (rowAt base k .place) v (and-true (eqb (rowAt base k .place) v) (countsAt counting (rowAt base k .step)) (o .ordered .are k m .1) .0));
           differ = o .ordered .differ;
           left = refl;
           within = omega arith;
@@ -168,11 +168,11 @@ counted-all {base} {v} {xs} {s} {fs} p z =
     omega (arith, p .on .within, length-drop (s .count) fs, ap length e)
 
 -- the count of front costs
-pub front-counted : {v last n : ℕ} {base fs : List ℕ} → FrontRows v last n base fs → length fs ≡ length (frontOf (costsOf (goalRows v last n base)))
-front-counted {v} {last} {n} {base} {fs} f = sym (length-map fs (costAt base)) ∙ ap (λ (l : List Cost). length l) (f .costs-are)
+pub front-counted : {v : ℕ} {counting : List ℕ} {n : ℕ} {base fs : List ℕ} → FrontRows v counting n base fs → length fs ≡ length (frontOf (costsOf (goalRows v counting n base)))
+front-counted {v} {counting} {n} {base} {fs} f = sym (length-map fs (costAt base)) ∙ ap (λ (l : List Cost). length l) (f .costs-are)
 
-pub counted-front : {v last n : ℕ} {base xs ys : List ℕ} {s r : Sweep} (b : Begun v last n base xs s) → SweptTo v 4294967295 xs ys s r → r .count ≡ length (frontOf (costsOf (goalRows v last n base)))
-counted-front {v} {last} {n} {base} {xs} {ys} {s} {r} b t =
+pub counted-front : {v : ℕ} {counting : List ℕ} {n : ℕ} {base xs ys : List ℕ} {s r : Sweep} (b : Begun v counting n base xs s) → SweptTo v 4294967295 xs ys s r → r .count ≡ length (frontOf (costsOf (goalRows v counting n base)))
+counted-front {v} {counting} {n} {base} {xs} {ys} {s} {r} b t =
     let p = t .on .of base (b .fs) (b .sweeps) in
     counted-all p (⊎-elim (λ e. e) (λ h. omega (arith, p .few-counted)) (t .end)) ∙ front-counted (b .front)
 
@@ -187,31 +187,31 @@ get-map f [] i h = absurd (omega arith)
 get-map f (x ∷ l) zero h = refl
 get-map f (x ∷ l) (suc i) h = get-map f l i (omega arith)
 
-module _ {v last n : ℕ} {base fs : List ℕ} (f : FrontRows v last n base fs) (i : ℕ) where
-  cost-is : i < length fs → costAt base (getD fs i 0) ≡ getD (frontOf (costsOf (goalRows v last n base))) i []
+module _ {v : ℕ} {counting : List ℕ} {n : ℕ} {base fs : List ℕ} (f : FrontRows v counting n base fs) (i : ℕ) where
+  cost-is : i < length fs → costAt base (getD fs i 0) ≡ getD (frontOf (costsOf (goalRows v counting n base))) i []
   cost-is h = sym (get-map (costAt base) fs i h) ∙ ap (λ (l : List Cost). getD l i []) (f .costs-are)
 
-  pub number-at : (o : Offered) → o .found ≡ true → i < length fs → o .cost ≡ costAt base (getD fs i 0) → o .step .0 ≡ rowAt base (getD fs i 0) .step → NumberIs (goalRows v last n base) i o
+  pub number-at : (o : Offered) → o .found ≡ true → i < length fs → o .cost ≡ costAt base (getD fs i 0) → o .step .0 ≡ rowAt base (getD fs i 0) .step → NumberIs (goalRows v counting n base) i o
   number-at o t h e s =
       record {
-        on = λ g. (omega (arith, front-counted f), e ∙ cost-is h, s ∙ f .steps-are (getD fs i 0) (get-member fs i h) ∙ ap (λ (g : Cost). firstStep g (goalRows v last n base)) (sym e));
+        on = λ g. (omega (arith, front-counted f), e ∙ cost-is h, s ∙ f .steps-are (getD fs i 0) (get-member fs i h) ∙ ap (λ (g : Cost). firstStep g (goalRows v counting n base)) (sym e));
         off = λ g. absurd (true≢false (sym t ∙ g));
       }
 
-  pub at-number : (o : Offered) → i < length fs → NumberIs (goalRows v last n base) i o → o .cost ++ (o .step .0 ∷ []) ≡ listRow base (getD fs i 0)
+  pub at-number : (o : Offered) → i < length fs → NumberIs (goalRows v counting n base) i o → o .cost ++ (o .step .0 ∷ []) ≡ listRow base (getD fs i 0)
   at-number o h w = go (o .found) refl
     where
       go : (b : Bool) → o .found ≡ b → o .cost ++ (o .step .0 ∷ []) ≡ listRow base (getD fs i 0)
       go false t = absurd (omega (arith, w .off t, front-counted f))
       go true t =
           let e : o .cost ≡ costAt base (getD fs i 0) = w .on t .1 ∙ sym (cost-is h) in
-          ap₂ (λ (g : Cost) (s : ℕ). g ++ (s ∷ [])) e (w .on t .2 ∙ ap (λ (g : Cost). firstStep g (goalRows v last n base)) e ∙ sym (f .steps-are (getD fs i 0) (get-member fs i h)))
+          ap₂ (λ (g : Cost) (s : ℕ). g ++ (s ∷ [])) e (w .on t .2 ∙ ap (λ (g : Cost). firstStep g (goalRows v counting n base)) e ∙ sym (f .steps-are (getD fs i 0) (get-member fs i h)))
 
-module _ {v last n : ℕ} {base xs ys : List ℕ} {s r : Sweep} (i : ℕ) (b : Begun v last n base xs s) (t : SweptTo v (i + 1) xs ys s r) where
+module _ {v : ℕ} {counting : List ℕ} {n : ℕ} {base xs ys : List ℕ} {s r : Sweep} (i : ℕ) (b : Begun v counting n base xs s) (t : SweptTo v (i + 1) xs ys s r) where
   p : Sweeps base v ys r (b .fs)
   p = t .on .of base (b .fs) (b .sweeps)
 
-  pub number-off : (o : Offered) → o .found ≡ false → r .count ≤ i → NumberIs (goalRows v last n base) i o
+  pub number-off : (o : Offered) → o .found ≡ false → r .count ≤ i → NumberIs (goalRows v counting n base) i o
   number-off o e h =
       record {
         on = λ f. absurd (true≢false (sym f ∙ e));
@@ -228,7 +228,7 @@ module _ {v last n : ℕ} {base xs ys : List ℕ} {s r : Sweep} (i : ℕ) (b : B
   pub number-room : i < r .count → InTable base (r .row)
   number-room h = p .on .rooms (r .row) (number-row h .0)
 
-  pub number-on : (o : Offered) → o .found ≡ true → i < r .count → o .cost ≡ costAt base (r .row) → o .step .0 ≡ rowAt base (r .row) .step → NumberIs (goalRows v last n base) i o
+  pub number-on : (o : Offered) → o .found ≡ true → i < r .count → o .cost ≡ costAt base (r .row) → o .step .0 ≡ rowAt base (r .row) .step → NumberIs (goalRows v counting n base) i o
   number-on o k h e f =
       let w = number-row h in
       number-at (b .front) i o k (w .2) (e ∙ ap (costAt base) (w .1)) (f ∙ ap (λ (j : ℕ). rowAt base j .step) (w .1))

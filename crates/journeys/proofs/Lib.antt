@@ -5,6 +5,7 @@ pub mod Crossings
 pub mod Tightness
 pub mod Choosing
 pub mod Walking
+pub mod Unloading
 pub mod Ends
 pub mod Sameness
 pub mod Chains

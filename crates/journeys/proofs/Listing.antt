@@ -94,22 +94,22 @@ offered-rows base [] l h = refl
 offered-rows base (k ∷ fs) l h =
     ap₂ (λ (x : ℕ) (r : List ℕ). (costAt base k ++ (x ∷ [])) ++ r) (h k (inl refl)) (offered-rows base fs l (λ j m. h j (inr m)))
 
-module _ {v last n : ℕ} {base fs list : List ℕ} (f : FrontRows v last n base fs) where
-  pub listed-none : ListableFront v last n base list → Listed base fs 0 list
+module _ {v : ℕ} {counting : List ℕ} {n : ℕ} {base fs list : List ℕ} (f : FrontRows v counting n base fs) where
+  pub listed-none : ListableFront v counting n base list → Listed base fs 0 list
   listed-none q = record { room = omega (arith, q .list-room, front-counted f); stands = refl }
 
-  pub listed-whole : (i : ℕ) → i ≡ length fs → Listed base fs i list → (m : ℕ) → length list ≡ m → take (i * 4) list ++ replicate (length list - i * 4) 0 ≡ filled m (offeredRows (goalRows v last n base))
+  pub listed-whole : (i : ℕ) → i ≡ length fs → Listed base fs i list → (m : ℕ) → length list ≡ m → take (i * 4) list ++ replicate (length list - i * 4) 0 ≡ filled m (offeredRows (goalRows v counting n base))
   listed-whole i k l m e =
       let w : take (i * 4) list ≡ bind fs (listRow base) = l .stands ∙ ap (λ (x : List ℕ). bind x (listRow base)) (take-all i fs (omega arith)) in
       let q : length list - i * 4 ≡ m - length (bind fs (listRow base)) = omega (arith, rows-length base fs) in
       ap (λ (x : List ℕ). x ++ replicate (length list - i * 4) 0) w
       ∙ ap (λ (j : ℕ). bind fs (listRow base) ++ replicate j 0) q
-      ∙ ap (filled m) (offered-rows base fs (goalRows v last n base) (f .steps-are) ∙ ap (λ (x : List Cost). bind x (λ g. g ++ (firstStep g (goalRows v last n base) ∷ []))) (f .costs-are))
+      ∙ ap (filled m) (offered-rows base fs (goalRows v counting n base) (f .steps-are) ∙ ap (λ (x : List Cost). bind x (λ g. g ++ (firstStep g (goalRows v counting n base) ∷ []))) (f .costs-are))
 
-  pub listed-number : (i : ℕ) (o : Offered) (list′ : List ℕ) → i < length fs → NumberIs (goalRows v last n base) i o → list′ ≡ sets list (i * 4) (o .cost ++ (o .step .0 ∷ [])) → Listed base fs i list → Listed base fs (i + 1) list′
+  pub listed-number : (i : ℕ) (o : Offered) (list′ : List ℕ) → i < length fs → NumberIs (goalRows v counting n base) i o → list′ ≡ sets list (i * 4) (o .cost ++ (o .step .0 ∷ [])) → Listed base fs i list → Listed base fs (i + 1) list′
   listed-number i o list′ h w e l = subst (Listed base fs (i + 1)) (sym (e ∙ ap (sets list (i * 4)) (at-number f i o h w))) (listed-more base fs i list h l)
 
-module _ {v last n : ℕ} {base xs list : List ℕ} {s : Sweep} (b : Begun v last n base xs s) (q : ListableFront v last n base list) where
+module _ {v : ℕ} {counting : List ℕ} {n : ℕ} {base xs list : List ℕ} {s : Sweep} (b : Begun v counting n base xs s) (q : ListableFront v counting n base list) where
   none : Listed base (b .fs) (s .count) list
   none = rw (b .none-yet) (listed-none (b .front) q)
 
@@ -119,8 +119,8 @@ module _ {v last n : ℕ} {base xs list : List ℕ} {s : Sweep} (b : Begun v las
   pub listed-through : {ys list′ : List ℕ} {r : Sweep} → ListedAll v xs ys s r list list′ → Sweeps base v ys r (b .fs) × Listed base (b .fs) (r .count) list′
   listed-through o = o .on .of base (b .fs) (b .sweeps) none
 
-pub listed-front : {v last n : ℕ} {base xs ys list : List ℕ} {s r : Sweep} (b : Begun v last n base xs s) → Sweeps base v ys r (b .fs) → r .rest ≡ 0 → Listed base (b .fs) (r .count) list
-    → (m : ℕ) → length list ≡ m → take (r .count * 4) list ++ replicate (length list - r .count * 4) 0 ≡ filled m (offeredRows (goalRows v last n base))
+pub listed-front : {v : ℕ} {counting : List ℕ} {n : ℕ} {base xs ys list : List ℕ} {s r : Sweep} (b : Begun v counting n base xs s) → Sweeps base v ys r (b .fs) → r .rest ≡ 0 → Listed base (b .fs) (r .count) list
+    → (m : ℕ) → length list ≡ m → take (r .count * 4) list ++ replicate (length list - r .count * 4) 0 ≡ filled m (offeredRows (goalRows v counting n base))
 listed-front b p z = listed-whole (b .front) _ (counted-all p z)
 
 pub listable-next : {v : ℕ} {xs ys list list′ : List ℕ} {s r : Sweep} → Listable v xs s list → ListedOn v xs ys s r list list′ → Listable v ys r list′

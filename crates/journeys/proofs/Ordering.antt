@@ -82,7 +82,7 @@ pub rank-tie : (xs : List ℕ) (a b : ℕ) → costAt xs a ≡ costAt xs b → a
 rank-tie xs a b e h = subst (λ (g : Cost). Lex (costAt xs a ++ (a ∷ [])) (g ++ (b ∷ []))) e (lex-tie (costAt xs a) (a ∷ []) (b ∷ []) (inl h))
 
 -- the goal's rows before row n are chained, and row n is put in or passed over
-module _ {v last n : ℕ} {base xs : List ℕ} {g : Gap} (room : n * 5 + 5 ≤ length xs) (o : Ordering v last n base xs g) where
+module _ {v : ℕ} {counting : List ℕ} {n : ℕ} {base xs : List ℕ} {g : Gap} (room : n * 5 + 5 ≤ length xs) (o : Ordering v counting n base xs g) where
   small : (k : ℕ) → k ∈ o .ks → k < n
   small k m = o .ordered .are k m .0
 
@@ -93,7 +93,7 @@ module _ {v last n : ℕ} {base xs : List ℕ} {g : Gap} (room : n * 5 + 5 ≤ l
       apart-of : (j : ℕ) → n * 5 ≤ j → j < n * 5 + 5 → number xs j ≡ number base j
       apart-of j l h = o .ordered .differ .kept j (λ k m e. omega (arith, small k m))
 
-  pub ordering-skip : isGoalRow v last (rowAt xs n) ≡ false → Ordering v last (n + 1) base xs g
+  pub ordering-skip : isGoalRow v counting (rowAt xs n) ≡ false → Ordering v counting (n + 1) base xs g
   ordering-skip e =
       record {
         ks = o .ks;
@@ -102,8 +102,8 @@ module _ {v last n : ℕ} {base xs : List ℕ} {g : Gap} (room : n * 5 + 5 ≤ l
         few = omega (arith, o .few);
       }
     where
-      all : (k : ℕ) → k < n + 1 → isGoalRow v last (rowAt base k) ≡ true → (b : Bool) → eqb k n ≡ b → k ∈ o .ks
-      all k h t true q = absurd (true≢false (sym t ∙ ap (λ (i : ℕ). isGoalRow v last (rowAt base i)) (eqb-true k n q) ∙ ap (isGoalRow v last) (sym here) ∙ e))
+      all : (k : ℕ) → k < n + 1 → isGoalRow v counting (rowAt base k) ≡ true → (b : Bool) → eqb k n ≡ b → k ∈ o .ks
+      all k h t true q = absurd (true≢false (sym t ∙ ap (λ (i : ℕ). isGoalRow v counting (rowAt base i)) (eqb-true k n q) ∙ ap (isGoalRow v counting) (sym here) ∙ e))
       all k h t false q = let d : k ≡ n → ⊥ = eqb-false k n q in o .ordered .all k (omega arith) t
 
   pub seekable-ordering : Seekable xs g
@@ -116,7 +116,7 @@ module _ {v last n : ℕ} {base xs : List ℕ} {g : Gap} (room : n * 5 + 5 ≤ l
     pub linkable-ordering : n < 4294967295 → Linkable xs q n
     linkable-ordering h = record { room = room; left-room = λ e. left-room (seekable-from seekable-ordering q (f .from)) e .room; few = omega (arith, f .from .same-rows, o .few) }
 
-    pub ordering-put : isGoalRow v last (rowAt xs n) ≡ true → (ys : List ℕ) (r : Gap) → ys ≡ linkIn xs q n → r ≡ inGap q n → Ordering v last (n + 1) base ys r
+    pub ordering-put : isGoalRow v counting (rowAt xs n) ≡ true → (ys : List ℕ) (r : Gap) → ys ≡ linkIn xs q n → r ≡ inGap q n → Ordering v counting (n + 1) base ys r
     ordering-put e ys r ey er =
         rw (ey, er)
         record {
@@ -186,9 +186,9 @@ module _ {v last n : ℕ} {base xs : List ℕ} {g : Gap} (room : n * 5 + 5 ≤ l
             go (inl z) = rank-tie base a n (sym z) (below a (inl m))
             go (inr z) = rank-cost base a n z
 
-        are : (k : ℕ) → k ∈ s .before ⊎ k ∈ (n ∷ rs) → (k < n + 1) × (isGoalRow v last (rowAt base k) ≡ true)
+        are : (k : ℕ) → k ∈ s .before ⊎ k ∈ (n ∷ rs) → (k < n + 1) × (isGoalRow v counting (rowAt base k) ≡ true)
         are k (inl m) = (omega (arith, below k (inl m)), o .ordered .are k (member k (inl m)) .1)
-        are k (inr (inl z)) = (omega arith, ap (λ (i : ℕ). isGoalRow v last (rowAt base i)) z ∙ ap (isGoalRow v last) (sym here) ∙ e)
+        are k (inr (inl z)) = (omega arith, ap (λ (i : ℕ). isGoalRow v counting (rowAt base i)) z ∙ ap (isGoalRow v counting) (sym here) ∙ e)
         are k (inr (inr m)) = (omega (arith, below k (inr m)), o .ordered .are k (member k (inr m)) .1)
 
         old : (k : ℕ) → k ∈ o .ks → k ∈ onto (s .before) (n ∷ rs)
@@ -202,13 +202,13 @@ module _ {v last n : ℕ} {base xs : List ℕ} {g : Gap} (room : n * 5 + 5 ≤ l
         new k (inl z) = right-mem (s .before) (n ∷ rs) k (inl z)
         new k (inr m) = left-mem (s .before) (n ∷ rs) k m
 
-        all : (k : ℕ) → k < n + 1 → isGoalRow v last (rowAt base k) ≡ true → (b : Bool) → eqb k n ≡ b → k ∈ onto (s .before) (n ∷ rs)
+        all : (k : ℕ) → k < n + 1 → isGoalRow v counting (rowAt base k) ≡ true → (b : Bool) → eqb k n ≡ b → k ∈ onto (s .before) (n ∷ rs)
         all k h t true z = right-mem (s .before) (n ∷ rs) k (inl (eqb-true k n z))
         all k h t false z = let d : k ≡ n → ⊥ = eqb-false k n z in old k (o .ordered .all k (omega arith) t)
 
 -- no row yet
-pub ordering-none : (v last : ℕ) (xs : List ℕ) (g : Gap) → g ≡ startOf 0 0 → Ordering v last 0 xs xs g
-ordering-none v last xs g e =
+pub ordering-none : (v : ℕ) (counting : List ℕ) (xs : List ℕ) (g : Gap) → g ≡ startOf 0 0 → Ordering v counting 0 xs xs g
+ordering-none v counting xs g e =
     rw e
     record {
       ks = [];
@@ -218,5 +218,5 @@ ordering-none v last xs g e =
     }
 
 -- all rows
-pub ordering-all : (v last n : ℕ) (xs ys : List ℕ) (g : Gap) → Ordering v last n xs ys g → OrderedAll v last n xs ys g
-ordering-all v last n xs ys g o = record { ordered = subst (Ordered v last n xs ys) (sym (parted-whole ys g (o .ks) (o .stands .before) (o .stands .parted))) (o .ordered); few = o .few }
+pub ordering-all : (v : ℕ) (counting : List ℕ) (n : ℕ) (xs ys : List ℕ) (g : Gap) → Ordering v counting n xs ys g → OrderedAll v counting n xs ys g
+ordering-all v counting n xs ys g o = record { ordered = subst (Ordered v counting n xs ys) (sym (parted-whole ys g (o .ks) (o .stands .before) (o .stands .parted))) (o .ordered); few = o .few }

@@ -2,19 +2,22 @@
 -- and the front costs, in order, and that `journeyOf` is the journey that the tie rule selects.
 use mathlib.Core.Bool.{Bool, _&&_, not}
 use mathlib.Core.List.{List, [], _∷_, _++_, map, reverse}
-use Prim.Native.Nat.{ℕ, zero, suc, _-_}
+use Prim.Native.Nat.{ℕ, zero, suc, _+_, _-_}
 use lib.Dec.{eqb, leb}
 use lib.ListN.{length}
 use Rattle.sheet.specs.Lists.{filter, all}
 use Rattle.sheet.specs.Sorting.{sortUnique}
-use Rattle.sheet.specs.Sheet.{Sheet, steps, goal}
+use Rattle.sheet.specs.Sheet.{Sheet, steps, goal, unload}
 use Rattle.costs.specs.Costs.{Cost}
 use Rattle.costs.specs.Computed.{sameb, dominatesb}
+use Rattle.intervals.specs.Intervals.{freeb}
+use Rattle.intervals.specs.Computed.{runb}
 use Rattle.arrivals.specs.Computed.{Walk, walks}
 use Rattle.journeys.specs.Journeys.{rank}
 
 unfoldable pub countsb : Sheet → ℕ → Bool
-countsb s t = leb t (steps s)
+unfolding freeb
+countsb s t = let r = runb s (goal s) t (unload s) in leb (t + unload s) (steps s) && r
 
 -- the enumeration: the ways of t steps that end at the goal, where t counts
 abbrev pub atGoal : Sheet → ℕ → Walk → Bool

@@ -3,7 +3,7 @@ use mathlib.Core.Path.{_≡_}
 use mathlib.Core.Bool.{Bool, true, false, _&&_}
 use mathlib.Core.List.{List, [], _∷_, _++_, map}
 use Prim.Native.Nat.{ℕ, _*_, _+_, _≤_, _<_}
-use lib.Dec.{eqb, leb}
+use lib.Dec.{eqb}
 use lib.ListN.{length, getD}
 use Rattle.sheet.specs.Lists.{pick, number, filter, bind}
 use Rattle.costs.specs.Costs.{Cost, figures}
@@ -14,6 +14,8 @@ use Rattle.journeys.specs.Calls.{FrontEnd}
 use Rattle.journeys.specs.Demand3.{SameLists}
 use Rattle.journeys.specs.Held.{tableRows}
 use Rattle.journeys.specs.declared.front.Offered.{Offered}
+pub mod Counting
+pub mod Offers
 pub mod Lookup
 pub mod Waits
 pub mod Marks
@@ -22,16 +24,16 @@ pub mod Chain
 pub mod Sweep
 pub mod Slow
 
--- an arrival at the goal at step t counts
-abbrev pub countsAt : ℕ → ℕ → Bool
-countsAt last t = leb t last
+-- an arrival at the goal at step t counts, told by the number of the step
+abbrev pub countsAt : List ℕ → ℕ → Bool
+countsAt counting t = eqb (number counting t) 1
 
 -- an arrival at the place v that counts
-abbrev pub isGoalRow : ℕ → ℕ → Arrival → Bool
-isGoalRow v last a = eqb (a .place) v && countsAt last (a .step)
+abbrev pub isGoalRow : ℕ → List ℕ → Arrival → Bool
+isGoalRow v counting a = eqb (a .place) v && countsAt counting (a .step)
 
-abbrev pub goalRows : ℕ → ℕ → ℕ → List ℕ → List Arrival
-goalRows v last n xs = filter (isGoalRow v last) (tableRows n xs)
+abbrev pub goalRows : ℕ → List ℕ → ℕ → List ℕ → List Arrival
+goalRows v counting n xs = filter (isGoalRow v counting) (tableRows n xs)
 
 abbrev pub costsOf : List Arrival → List Cost
 costsOf l = map (λ a. a .cost) l

@@ -1,15 +1,18 @@
 // The front of a sheet and a journey of it: off the sheet in one array with the first steps of its free runs, and from the sheet's bytes.
 ghost use mathlib.Core.Path.{_≡_};
 ghost use mathlib.Core.List.{[]};
+ghost use Prim.Native.Nat.{_*_, _≤_};
 ghost use lib.ListN.{length};
 ghost use Rattle.sheet.specs.Lists.{filled};
 ghost use Rattle.sheet.specs.Store.{SomeStore, sheetIn};
 ghost use Rattle.intervals.specs.FirstSteps.{Derived};
 ghost use Rattle.journeys.specs.Computed.{journeyOf};
 ghost use Rattle.journeys.specs.Held.{Layable};
+ghost use Rattle.journeys.specs.Inner.Offers.{Offers};
 ghost use Rattle.journeys.specs.Calls.{cleared, frontEnd, frontRefused, frontOn, frontCall, journeyEnd, journeyRefused, journeyOn, journeyCall};
 use crate::FrontAnswer;
 use crate::JourneyAnswer;
+use crate::counting::fill_counting;
 use crate::front::count_front;
 use crate::front::list_front;
 use crate::front::nth_front;
@@ -35,8 +38,33 @@ fn refuse_front(number: u32, line: u32) -> FrontAnswer
     }
 }
 
-// The front of the sheet in the array: the arrivals table and the front list filled, zeros to their ends; or 8 or 9. The front is counted before
-// anything is written into the list.
+// The front off the first n rows of the table, the arrivals at place v that count: the front list filled; or 9. The front is counted before anything
+// is written into the list.
+fn offer_front(
+    table: &mut [u32],
+    n: usize,
+    v: Place,
+    counting: &[u8],
+    list: &mut [u32],
+) -> FrontAnswer
+    requires { ⌜ n * 5 ≤ length (now table) ⌝ }
+    ensures { λ r. ⌜ Offers (v .0) (now (counting .entry)) n (now (table .entry)) (now (list .entry)) (frontEnd r (now (table .exit)) (now (list .exit))) ⌝ }
+{
+    let costs = count_front(table, n, v, counting);
+    if list.len() / 4 < costs {
+        clear_from(table, 0);
+        return refuse_front(9, 0);
+    }
+    list_front(table, n, v, counting, list);
+    FrontAnswer {
+        refusal: 0,
+        line: 0,
+        costs: costs as u64,
+        arrivals: n as u64,
+    }
+}
+
+// The front of the sheet in the array: the arrivals table and the front list filled, zeros to their ends; or 8 or 9.
 pub fn front_of(
     lines: &[u32],
     all: &[u32],
@@ -52,19 +80,9 @@ pub fn front_of(
     if !r.served {
         return refuse_front(8, 0);
     }
-    let n = r.arrivals;
-    let costs = count_front(table, n, Place(all[3]), Step(all[1]));
-    if list.len() / 4 < costs {
-        clear_from(table, 0);
-        return refuse_front(9, 0);
-    }
-    list_front(table, n, Place(all[3]), Step(all[1]), list);
-    FrontAnswer {
-        refusal: 0,
-        line: 0,
-        costs: costs as u64,
-        arrivals: n as u64,
-    }
+    let mut counting = [0u8; 256];
+    fill_counting(all, since, &mut counting);
+    offer_front(table, r.arrivals, Place(all[3]), &counting, list)
 }
 
 // The same, with the first steps worked out here.
@@ -151,7 +169,9 @@ pub fn journey_of(
         return refuse_journey(8, 0);
     }
     let n = r.arrivals;
-    let o = nth_front(table, n, Place(all[3]), Step(all[1]), number);
+    let mut counting = [0u8; 256];
+    fill_counting(all, since, &mut counting);
+    let o = nth_front(table, n, Place(all[3]), &counting, number);
     if !o.found {
         return refuse_searched(10, table);
     }

@@ -116,11 +116,11 @@ fn pass_rows(table: &mut [u32], v: Place, from: Sweep, most: usize) -> Sweep
 }
 
 // Begins at the first of the arrivals at place v that count, of the first n rows.
-fn begin(table: &mut [u32], n: usize, v: Place, last: Step) -> Sweep
+fn begin(table: &mut [u32], n: usize, v: Place, counting: &[u8]) -> Sweep
     requires { ⌜ (n ≤ 4294967295) × (n * 5 ≤ length (now table)) ⌝ }
-    ensures { λ r. ⌜ Begun (v .0) (last .0) n (now (table .entry)) (now (table .exit)) r ⌝ }
+    ensures { λ r. ⌜ Begun (v .0) (now (counting .entry)) n (now (table .entry)) (now (table .exit)) r ⌝ }
 {
-    let all = order_rows(table, n, v, last);
+    let all = order_rows(table, n, v, counting);
     Sweep {
         at: all.first,
         rest: all.rows,
@@ -141,28 +141,28 @@ fn undo(table: &mut [u32], v: Place, s: Sweep)
 }
 
 // The count of front costs.
-pub fn count_front(table: &mut [u32], n: usize, v: Place, last: Step) -> usize
+pub fn count_front(table: &mut [u32], n: usize, v: Place, counting: &[u8]) -> usize
     requires { ⌜ n * 5 ≤ length (now table) ⌝ }
-    ensures { λ r. ⌜ FrontCounted (v .0) (last .0) n (now (table .entry)) (now (table .exit)) r ⌝ }
+    ensures { λ r. ⌜ FrontCounted (v .0) (now (counting .entry)) n (now (table .entry)) (now (table .exit)) r ⌝ }
 {
     if 4294967295 < n {
-        return count_rows(table, n, v, last, true, [0; 3]);
+        return count_rows(table, n, v, counting, true, [0; 3]);
     }
-    let all = begin(table, n, v, last);
+    let all = begin(table, n, v, counting);
     let end = pass_rows(table, v, all, 4294967295);
     undo(table, v, end);
     end.count
 }
 
 // The front cost with a number, from 0, with its arrival step.
-pub fn nth_front(table: &mut [u32], n: usize, v: Place, last: Step, number: u32) -> Offered
+pub fn nth_front(table: &mut [u32], n: usize, v: Place, counting: &[u8], number: u32) -> Offered
     requires { ⌜ n * 5 ≤ length (now table) ⌝ }
-    ensures { λ r. ⌜ FrontNumbered (v .0) (last .0) n (now (table .entry)) (now (table .exit)) number r ⌝ }
+    ensures { λ r. ⌜ FrontNumbered (v .0) (now (counting .entry)) n (now (table .entry)) (now (table .exit)) number r ⌝ }
 {
     if 4294967295 < n {
-        return nth_slow(table, n, v, last, number as usize);
+        return nth_slow(table, n, v, counting, number as usize);
     }
-    let all = begin(table, n, v, last);
+    let all = begin(table, n, v, counting);
     let end = pass_rows(table, v, all, number as usize + 1);
     undo(table, v, end);
     if end.count <= number as usize {
@@ -218,15 +218,15 @@ fn list_rows(table: &mut [u32], v: Place, from: Sweep, list: &mut [u32]) -> Swee
 }
 
 // Writes the front list: a row of three figures and the arrival step for each front cost, in order, then zeros to its end.
-pub fn list_front(table: &mut [u32], n: usize, v: Place, last: Step, list: &mut [u32])
-    requires { ⌜ ListableFront (v .0) (last .0) n (now table) (now list) ⌝ }
-    ensures { λ _. ⌜ FrontListed (v .0) (last .0) n (now (table .entry)) (now (table .exit)) (now (list .entry)) (now (list .exit)) ⌝ }
+pub fn list_front(table: &mut [u32], n: usize, v: Place, counting: &[u8], list: &mut [u32])
+    requires { ⌜ ListableFront (v .0) (now counting) n (now table) (now list) ⌝ }
+    ensures { λ _. ⌜ FrontListed (v .0) (now (counting .entry)) n (now (table .entry)) (now (table .exit)) (now (list .entry)) (now (list .exit)) ⌝ }
 {
     if 4294967295 < n {
-        list_slow(table, n, v, last, list);
+        list_slow(table, n, v, counting, list);
         return;
     }
-    let all = begin(table, n, v, last);
+    let all = begin(table, n, v, counting);
     let end = list_rows(table, v, all, list);
     undo(table, v, end);
     clear_from(list, end.count * 4);

@@ -4,30 +4,24 @@ ghost use mathlib.Core.Path.{_≡_};
 ghost use Prim.Native.Nat.{_+_, _*_, _≤_, _<_};
 ghost use lib.ListN.{length};
 ghost use Rattle.arrivals.specs.Rows.{rowAt};
-ghost use Rattle.journeys.specs.Inner.{countsAt, isGoalRow};
+ghost use Rattle.journeys.specs.Inner.{isGoalRow};
 ghost use Rattle.journeys.specs.Inner.Chain.{Seekable, SoughtFrom, Sought, Orderable, OrderedIn, OrderedAll};
 use crate::chain::Gap;
 use crate::chain::link_in;
 use crate::chain::next_gap;
 use crate::chain::start;
+use crate::counting::counts_at;
 use arrivals::rows::row_cost;
 use costs::before;
 use sheet::Place;
 use sheet::Step;
 
-// Whether an arrival at the goal at a step counts: no later than the last step.
-fn counts_at(step: Step, last: Step) -> bool
-    ensures { λ r. ⌜ r ≡ countsAt (last .0) (step .0) ⌝ }
-{
-    step.0 <= last.0
-}
-
 // Whether row k is an arrival at place v that counts.
-pub fn is_goal_row(table: &[u32], k: usize, v: Place, last: Step) -> bool
+pub fn is_goal_row(table: &[u32], k: usize, v: Place, counting: &[u8]) -> bool
     requires { ⌜ k * 5 + 5 ≤ length (now table) ⌝ }
-    ensures { λ r. ⌜ r ≡ isGoalRow (v .0) (last .0) (rowAt (now (table .entry)) k) ⌝ }
+    ensures { λ r. ⌜ r ≡ isGoalRow (v .0) (now (counting .entry)) (rowAt (now (table .entry)) k) ⌝ }
 {
-    (table[k * 5] == v.0) & counts_at(Step(table[k * 5 + 1]), last)
+    (table[k * 5] == v.0) & counts_at(counting, Step(table[k * 5 + 1]))
 }
 
 // Where to look for the cost g from on: at the gap, or at the chain's start if g comes before the row before the gap.
@@ -62,11 +56,11 @@ fn seek(table: &[u32], gap: Gap, g: [u32; 3]) -> Gap
 }
 
 // Puts row k into the chain of the goal's rows before it, if it is one of them.
-fn order_row(table: &mut [u32], k: usize, v: Place, last: Step, gap: Gap) -> Gap
-    requires { ⌜ Orderable (v .0) (last .0) k (now table) gap ⌝ }
-    ensures { λ r. ⌜ OrderedIn (v .0) (last .0) k (now (table .entry)) (now (table .exit)) gap r ⌝ }
+fn order_row(table: &mut [u32], k: usize, v: Place, counting: &[u8], gap: Gap) -> Gap
+    requires { ⌜ Orderable (v .0) (now counting) k (now table) gap ⌝ }
+    ensures { λ r. ⌜ OrderedIn (v .0) (now (counting .entry)) k (now (table .entry)) (now (table .exit)) gap r ⌝ }
 {
-    if !is_goal_row(table, k, v, last) {
+    if !is_goal_row(table, k, v, counting) {
         return gap;
     }
     let at = seek(table, gap, row_cost(table, k));
@@ -74,13 +68,13 @@ fn order_row(table: &mut [u32], k: usize, v: Place, last: Step, gap: Gap) -> Gap
 }
 
 // Chains the arrivals at place v that count, of the first n rows; the chain's first row and its count of rows are handed back.
-pub fn order_rows(table: &mut [u32], n: usize, v: Place, last: Step) -> Gap
+pub fn order_rows(table: &mut [u32], n: usize, v: Place, counting: &[u8]) -> Gap
     requires { ⌜ (n ≤ 4294967295) × (n * 5 ≤ length (now table)) ⌝ }
-    ensures { λ r. ⌜ OrderedAll (v .0) (last .0) n (now (table .entry)) (now (table .exit)) r ⌝ }
+    ensures { λ r. ⌜ OrderedAll (v .0) (now (counting .entry)) n (now (table .entry)) (now (table .exit)) r ⌝ }
 {
     let mut at = start(0, 0);
     for k in 0..n {
-        at = order_row(table, k, v, last, at);
+        at = order_row(table, k, v, counting, at);
     }
     at
 }

@@ -11,7 +11,7 @@ use Rattle.sheet.specs.Lists.{pick, number, any, rows, bind}
 use Rattle.sheet.specs.Computed.{lexb}
 use Rattle.sheet.specs.Bytes.{kindOf, comma, split}
 use Rattle.sheet.specs.Decimal.{digitsFrom, numberOf, mostDigits}
-use Rattle.sheet.specs.Kinds.{Limit, between, place, step, cost, Pair, alone, different, ordered, Kind, width, kindS, kindO, kinds}
+use Rattle.sheet.specs.Kinds.{Limit, between, place, step, cost, unloading, Pair, alone, different, ordered, Kind, width, kindS, kindO, kinds}
 use Rattle.sheet.specs.Lines.{Line, line, lineOf}
 use Rattle.sheet.specs.Sheet.{Sheet, group, fault, lacking, Outcome, refused, loaded, judge}
 use Rattle.sheet.specs.Text.{lineText, sheetText}
@@ -30,7 +30,8 @@ abbrev pub limitAt : ℕ → Limit
 limitAt zero = place
 limitAt (suc zero) = step
 limitAt (suc (suc zero)) = cost
-limitAt (suc (suc (suc n))) = between 1 64
+limitAt (suc (suc (suc zero))) = between 1 64
+limitAt (suc (suc (suc (suc n)))) = unloading
 
 abbrev pub pairAt : ℕ → ℕ → ℕ → Pair
 pairAt zero i j = alone

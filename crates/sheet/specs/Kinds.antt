@@ -1,7 +1,7 @@
--- The kinds of lines, one row each, as document 01, "The sheet", lists them:
---   `S,places,steps,start,goal,w1,w2,w3`   once, first
---   `C,from,to,c1,c2,c3`                   up to 256, strictly ascending by (from, to)
---   `O,place,first,last`                   up to 256, strictly ascending by (place, first, last)
+-- The kinds of lines, one row each, as document 01, "The sheet", lists them, with u by document 02, E2:
+--   `S,places,steps,start,goal,w1,w2,w3,u`   once, first
+--   `C,from,to,c1,c2,c3`                     up to 256, strictly ascending by (from, to)
+--   `O,place,first,last`                     up to 256, strictly ascending by (place, first, last)
 use mathlib.Core.List.{List, [], _∷_}
 use Prim.Native.Nat.{ℕ, _*_}
 use lib.ListN.{length}
@@ -43,8 +43,12 @@ step = between 0 255
 abbrev pub cost : Limit
 cost = between 0 60000
 
+-- the time to unload (E2)
+abbrev pub unloading : Limit
+unloading = between 0 99
+
 abbrev pub kindS : Kind
-kindS = record { letter = 83; limits = between 1 64 ∷ step ∷ place ∷ place ∷ cost ∷ cost ∷ cost ∷ []; most = 1; pair = alone; key = 0; order = 0 }
+kindS = record { letter = 83; limits = between 1 64 ∷ step ∷ place ∷ place ∷ cost ∷ cost ∷ cost ∷ unloading ∷ []; most = 1; pair = alone; key = 0; order = 0 }
 
 abbrev pub kindC : Kind
 kindC = record { letter = 67; limits = place ∷ place ∷ cost ∷ cost ∷ cost ∷ []; most = 256; pair = different 0 1; key = 2; order = 1 }

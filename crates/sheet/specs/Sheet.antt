@@ -1,4 +1,4 @@
--- The sheet: its groups, the tests of a line, and what bytes read as (document 01, "The sheet" and "Who causes which refusal"; document 02, E6).
+-- The sheet: its groups, the tests of a line, and what bytes read as (document 01, "The sheet" and "Who causes which refusal"; document 02, E2 and E6).
 -- The lines before a line are given whole, in the order of the sheet.
 use mathlib.Core.Bool.{Bool, true, false, not, _&&_, _||_}
 use mathlib.Core.List.{List, [], _∷_, _++_, map}
@@ -18,7 +18,7 @@ pub record Sheet : Type 0 where
   pub corridors : List (List ℕ)
   pub occupancies : List (List ℕ)
 
--- `S,places,steps,start,goal,w1,w2,w3`
+-- `S,places,steps,start,goal,w1,w2,w3,u`
 abbrev pub places : Sheet → ℕ
 places s = number (s .head) 0
 
@@ -30,6 +30,9 @@ start s = number (s .head) 2
 
 abbrev pub goal : Sheet → ℕ
 goal s = number (s .head) 3
+
+abbrev pub unload : Sheet → ℕ
+unload s = number (s .head) 7
 
 -- `C,from,to,c1,c2,c3`
 abbrev pub from : List ℕ → ℕ

@@ -1,4 +1,4 @@
--- A valid sheet: what document 01, "The sheet", and document 02, E6, ask of its numbers. Every sheet that is read is one (Laws.Valid).
+-- A valid sheet: what document 01, "The sheet", and document 02, E2 and E6, ask of its numbers. Every sheet that is read is one (Laws.Valid).
 use mathlib.Core.Path.{_≡_}
 use mathlib.Core.Logic.{_≢_}
 use mathlib.Core.List.{List}
@@ -7,7 +7,7 @@ use lib.ListN.{length, take}
 use Rattle.sheet.specs.Lists.{number, _∈_}
 use Rattle.sheet.specs.Sorting.{Ascending}
 use Rattle.sheet.specs.Kinds.{width, kindS, kindC, kindO}
-use Rattle.sheet.specs.Sheet.{Sheet, places, steps, start, goal, from, to, placeOf, first, last}
+use Rattle.sheet.specs.Sheet.{Sheet, places, steps, start, goal, unload, from, to, placeOf, first, last}
 
 -- a corridor between two places, no figure above 60,000
 pub record ValidCorridor (s : Sheet) (k : List ℕ) : Type 0 where
@@ -33,6 +33,7 @@ pub record Valid (s : Sheet) : Type 0 where
   pub start-place : start s < places s
   pub goal-place : goal s < places s
   pub wait : (i : ℕ) → 4 ≤ i → number (s .head) i ≤ 60000
+  pub most-unload : unload s ≤ 99
   pub corridors : (k : List ℕ) → k ∈ s .corridors → ValidCorridor s k
   pub most-corridors : length (s .corridors) ≤ kindC .most
   pub corridors-ascend : Ascending (take (kindC .key)) (s .corridors)

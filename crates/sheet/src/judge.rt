@@ -12,6 +12,7 @@ ghost use Rattle.sheet.specs.Store.{kindCount};
 ghost use Rattle.sheet.specs.Inner.{limitAt, pairAt, lineAt, misplacedBy, lateBy, notAboveBy, RowFits, Kept, LacksIs, FaultIs};
 use crate::kinds::ALONE;
 use crate::kinds::COST;
+use crate::kinds::COUNT;
 use crate::kinds::DIFFERENT;
 use crate::kinds::KINDS;
 use crate::kinds::O_LINE;
@@ -55,7 +56,10 @@ fn is_beyond(places: u32, limit: u8, n: u32) -> bool
     if limit == COST {
         return 60000 < n;
     }
-    (n < 1) | (64 < n)
+    if limit == COUNT {
+        return (n < 1) | (64 < n);
+    }
+    99 < n
 }
 
 // Test 4: one of the first w numbers is outside its limit.

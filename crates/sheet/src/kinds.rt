@@ -14,7 +14,7 @@ pub const O_LINE: usize = 2;
 pub const KINDS: usize = 3;
 
 // The numbers of a line of each kind, and of the most lines of it.
-pub const HEAD: usize = 7;
+pub const HEAD: usize = 8;
 
 pub const CORRIDOR: usize = 5;
 
@@ -37,7 +37,7 @@ pub const MOST_BYTES: usize = 10240;
 // The most digits of a number.
 pub const DIGITS: usize = 5;
 
-// The limits of numbers: a place of the sheet; 0 to 255; 0 to 60,000; 1 to 64.
+// The limits of numbers: a place of the sheet; 0 to 255; 0 to 60,000; 1 to 64; 0 to 99.
 pub const PLACE: u8 = 0;
 
 pub const STEP: u8 = 1;
@@ -45,6 +45,8 @@ pub const STEP: u8 = 1;
 pub const COST: u8 = 2;
 
 pub const COUNT: u8 = 3;
+
+pub const UNLOAD: u8 = 4;
 
 // What two numbers of a line must be: nothing; different; the first at most the second.
 pub const ALONE: u8 = 0;
@@ -74,7 +76,7 @@ fn head_row() -> Row
     Row {
         letter: b'S',
         width: HEAD,
-        limits: [COUNT, STEP, PLACE, PLACE, COST, COST, COST, 0],
+        limits: [COUNT, STEP, PLACE, PLACE, COST, COST, COST, UNLOAD],
         most: 1,
         pair: ALONE,
         one: 0,

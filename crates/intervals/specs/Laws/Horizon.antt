@@ -52,7 +52,7 @@ unfoldable pub withinHorizon : Sheet → Sheet
 withinHorizon s =
     record { head = s .head; corridors = s .corridors; occupancies = map (cutOff (steps s)) (s .occupancies) }
 
-bool-same : (a b : Bool) → (a ≡ true → b ≡ true) → (b ≡ true → a ≡ true) → a ≡ b
+pub bool-same : (a b : Bool) → (a ≡ true → b ≡ true) → (b ≡ true → a ≡ true) → a ≡ b
 bool-same true b f g = sym (f refl)
 bool-same false true f g = g refl
 bool-same false false f g = refl

@@ -127,29 +127,29 @@ pub record Sought (xs : List ℕ) (g : Gap) (c : Cost) (r : Gap) : Type 0 where
   pub right-above : 0 < r .rest → lexb c (costAt xs (r .right)) ≡ true
 
 -- ks are the goal's rows among the first n of the table `base`, in order, and xs is that table but for their place column
-pub record Ordered (v last n : ℕ) (base xs ks : List ℕ) : Type 0 where
+pub record Ordered (v : ℕ) (counting : List ℕ) (n : ℕ) (base xs ks : List ℕ) : Type 0 where
   pub ascending : Ascending (rank (costAt base)) ks
-  pub are : (k : ℕ) → k ∈ ks → (k < n) × (isGoalRow v last (rowAt base k) ≡ true)
-  pub all : (k : ℕ) → k < n → isGoalRow v last (rowAt base k) ≡ true → k ∈ ks
+  pub are : (k : ℕ) → k ∈ ks → (k < n) × (isGoalRow v counting (rowAt base k) ≡ true)
+  pub all : (k : ℕ) → k < n → isGoalRow v counting (rowAt base k) ≡ true → k ∈ ks
   pub differ : Differ base xs ks
 
 -- and the gap stands in their chain
-pub record Ordering (v last n : ℕ) (base xs : List ℕ) (g : Gap) : Type 0 where
+pub record Ordering (v : ℕ) (counting : List ℕ) (n : ℕ) (base xs : List ℕ) (g : Gap) : Type 0 where
   pub ks : List ℕ
   pub stands : Stands xs g ks
-  pub ordered : Ordered v last n base xs ks
+  pub ordered : Ordered v counting n base xs ks
   pub few : g .rows ≤ n
 
-pub record Orderable (v last n : ℕ) (xs : List ℕ) (g : Gap) : Type 0 where
+pub record Orderable (v : ℕ) (counting : List ℕ) (n : ℕ) (xs : List ℕ) (g : Gap) : Type 0 where
   pub small : n < 4294967295
   pub room : n * 5 + 5 ≤ length xs
   pub base : List ℕ
-  pub ordering : Ordering v last n base xs g
+  pub ordering : Ordering v counting n base xs g
 
-pub record OrderedIn (v last n : ℕ) (xs ys : List ℕ) (g r : Gap) : Type 0 where
-  pub of : (base : List ℕ) → Ordering v last n base xs g → Ordering v last (n + 1) base ys r
+pub record OrderedIn (v : ℕ) (counting : List ℕ) (n : ℕ) (xs ys : List ℕ) (g r : Gap) : Type 0 where
+  pub of : (base : List ℕ) → Ordering v counting n base xs g → Ordering v counting (n + 1) base ys r
 
 -- the chain holds the goal's rows
-pub record OrderedAll (v last n : ℕ) (xs ys : List ℕ) (r : Gap) : Type 0 where
-  pub ordered : Ordered v last n xs ys (chain ys (r .rows) (r .first))
+pub record OrderedAll (v : ℕ) (counting : List ℕ) (n : ℕ) (xs ys : List ℕ) (r : Gap) : Type 0 where
+  pub ordered : Ordered v counting n xs ys (chain ys (r .rows) (r .first))
   pub few : r .rows ≤ n

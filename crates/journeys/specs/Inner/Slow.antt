@@ -21,20 +21,20 @@ abbrev pub noneOf : (ℕ → Bool) → ℕ → Bool
 noneOf p n = all (λ j. not (p j)) (below n)
 
 -- row j keeps row k off the front: it is an arrival that counts, nowhere above row k, and has the lower cost or comes first in the table
-unfoldable pub keptOff : ℕ → ℕ → List ℕ → ℕ → ℕ → Bool
-keptOff v last xs k j = (isGoalRow v last (rowAt xs j) && atMostb (costAt xs j) (costAt xs k)) && (lexb (costAt xs j) (costAt xs k) || ltb j k)
+unfoldable pub keptOff : ℕ → List ℕ → List ℕ → ℕ → ℕ → Bool
+keptOff v counting xs k j = (isGoalRow v counting (rowAt xs j) && atMostb (costAt xs j) (costAt xs k)) && (lexb (costAt xs j) (costAt xs k) || ltb j k)
 
 -- row k is one of the front
-unfoldable pub isFrontRow : ℕ → ℕ → ℕ → List ℕ → ℕ → Bool
-isFrontRow v last n xs k = noneOf (keptOff v last xs k) n && isGoalRow v last (rowAt xs k)
+unfoldable pub isFrontRow : ℕ → List ℕ → ℕ → List ℕ → ℕ → Bool
+isFrontRow v counting n xs k = noneOf (keptOff v counting xs k) n && isGoalRow v counting (rowAt xs k)
 
 -- and its cost is before g, unless all are counted
-abbrev pub inCount : ℕ → ℕ → ℕ → List ℕ → Bool → Cost → ℕ → Bool
-inCount v last n xs every g k = isFrontRow v last n xs k && (every || lexb (costAt xs k) g)
+abbrev pub inCount : ℕ → List ℕ → ℕ → List ℕ → Bool → Cost → ℕ → Bool
+inCount v counting n xs every g k = isFrontRow v counting n xs k && (every || lexb (costAt xs k) g)
 
-abbrev pub countTo : ℕ → ℕ → ℕ → List ℕ → Bool → Cost → ℕ → ℕ
-countTo v last n xs every g k = length (filter (inCount v last n xs every g) (below k))
+abbrev pub countTo : ℕ → List ℕ → ℕ → List ℕ → Bool → Cost → ℕ → ℕ
+countTo v counting n xs every g k = length (filter (inCount v counting n xs every g) (below k))
 
 -- row k is the one with the number i: so many of the front's rows have a cost before its cost
-abbrev pub hasNumber : ℕ → ℕ → ℕ → List ℕ → ℕ → ℕ → Bool
-hasNumber v last n xs i k = isFrontRow v last n xs k && eqb (countTo v last n xs false (costAt xs k) n) i
+abbrev pub hasNumber : ℕ → List ℕ → ℕ → List ℕ → ℕ → ℕ → Bool
+hasNumber v counting n xs i k = isFrontRow v counting n xs k && eqb (countTo v counting n xs false (costAt xs k) n) i

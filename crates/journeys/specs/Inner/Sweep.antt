@@ -101,13 +101,13 @@ pub record Undone (v : ℕ) (xs ys : List ℕ) (s : Sweep) : Type 0 where
   pub of : (base fs : List ℕ) → Sweeps base v xs s fs → ys ≡ base
 
 -- fs are the rows of the front: the costs of the front, and with each the step of its first arrival
-pub record FrontRows (v last n : ℕ) (base fs : List ℕ) : Type 0 where
-  pub costs-are : map (costAt base) fs ≡ frontOf (costsOf (goalRows v last n base))
-  pub steps-are : (k : ℕ) → k ∈ fs → rowAt base k .step ≡ firstStep (costAt base k) (goalRows v last n base)
+pub record FrontRows (v : ℕ) (counting : List ℕ) (n : ℕ) (base fs : List ℕ) : Type 0 where
+  pub costs-are : map (costAt base) fs ≡ frontOf (costsOf (goalRows v counting n base))
+  pub steps-are : (k : ℕ) → k ∈ fs → rowAt base k .step ≡ firstStep (costAt base k) (goalRows v counting n base)
 
-pub record Begun (v last n : ℕ) (base xs : List ℕ) (s : Sweep) : Type 0 where
+pub record Begun (v : ℕ) (counting : List ℕ) (n : ℕ) (base xs : List ℕ) (s : Sweep) : Type 0 where
   pub fs : List ℕ
-  pub front : FrontRows v last n base fs
+  pub front : FrontRows v counting n base fs
   pub sweeps : Sweeps base v xs s fs
   pub none-yet : s .count ≡ 0
 
@@ -138,19 +138,19 @@ pub record ListedAll (v : ℕ) (xs ys : List ℕ) (s r : Sweep) (list list′ : 
   pub end : r .rest ≡ 0
 
 -- what listing the front asks for
-pub record ListableFront (v last n : ℕ) (xs list : List ℕ) : Type 0 where
+pub record ListableFront (v : ℕ) (counting : List ℕ) (n : ℕ) (xs list : List ℕ) : Type 0 where
   pub room : n * 5 ≤ length xs
-  pub list-room : length (frontOf (costsOf (goalRows v last n xs))) * 4 ≤ length list
+  pub list-room : length (frontOf (costsOf (goalRows v counting n xs))) * 4 ≤ length list
 
 -- the count of front costs; the front cost with a number; the list of the front. Each leaves the table as it was
-pub record FrontCounted (v last n : ℕ) (xs ys : List ℕ) (r : ℕ) : Type 0 where
-  pub counted : r ≡ length (frontOf (costsOf (goalRows v last n xs)))
+pub record FrontCounted (v : ℕ) (counting : List ℕ) (n : ℕ) (xs ys : List ℕ) (r : ℕ) : Type 0 where
+  pub counted : r ≡ length (frontOf (costsOf (goalRows v counting n xs)))
   pub kept : ys ≡ xs
 
-pub record FrontNumbered (v last n : ℕ) (xs ys : List ℕ) (i : ℕ) (r : Offered) : Type 0 where
-  pub numbered : NumberIs (goalRows v last n xs) i r
+pub record FrontNumbered (v : ℕ) (counting : List ℕ) (n : ℕ) (xs ys : List ℕ) (i : ℕ) (r : Offered) : Type 0 where
+  pub numbered : NumberIs (goalRows v counting n xs) i r
   pub kept : ys ≡ xs
 
-pub record FrontListed (v last n : ℕ) (xs ys list list′ : List ℕ) : Type 0 where
-  pub listed : list′ ≡ filled (length list) (offeredRows (goalRows v last n xs))
+pub record FrontListed (v : ℕ) (counting : List ℕ) (n : ℕ) (xs ys list list′ : List ℕ) : Type 0 where
+  pub listed : list′ ≡ filled (length list) (offeredRows (goalRows v counting n xs))
   pub kept : ys ≡ xs

@@ -2,18 +2,18 @@
 -- front cost has its arrival step, since the rows ascend by step.
 use mathlib.Core.Path.{_≡_, refl, sym, _∙_, ap, subst}
 use mathlib.Core.Logic.{inl, inr}
-use mathlib.Core.Bool.{Bool, true, false, true≢false}
+use mathlib.Core.Bool.{Bool, true, false, _&&_, true≢false}
 use mathlib.Core.List.{List, [], _∷_, _++_, map, append-assoc}
 use Prim.Native.Nat.{ℕ, suc, _-_, _/_, _≤_}
 use native.Mathlib.Omega.{arith}
 use native.Mathlib.Nat.{div-add-mod'}
-use lib.Dec.{eqb, leb}
+use lib.Dec.{eqb}
 use lib.ListN.{length, replicate, length-map}
 use lib.Seq.{take-at, drop-at}
 use borrow.Author.Tests.{eqb-true, eq-eqb}
 use Rattle.sheet.specs.Lists.{_∈_, pick, numbersFrom, rows, flat, bind, filter, Lex}
 use Rattle.sheet.specs.Sorting.{Ascending}
-use Rattle.sheet.specs.Sheet.{Sheet, steps, goal}
+use Rattle.sheet.specs.Sheet.{Sheet, goal}
 use Rattle.sheet.specs.Laws.Order.{and-true, true-and}
 use Rattle.sheet.specs.Laws.Members.{filter-mem, mem-filter, map-mem, mem-map}
 use Rattle.sheet.specs.Laws.Ascending.{before-all, filter-ascending}
@@ -29,18 +29,26 @@ use Rattle.journeys.specs.Computed.{countsb, arrivalOf, frontOf, front}
 use Rattle.journeys.specs.Front.{OnFront}
 use Rattle.journeys.specs.Held.{rowOf, tableRows, Holds}
 use Rattle.journeys.specs.Inner.{isGoalRow, goalRows, costsOf, firstStep}
+use Rattle.journeys.specs.Inner.Counting.{CountingOf}
 use Rattle.journeys.specs.Laws.Counts.{countsb-true, counts-countsb}
 use Rattle.journeys.specs.Laws.Front.{front-on}
-use Rattle.journeys.specs.Laws.Goal.{goalCosts, front-by-leading, Earliest, arrivalOf-earliest, arrivalOf-leading}
+use Rattle.journeys.specs.Laws.Goal.{standsAtGoal, goalCosts, front-by-leading, Earliest, arrivalOf-earliest, arrivalOf-leading}
+
+filter-alike : (p q : Arrival → Bool) → ((a : Arrival) → p a ≡ q a) → (l : List Arrival) → filter p l ≡ filter q l
+filter-alike p q e [] = refl
+filter-alike p q e (a ∷ l) = rw (e a, filter-alike p q e l)
 
 -- the front of a sheet off its table
-module _ (s : Sheet) (n : ℕ) (xs : List ℕ) where
-  goal-leading : Holds s n xs → goalRows (goal s) (steps s) n xs ≡ filter (isGoalRow (goal s) (steps s)) (leading s)
-  goal-leading h = ap (filter (isGoalRow (goal s) (steps s))) (h .rows-are)
+module _ (s : Sheet) (n : ℕ) (xs counting : List ℕ) where
+  -- the goal's rows are the leading arrivals at the goal that count
+  goal-leading : Holds s n xs → CountingOf s counting → goalRows (goal s) counting n xs ≡ filter (standsAtGoal s) (leading s)
+  goal-leading h c =
+      ap (filter (isGoalRow (goal s) counting)) (h .rows-are)
+      ∙ filter-alike (isGoalRow (goal s) counting) (standsAtGoal s) (λ a. ap (λ (b : Bool). eqb (a .place) (goal s) && b) (c .of (a .step))) (leading s)
 
-  pub holds-front : Holds s n xs → front s ≡ frontOf (costsOf (goalRows (goal s) (steps s) n xs))
-  unfolding goalCosts countsb
-  holds-front h = front-by-leading s ∙ ap (λ (l : List Arrival). frontOf (costsOf l)) (sym (goal-leading h))
+  pub holds-front : Holds s n xs → CountingOf s counting → front s ≡ frontOf (costsOf (goalRows (goal s) counting n xs))
+  unfolding goalCosts
+  holds-front h c = front-by-leading s ∙ ap (λ (l : List Arrival). frontOf (costsOf l)) (sym (goal-leading h c))
 
 -- the first of the arrivals with a cost is one of them; and none is earlier, where they ascend
 first-of : (g : Cost) (l : List Arrival) → g ∈ costsOf l → (a : Arrival) × (a ∈ l) × (a .cost ≡ g) × (firstStep g l ≡ a .step)
@@ -67,12 +75,12 @@ first-earliest g (x ∷ l) s a m e = go (sameb (x .cost) g) refl m (first-earlie
     go false q (inl p) f = absurd (true≢false (sym (subst (λ (h : Cost). sameb h g ≡ true) (sym e ∙ ap (λ (y : Arrival). y .cost) p) (sameb-refl g)) ∙ q))
     go false q (inr m) f = f m e
 
-pub holds-step : (s : Sheet) (n : ℕ) (xs : List ℕ) (g : Cost) → Holds s n xs → g ∈ front s → firstStep g (goalRows (goal s) (steps s) n xs) ≡ arrivalOf s g
-unfolding countsb
-holds-step s n xs g h m = ap (firstStep g) (goal-leading s n xs h) ∙ same
+pub holds-step : (s : Sheet) (n : ℕ) (xs counting : List ℕ) (g : Cost) → Holds s n xs → CountingOf s counting → g ∈ front s
+    → firstStep g (goalRows (goal s) counting n xs) ≡ arrivalOf s g
+holds-step s n xs counting g h c m = ap (firstStep g) (goal-leading s n xs counting h c) ∙ same
   where
     test : Arrival → Bool
-    test = isGoalRow (goal s) (steps s)
+    test = standsAtGoal s
 
     l : List Arrival
     l = filter test (leading s)
@@ -89,12 +97,12 @@ holds-step s n xs g h m = ap (firstStep g) (goal-leading s n xs h) ∙ same
     listed : a ∈ l
     listed =
         mem-filter test a (leading s) (is-leading s a (arrivalOf-leading s g o))
-        (true-and (eqb (goal s) (goal s)) (leb (arrivalOf s g) (steps s)) (eq-eqb (goal s) (goal s) refl) (counts-countsb s (arrivalOf s g) (e .there .counts)))
+        (true-and (eqb (goal s) (goal s)) (countsb s (arrivalOf s g)) (eq-eqb (goal s) (goal s) refl) (counts-countsb s (arrivalOf s g) (e .there .counts)))
 
     no-sooner : (b : Arrival) → b ∈ l → b .cost ≡ g → arrivalOf s g ≤ b .step
     no-sooner b k q =
         let f = filter-mem test b (leading s) k in
-        let t = and-true (eqb (b .place) (goal s)) (leb (b .step) (steps s)) (f .1) in
+        let t = and-true (eqb (b .place) (goal s)) (countsb s (b .step)) (f .1) in
         let p : b ≡ arrival (goal s) (b .step) g = arrival-path b (arrival (goal s) (b .step) g) (eqb-true (b .place) (goal s) (t .0)) refl q in
         e .none-sooner (b .step) (record { arrives = subst (Arrives s) p (leading-is s b (f .0) .arrives); counts = countsb-true s (b .step) (t .1) })
 

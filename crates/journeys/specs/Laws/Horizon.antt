@@ -1,10 +1,11 @@
 -- A step past T has no effect on the front: the sheet without what lies past its horizon has the same lawful journeys, so the same front.
 use mathlib.Core.Path.{_≡_, refl, sym, _∙_}
 use Prim.Native.Nat.{ℕ}
+use native.Mathlib.Omega.{arith}
 use Rattle.sheet.specs.Sheet.{Sheet, goal}
 use Rattle.sheet.specs.Laws.Ascending.{ascending-unique}
 use Rattle.costs.specs.Costs.{Cost}
-use Rattle.intervals.specs.Laws.Horizon.{withinHorizon}
+use Rattle.intervals.specs.Laws.Horizon.{SameWithin, withinHorizon, past-horizon}
 use Rattle.arrivals.specs.Laws.Alike.{Alike, alike-back, alike-way, horizon-alike}
 use Rattle.journeys.specs.Journeys.{Counts, HasCost}
 use Rattle.journeys.specs.Front.{OnFront}
@@ -40,4 +41,12 @@ pub front-within-horizon : (s : Sheet) → front (withinHorizon s) ≡ front s
 unfolding withinHorizon
 front-within-horizon s =
     front-same (withinHorizon s) s
-    (record { alike = horizon-alike s; goals = refl; forth = λ t c. record { in-time = c .in-time }; back = λ t c. record { in-time = c .in-time } })
+    (record {
+      alike = horizon-alike s;
+      goals = refl;
+      forth = λ t c. record { in-time = c .in-time; stays = λ i p q. sym (h .free (goal s) i (omega (arith, c .in-time))) ∙ c .stays i p q };
+      back = λ t c. record { in-time = c .in-time; stays = λ i p q. h .free (goal s) i (omega (arith, c .in-time)) ∙ c .stays i p q };
+    })
+  where
+    h : SameWithin (withinHorizon s) s
+    h = past-horizon s

@@ -17,27 +17,27 @@ abbrev pub corridorsA : String
 corridorsA = "C,0,1,1,0,4\nC,0,2,1,3,0\nC,1,3,1,0,4\nC,2,3,1,3,0\n"
 
 abbrev pub sheetA : String
-sheetA = "S,4,6,0,3,1,0,0\n" ++ corridorsA ++ "O,1,1,2\n"
+sheetA = "S,4,6,0,3,1,0,0,0\n" ++ corridorsA ++ "O,1,1,2\n"
 
 abbrev pub table : List Printed
 table =
     -- A, whole
     shows sheetA "F,2,5\nJ,2,6,0,2\nP,0,2,3\nJ,4,0,8,4\nP,0,0,0,1,3\n"
     -- A with `O,1,0,6`: one cost (2,6,0), 3 arrivals
-    ∷ shows ("S,4,6,0,3,1,0,0\n" ++ corridorsA ++ "O,1,0,6\n") "F,1,3\nJ,2,6,0,2\nP,0,2,3\n"
+    ∷ shows ("S,4,6,0,3,1,0,0,0\n" ++ corridorsA ++ "O,1,0,6\n") "F,1,3\nJ,2,6,0,2\nP,0,2,3\n"
     -- A with goal 0: cost (0,0,0), arrival 0, path 0
-    ∷ shows ("S,4,6,0,0,1,0,0\n" ++ corridorsA ++ "O,1,1,2\n") "F,1,5\nJ,0,0,0,0\nP,0\n"
+    ∷ shows ("S,4,6,0,0,1,0,0,0\n" ++ corridorsA ++ "O,1,1,2\n") "F,1,5\nJ,0,0,0,0\nP,0\n"
     -- A with 3 steps: one cost, 4 arrivals; with 4 steps: two costs
-    ∷ shows ("S,4,3,0,3,1,0,0\n" ++ corridorsA ++ "O,1,1,2\n") "F,1,4\nJ,2,6,0,2\nP,0,2,3\n"
-    ∷ shows ("S,4,4,0,3,1,0,0\n" ++ corridorsA ++ "O,1,1,2\n") "F,2,5\nJ,2,6,0,2\nP,0,2,3\nJ,4,0,8,4\nP,0,0,0,1,3\n"
+    ∷ shows ("S,4,3,0,3,1,0,0,0\n" ++ corridorsA ++ "O,1,1,2\n") "F,1,4\nJ,2,6,0,2\nP,0,2,3\n"
+    ∷ shows ("S,4,4,0,3,1,0,0,0\n" ++ corridorsA ++ "O,1,1,2\n") "F,2,5\nJ,2,6,0,2\nP,0,2,3\nJ,4,0,8,4\nP,0,0,0,1,3\n"
     -- A with `O,0,0,0` alone
-    ∷ shows ("S,4,6,0,3,1,0,0\n" ++ corridorsA ++ "O,0,0,0\n") "F,0,0\n"
+    ∷ shows ("S,4,6,0,3,1,0,0,0\n" ++ corridorsA ++ "O,0,0,0\n") "F,0,0\n"
     -- A with `O,3,0,6` added
-    ∷ shows ("S,4,6,0,3,1,0,0\n" ++ corridorsA ++ "O,1,1,2\nO,3,0,6\n") "F,0,3\n"
+    ∷ shows ("S,4,6,0,3,1,0,0,0\n" ++ corridorsA ++ "O,1,1,2\nO,3,0,6\n") "F,0,3\n"
     -- B: only (2,0,0), path 0,1,2,3,4
-    ∷ shows "S,5,4,0,4,1,0,0\nC,0,1,1,0,0\nC,0,3,1,0,0\nC,1,2,1,0,0\nC,2,3,0,0,0\nC,3,4,0,0,0\nO,4,0,3\n" "F,1,6\nJ,2,0,0,4\nP,0,1,2,3,4\n"
+    ∷ shows "S,5,4,0,4,1,0,0,0\nC,0,1,1,0,0\nC,0,3,1,0,0\nC,1,2,1,0,0\nC,2,3,0,0,0\nC,3,4,0,0,0\nO,4,0,3\n" "F,1,6\nJ,2,0,0,4\nP,0,1,2,3,4\n"
     -- D: path 0,1,4,5, by E9 of document 02
-    ∷ shows "S,6,3,0,5,0,0,0\nC,0,1,1,0,0\nC,0,2,1,0,0\nC,1,4,1,0,0\nC,2,3,1,0,0\nC,3,5,1,0,0\nC,4,5,1,0,0\n" "F,1,6\nJ,3,0,0,3\nP,0,1,4,5\n"
+    ∷ shows "S,6,3,0,5,0,0,0,0\nC,0,1,1,0,0\nC,0,2,1,0,0\nC,1,4,1,0,0\nC,2,3,1,0,0\nC,3,5,1,0,0\nC,4,5,1,0,0\n" "F,1,6\nJ,3,0,0,3\nP,0,1,4,5\n"
     ∷ []
 
 pub marked : map (λ e. page (bytes (e .input))) table ≡ map (λ e. bytes (e .output)) table

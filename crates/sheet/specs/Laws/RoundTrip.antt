@@ -27,7 +27,7 @@ use Rattle.sheet.specs.Laws.Shape.{Shaped, AllShaped}
 use Rattle.sheet.specs.Laws.LineText.{sheet-letters, lines-back, lines-unread}
 use Rattle.sheet.specs.Laws.Groups.{sheet-lines, lines-sheet}
 use Rattle.sheet.specs.Laws.Valid.{numbers-below, passes-valid, valid-shaped, valid-passes}
-use Rattle.sheet.specs.Laws.TextBound.{text-bound}
+use Rattle.sheet.specs.Laws.TextBound.{longest, text-longest, text-bound}
 use Rattle.sheet.specs.Laws.Rows.{Wide, rows-count, rows-flat, flat-rows, flat-whole, rows-wide, take-filled, filled-full}
 
 -- a refusal has a number
@@ -328,12 +328,13 @@ read-valid b s e =
 pub valid-read : (s : Sheet) → Valid s → readOf (sheetText s) ≡ loaded s
 valid-read s v = write-read-sheet s (valid-shaped s v) (valid-passes s v)
 
-pub valid-text : (s : Sheet) → Valid s → length (sheetText s) ≤ mostBytes
+-- the most bytes of a valid sheet
+pub valid-text : (s : Sheet) → Valid s → length (sheetText s) ≤ longest
 unfolding sheetText
-valid-text s v = text-bound (sheetLines s) (valid-shaped s v) (valid-passes s v) (omega arith)
+valid-text s v = text-longest (sheetLines s) (valid-shaped s v) (valid-passes s v) (omega arith)
 
--- what the writer wrote is the text of a valid sheet, so it is at most 10,240 bytes
-pub write-bounded : (g : Groups) (out : List ℕ) → writeGroups g out .answer .refusal ≡ 0 → writeGroups g out .answer .bytes ≤ mostBytes
+-- what the writer wrote is the text of a valid sheet, so it is no longer than that
+pub write-bounded : (g : Groups) (out : List ℕ) → writeGroups g out .answer .refusal ≡ 0 → writeGroups g out .answer .bytes ≤ longest
 unfolding sheetText
 write-bounded g out e =
     let a = write-accepted g out e in
@@ -341,5 +342,5 @@ write-bounded g out e =
     omega (
       arith,
       ap (λ (w : WriteEnd). w .answer .bytes) (a .end),
-      text-bound (sheetLines s) (wide-shaped kinds (groupsOf s) (λ k m. m) (whole-wide g (a .whole))) (a .passes) (omega arith),
+      text-longest (sheetLines s) (wide-shaped kinds (groupsOf s) (λ k m. m) (whole-wide g (a .whole))) (a .passes) (omega arith),
     )

@@ -9,7 +9,7 @@ use native.Mathlib.Omega.{arith}
 use native.Mathlib.Nat.{mul-le-mul-right}
 use lib.Dec.{ltb}
 use lib.ListN.{length, length-append}
-use borrow.Author.Tests.{ltb-true, ltb-false, leb-true}
+use borrow.Author.Tests.{ltb-true, ltb-false}
 use Rattle.sheet.specs.Lists.{pick, number, bind}
 use Rattle.sheet.specs.Decimal.{digitsOf, mostDigits}
 use Rattle.sheet.specs.Kinds.{Limit, Kind, kinds}
@@ -92,14 +92,21 @@ runs-text p h (k ∷ ks) (g ∷ gs) r =
     let b = length-append (bind (map (line k) g) (lineText mostDigits)) (bind (linesFrom ks gs) (lineText mostDigits)) in
     omega (arith, a, b, run-text p h k g (r .0), runs-text p h ks gs (r .1), mul-le-mul-right (lineRoom k) (r .0 .few))
 
--- the longest sheet is short enough
-text-room : textRoom kinds ≤ mostBytes
-unfolding textRoom
-text-room = leb-true (textRoom kinds) mostBytes refl
+-- the most bytes of lines that pass
+abbrev pub longest : ℕ
+longest = 10020
 
-pub text-bound : (ls : List Line) → AllShaped ls → Passes [] ls → 1 ≤ length ls → length (bind ls (lineText mostDigits)) ≤ mostBytes
-text-bound ls f p h =
+text-room : textRoom kinds ≡ longest
+unfolding textRoom
+text-room = refl
+
+pub text-longest : (ls : List Line) → AllShaped ls → Passes [] ls → 1 ≤ length ls → length (bind ls (lineText mostDigits)) ≤ longest
+text-longest ls f p h =
     let s = sheetOf ls in
     let r = lines-runs ls f p h in
     let q = ap (λ (k : List Line). length (bind k (lineText mostDigits))) (lines-sheet ls f p h) in
     omega (arith, runs-text (s .head) (runs-valid s r .most-places) kinds (groupsOf s) r, q, text-room)
+
+-- the longest sheet is short enough
+pub text-bound : (ls : List Line) → AllShaped ls → Passes [] ls → 1 ≤ length ls → length (bind ls (lineText mostDigits)) ≤ mostBytes
+text-bound ls f p h = omega (arith, text-longest ls f p h)

@@ -63,6 +63,7 @@ runs-valid s (rs, (rc, (ro, u))) =
       start-place = at 2 (omega arith);
       goal-place = at 3 (omega arith);
       wait = most-from 60000 (places s) 4 (kindS .limits) (s .head) e w refl;
+      most-unload = at 7 (omega arith) .1;
       corridors = λ k m. corridor-valid s k (rc .count k m) (rc .within k m) (rc .paired k m);
       most-corridors = rc .few;
       corridors-ascend = rc .ascend;
@@ -101,7 +102,8 @@ valid-head s g (suc (suc (suc zero))) h = g .goal-place
 valid-head s g (suc (suc (suc (suc zero)))) h = (omega arith, g .wait 4 (omega arith))
 valid-head s g (suc (suc (suc (suc (suc zero))))) h = (omega arith, g .wait 5 (omega arith))
 valid-head s g (suc (suc (suc (suc (suc (suc zero)))))) h = (omega arith, g .wait 6 (omega arith))
-valid-head s g (suc (suc (suc (suc (suc (suc (suc i))))))) h = absurd (omega arith)
+valid-head s g (suc (suc (suc (suc (suc (suc (suc zero))))))) h = (omega arith, g .most-unload)
+valid-head s g (suc (suc (suc (suc (suc (suc (suc (suc i)))))))) h = absurd (omega arith)
 
 valid-corridor : (s : Sheet) (k : List ℕ) → ValidCorridor s k → (i : ℕ) → i < width kindC → In (places s) (getD (kindC .limits) i place) (number k i)
 valid-corridor s k g zero h = g .from-place

@@ -12,10 +12,10 @@ use Rattle.journeys.proofs.goal.order_rows.Statement.{statement}
 use Rattle.journeys.proofs.goal.order_rows.Tie as tie
 
 abbrev Inv-loop : tie.InvT-loop
-Inv-loop table₀ n v last at₀ k₀ table at k = (k ≤ n) × (length table ≡ length table₀) × Ordering (v .0) (last .0) k table₀ table at
+Inv-loop table₀ n v counting at₀ k₀ table at k = (k ≤ n) × (length table ≡ length table₀) × Ordering (v .0) counting k table₀ table at
 
 abbrev μ-loop : tie.MeasureT-loop
-μ-loop table₀ n v last at₀ k₀ table at k = n - k
+μ-loop table₀ n v counting at₀ k₀ table at k = n - k
 
 start-requires : tie.Need-start-requires Inv-loop μ-loop
 start-requires c κs = search needs
@@ -40,7 +40,7 @@ same-length c = c .before .loop .inv .1
 
 returns : tie.Need-returns Inv-loop μ-loop
 returns c = let e : c .before .loop .k ≡ c .before .before .before .before .args .n = omega (arith, c .loop-test .left, c .before .loop .inv .0) in
-    ordering-all _ _ _ _ _ _ (subst (λ (i : ℕ). Ordering (c .before .before .before .before .args .v .0) (c .before .before .before .before .args .last .0) i (c .before .before .before .before .args .table .now) (c .before .loop .table) (c .before .loop .at)) e (c .before .loop .inv .2))
+    ordering-all _ _ _ _ _ _ (subst (λ (i : ℕ). Ordering (c .before .before .before .before .args .v .0) (c .before .before .before .before .args .counting .now) i (c .before .before .before .before .args .table .now) (c .before .loop .table) (c .before .loop .at)) e (c .before .loop .inv .2))
 
 pub order-rows-spec : {M : Type 1} → statement M
 order-rows-spec =

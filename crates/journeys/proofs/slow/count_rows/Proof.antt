@@ -14,10 +14,10 @@ use Rattle.journeys.proofs.slow.count_rows.Statement.{statement}
 use Rattle.journeys.proofs.slow.count_rows.Tie as tie
 
 abbrev Inv-loop : tie.InvT-loop
-Inv-loop table n v last every g count₀ k₀ count k = (k ≤ n) × (count ≤ k) × (count ≡ countTo (v .0) (last .0) n table every g k)
+Inv-loop table n v counting every g count₀ k₀ count k = (k ≤ n) × (count ≤ k) × (count ≡ countTo (v .0) counting n table every g k)
 
 abbrev μ-loop : tie.MeasureT-loop
-μ-loop table n v last every g count₀ k₀ count k = n - k
+μ-loop table n v counting every g count₀ k₀ count k = n - k
 
 loop-holds : tie.Need-loop-holds Inv-loop μ-loop
 loop-holds c = (omega arith, omega arith, refl)
@@ -45,7 +45,7 @@ loop-again c =
     let a = c .before .before .before .before .before .before .before .args in
     let l = c .before .before .before .before .before .loop in
     let e = ap₂ (λ (b d : Bool). b && (a .every || d)) (c .before .before .before .is-front-row .ensures) (c .before .before2 .ensures ∙ ap (λ (h : Cost). lexb h (a .g)) (c .before .before .row-cost .ensures)) in
-    let p = (inCount (a .v .0) (a .last .0) (a .n) (a .table .now) (a .every) (a .g)) in (
+    let p = (inCount (a .v .0) (a .counting .now) (a .n) (a .table .now) (a .every) (a .g)) in (
       omega arith,
       ⊎-elim (λ w. omega (arith, w .1)) (λ w. omega (arith, w .1)) (c .if1 .came),
       ⊎-elim
@@ -59,7 +59,7 @@ returns c =
     let a = c .before .before .before .args in
     let l = c .before .loop in
     let z : l .k ≡ a .n = omega arith in
-    l .inv .2 ∙ ap (countTo (a .v .0) (a .last .0) (a .n) (a .table .now) (a .every) (a .g)) z
+    l .inv .2 ∙ ap (countTo (a .v .0) (a .counting .now) (a .n) (a .table .now) (a .every) (a .g)) z
 
 pub count-rows-spec : {M : Type 1} → statement M
 count-rows-spec =

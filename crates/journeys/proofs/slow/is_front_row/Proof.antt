@@ -12,10 +12,10 @@ use Rattle.journeys.proofs.slow.is_front_row.Statement.{statement}
 use Rattle.journeys.proofs.slow.is_front_row.Tie as tie
 
 abbrev Inv-loop : tie.InvT-loop
-Inv-loop table n v last k j₀ j = (j ≤ n) × (noneOf (keptOff (v .0) (last .0) table k) j ≡ true)
+Inv-loop table n v counting k j₀ j = (j ≤ n) × (noneOf (keptOff (v .0) counting table k) j ≡ true)
 
 abbrev μ-loop : tie.MeasureT-loop
-μ-loop table n v last k j₀ j = n - j
+μ-loop table n v counting k j₀ j = n - j
 
 loop-holds : tie.Need-loop-holds Inv-loop μ-loop
 loop-holds c = (omega arith, refl)
@@ -28,7 +28,7 @@ unfolding isFrontRow
 returns c =
     let a = c .before .before .before .before .before .args in
     let l = c .before .before .before .loop in
-    rw (not-none (keptOff (a .v .0) (a .last .0) (a .table .now) (a .k)) (a .n) (l .j) (omega arith) (sym (c .before .is-kept-off .ensures) ∙ c .if1 .taken))
+    rw (not-none (keptOff (a .v .0) (a .counting .now) (a .table .now) (a .k)) (a .n) (l .j) (omega arith) (sym (c .before .is-kept-off .ensures) ∙ c .if1 .taken))
 
 add-j : tie.Need-add-j Inv-loop μ-loop
 add-j c = search needs
@@ -40,7 +40,7 @@ loop-again : tie.Need-loop-again Inv-loop μ-loop
 loop-again c =
     let a = c .before .before .before .before .before .args in
     let l = c .before .before .before .loop in
-    (omega arith, none-more (keptOff (a .v .0) (a .last .0) (a .table .now) (a .k)) (l .j) (l .inv .1) (sym (c .before .is-kept-off .ensures) ∙ c .if1 .left))
+    (omega arith, none-more (keptOff (a .v .0) (a .counting .now) (a .table .now) (a .k)) (l .j) (l .inv .1) (sym (c .before .is-kept-off .ensures) ∙ c .if1 .left))
 
 is-goal-row-requires : tie.Need-is-goal-row-requires Inv-loop μ-loop
 is-goal-row-requires c κs = omega arith
@@ -51,7 +51,7 @@ returns-2 c =
     let a = c .before .before .before .before .args in
     let l = c .before .before .loop in
     let z : a .n ≡ l .j = omega arith in
-    let e : noneOf (keptOff (a .v .0) (a .last .0) (a .table .now) (a .k)) (a .n) ≡ true = ap (noneOf (keptOff (a .v .0) (a .last .0) (a .table .now) (a .k))) z ∙ l .inv .1 in
+    let e : noneOf (keptOff (a .v .0) (a .counting .now) (a .table .now) (a .k)) (a .n) ≡ true = ap (noneOf (keptOff (a .v .0) (a .counting .now) (a .table .now) (a .k))) z ∙ l .inv .1 in
     rw e (c .is-goal-row .ensures)
 
 pub is-front-row-spec : {M : Type 1} → statement M

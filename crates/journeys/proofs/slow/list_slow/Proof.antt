@@ -14,11 +14,11 @@ use Rattle.journeys.proofs.slow.list_slow.Statement.{statement}
 use Rattle.journeys.proofs.slow.list_slow.Tie as tie
 
 abbrev Inv-loop : tie.InvT-loop
-Inv-loop table n v last list₀ count i₀ list i =
-    (i ≤ count) × (length list ≡ length list₀) × (count ≡ length (frontList (v .0) (last .0) n table)) × Listed table (frontList (v .0) (last .0) n table) i list
+Inv-loop table n v counting list₀ count i₀ list i =
+    (i ≤ count) × (length list ≡ length list₀) × (count ≡ length (frontList (v .0) counting n table)) × Listed table (frontList (v .0) counting n table) i list
 
 abbrev μ-loop : tie.MeasureT-loop
-μ-loop table n v last list₀ count i₀ list i = count - i
+μ-loop table n v counting list₀ count i₀ list i = count - i
 
 count-rows-requires : tie.Need-count-rows-requires Inv-loop μ-loop
 count-rows-requires c κs = c .before .before .pre .room
@@ -26,7 +26,7 @@ count-rows-requires c κs = c .before .before .pre .room
 loop-holds : tie.Need-loop-holds Inv-loop μ-loop
 loop-holds c =
     let a = c .before .before .before .args in
-    (omega arith, refl, c .count-rows .ensures ∙ slow-count (a .v .0) (a .last .0) (a .n) (a .table .now) (0 ∷ 0 ∷ 0 ∷ []) ∙ sym (front-counted (slow-front (a .v .0) (a .last .0) (a .n) (a .table .now))), listed-none (slow-front (a .v .0) (a .last .0) (a .n) (a .table .now)) (c .before .before .before .pre))
+    (omega arith, refl, c .count-rows .ensures ∙ slow-count (a .v .0) (a .counting .now) (a .n) (a .table .now) (0 ∷ 0 ∷ 0 ∷ []) ∙ sym (front-counted (slow-front (a .v .0) (a .counting .now) (a .n) (a .table .now))), listed-none (slow-front (a .v .0) (a .counting .now) (a .n) (a .table .now)) (c .before .before .before .pre))
 
 nth-slow-requires : tie.Need-nth-slow-requires Inv-loop μ-loop
 nth-slow-requires c κs = c .before .before .before .before .before .pre .room
@@ -48,7 +48,7 @@ loop-again c =
       omega arith,
       c .before .before .put-cost .kept .0 ∙ l .inv .1,
       l .inv .2,
-      listed-number (slow-front (a .v .0) (a .last .0) (a .n) (a .table .now)) (l .i) (o .result) _ (omega (arith, l .inv .2)) (o .ensures) (c .before .before .put-cost .ensures) (l .inv .3),
+      listed-number (slow-front (a .v .0) (a .counting .now) (a .n) (a .table .now)) (l .i) (o .result) _ (omega (arith, l .inv .2)) (o .ensures) (c .before .before .put-cost .ensures) (l .inv .3),
     )
 
 mul-clear-from : tie.Need-mul-clear-from Inv-loop μ-loop
@@ -66,7 +66,7 @@ returns c =
     let l = c .before .before .before .before .before .loop in
     let z : l .i ≡ c .before .before .before .before .before .before .count-rows .result = omega arith in
     c .before .before .clear-from .ensures
-    ∙ listed-whole (slow-front (a .v .0) (a .last .0) (a .n) (a .table .now)) (c .before .before .before .before .before .before .count-rows .result) (l .inv .2) (subst (λ (m : ℕ). Listed (a .table .now) (frontList (a .v .0) (a .last .0) (a .n) (a .table .now)) m (l .list)) z (l .inv .3)) _ (l .inv .1)
+    ∙ listed-whole (slow-front (a .v .0) (a .counting .now) (a .n) (a .table .now)) (c .before .before .before .before .before .before .count-rows .result) (l .inv .2) (subst (λ (m : ℕ). Listed (a .table .now) (frontList (a .v .0) (a .counting .now) (a .n) (a .table .now)) m (l .list)) z (l .inv .3)) _ (l .inv .1)
 
 pub list-slow-spec : {M : Type 1} → statement M
 list-slow-spec =

@@ -13,10 +13,10 @@ use Rattle.journeys.proofs.slow.nth_slow.Statement.{statement}
 use Rattle.journeys.proofs.slow.nth_slow.Tie as tie
 
 abbrev Inv-loop : tie.InvT-loop
-Inv-loop table n v last number k₀ k = (k ≤ n) × (noneOf (hasNumber (v .0) (last .0) n table number) k ≡ true)
+Inv-loop table n v counting number k₀ k = (k ≤ n) × (noneOf (hasNumber (v .0) counting n table number) k ≡ true)
 
 abbrev μ-loop : tie.MeasureT-loop
-μ-loop table n v last number k₀ k = n - k
+μ-loop table n v counting number k₀ k = n - k
 
 loop-holds : tie.Need-loop-holds Inv-loop μ-loop
 loop-holds c = (omega arith, refl)
@@ -47,8 +47,8 @@ returns c =
     let a = c .before .before .before .before .before .before .before .before .args in
     let l = c .before .before .before .before .before .before .loop in
     let e = ap₂ (λ (b : Bool) (m : ℕ). b && eqb m (a .number)) (c .before .before .is-front-row .ensures)
-    (c .before .before .before .count-rows .ensures ∙ ap (λ (g : Cost). countTo (a .v .0) (a .last .0) (a .n) (a .table .now) false g (a .n)) (c .before .before .before .before .row-cost .ensures)) in
-    slow-on (a .v .0) (a .last .0) (a .n) (a .table .now) (a .number) (l .k) _ (omega arith) (sym e ∙ c .before .if1 .taken) refl (c .before .before .before .before .row-cost .ensures) refl
+    (c .before .before .before .count-rows .ensures ∙ ap (λ (g : Cost). countTo (a .v .0) (a .counting .now) (a .n) (a .table .now) false g (a .n)) (c .before .before .before .before .row-cost .ensures)) in
+    slow-on (a .v .0) (a .counting .now) (a .n) (a .table .now) (a .number) (l .k) _ (omega arith) (sym e ∙ c .before .if1 .taken) refl (c .before .before .before .before .row-cost .ensures) refl
 
 add-k : tie.Need-add-k Inv-loop μ-loop
 add-k c = search needs
@@ -61,15 +61,15 @@ loop-again c =
     let a = c .before .before .before .before .before .before .before .args in
     let l = c .before .before .before .before .before .loop in
     let e = ap₂ (λ (b : Bool) (m : ℕ). b && eqb m (a .number)) (c .before .is-front-row .ensures)
-    (c .before .before .count-rows .ensures ∙ ap (λ (g : Cost). countTo (a .v .0) (a .last .0) (a .n) (a .table .now) false g (a .n)) (c .before .before .before .row-cost .ensures)) in
-    (omega arith, none-more (hasNumber (a .v .0) (a .last .0) (a .n) (a .table .now) (a .number)) (l .k) (l .inv .1) (sym e ∙ c .if1 .left))
+    (c .before .before .count-rows .ensures ∙ ap (λ (g : Cost). countTo (a .v .0) (a .counting .now) (a .n) (a .table .now) false g (a .n)) (c .before .before .before .row-cost .ensures)) in
+    (omega arith, none-more (hasNumber (a .v .0) (a .counting .now) (a .n) (a .table .now) (a .number)) (l .k) (l .inv .1) (sym e ∙ c .if1 .left))
 
 returns-2 : tie.Need-returns-2 Inv-loop μ-loop
 returns-2 c =
     let a = c .before .before .before .args in
     let l = c .before .loop in
     let z : a .n ≡ l .k = omega arith in
-    slow-off (a .v .0) (a .last .0) (a .n) (a .table .now) (a .number) _ (ap (noneOf (hasNumber (a .v .0) (a .last .0) (a .n) (a .table .now) (a .number))) z ∙ l .inv .1) refl
+    slow-off (a .v .0) (a .counting .now) (a .n) (a .table .now) (a .number) _ (ap (noneOf (hasNumber (a .v .0) (a .counting .now) (a .n) (a .table .now) (a .number))) z ∙ l .inv .1) refl
 
 pub nth-slow-spec : {M : Type 1} → statement M
 nth-slow-spec =
