@@ -138,10 +138,10 @@ at-position (y ∷ l) x (inl e) = (0, omega arith, e)
 at-position (y ∷ l) x (inr m) = let r = at-position l x m in (suc (r .0), omega (arith, r .1), r .2)
 
 -- the goal's rows in order, and those that a sweep of them leaves
-abbrev goalOrder : ℕ → ℕ → ℕ → List ℕ → List ℕ
+abbrev goalOrder : ℕ → List ℕ → ℕ → List ℕ → List ℕ
 goalOrder v counting n xs = sortUnique (rank (costAt xs)) (filter (λ k. isGoalRow v counting (rowAt xs k)) (below n))
 
-abbrev pub frontList : ℕ → ℕ → ℕ → List ℕ → List ℕ
+abbrev pub frontList : ℕ → List ℕ → ℕ → List ℕ → List ℕ
 frontList v counting n xs = swept (costAt xs) [] (goalOrder v counting n xs)
 
 module _ (v : ℕ) (counting : List ℕ) (n : ℕ) (xs : List ℕ) where

@@ -52,8 +52,8 @@ module _ {lines all since : List ℕ} (d : Derived lines all since) where
       go : (a b : Bool) → leb (t + number all 7) (number all 1) ≡ a → leb (number since (number all 3 * 256 + (t + number all 7))) t ≡ b → eqb (pick (a && b) 1 0) 1 ≡ true → Counts s t
       go true true p q e =
           let v = store-valid (d .store) in
-          let h : t + unload s ≤ steps s = omega (arith, leb-true _ _ p, head 1 (omega arith), head 7 (omega arith)) in
-          record { in-time = h; stays = since-run s (goal s) t (t + unload s) (omega (arith, v .most-steps)) (omega arith) .0 (omega (arith, leb-true _ _ q, first-is t h)) }
+          let h : t + unload s ≤ steps s = omega (arith, leb-true (t + number all 7) (number all 1) p, head 1 (omega arith), head 7 (omega arith)) in
+          record { in-time = h; stays = since-run s (goal s) t (t + unload s) (omega (arith, v .most-steps)) (omega arith) .0 (omega (arith, leb-true (number since (number all 3 * 256 + (t + number all 7))) t q, first-is t h)) }
       go true false p q e = absurd (true≢false (sym e))
       go false b p q e = absurd (true≢false (sym e))
 
@@ -63,21 +63,21 @@ module _ {lines all since : List ℕ} (d : Derived lines all since) where
       let h = c .in-time in
       rw (
         le-leb (t + number all 7) (number all 1) (omega (arith, h, head 1 (omega arith), head 7 (omega arith))),
-        le-leb _ t (omega (arith, first-is t h, since-run s (goal s) t (t + unload s) (omega (arith, v .most-steps)) (omega arith) .1 (c .stays))),
+        le-leb (number since (number all 3 * 256 + (t + number all 7))) t (omega (arith, first-is t h, since-run s (goal s) t (t + unload s) (omega (arith, v .most-steps)) (omega arith) .1 (c .stays))),
       )
 
   pub counting-of : {counting : List ℕ} → CountedBy all since counting → CountingOf s counting
   counting-of {counting} k = record { of = λ t. bool-same (countsAt counting t) (countsb s t) (forth t) (back t) }
     where
       told : (t : ℕ) → t < 256 → countsAt counting t ≡ eqb (countedBy all since t) 1
-      told t h = ap (λ (n : ℕ). eqb n 1) (k .every t h)
+      told t h = ap (λ (n : ℕ). eqb n 1) (k .so-far t h)
 
       forth : (t : ℕ) → countsAt counting t ≡ true → countsb s t ≡ true
       forth t e = go (ltb t 256) refl
         where
           go : (b : Bool) → ltb t 256 ≡ b → countsb s t ≡ true
           go true q = counts-countsb s t (test-counts t (sym (told t (ltb-true _ _ q)) ∙ e))
-          go false q = absurd (true≢false (sym e ∙ ap (λ (n : ℕ). eqb n 1) (List·getD-eq-default counting 0 (omega (arith, k .size, ltb-false t 256 q)))))
+          go false q = absurd (true≢false (sym e ∙ ap (λ (n : ℕ). eqb n 1) (List·getD-eq-default counting 0 (omega (arith, k .sized, ltb-false t 256 q)))))
 
       back : (t : ℕ) → countsb s t ≡ true → countsAt counting t ≡ true
       back t e =

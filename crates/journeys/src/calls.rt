@@ -12,7 +12,7 @@ ghost use Rattle.journeys.specs.Inner.Offers.{Offers};
 ghost use Rattle.journeys.specs.Calls.{cleared, frontEnd, frontRefused, frontOn, frontCall, journeyEnd, journeyRefused, journeyOn, journeyCall};
 use crate::FrontAnswer;
 use crate::JourneyAnswer;
-use crate::counting::fill_counting;
+use crate::counting::counting_of;
 use crate::front::count_front;
 use crate::front::list_front;
 use crate::front::nth_front;
@@ -80,8 +80,7 @@ pub fn front_of(
     if !r.served {
         return refuse_front(8, 0);
     }
-    let mut counting = [0u8; 256];
-    fill_counting(all, since, &mut counting);
+    let counting = counting_of(all, since);
     offer_front(table, r.arrivals, Place(all[3]), &counting, list)
 }
 
@@ -169,8 +168,7 @@ pub fn journey_of(
         return refuse_journey(8, 0);
     }
     let n = r.arrivals;
-    let mut counting = [0u8; 256];
-    fill_counting(all, since, &mut counting);
+    let counting = counting_of(all, since);
     let o = nth_front(table, n, Place(all[3]), &counting, number);
     if !o.found {
         return refuse_searched(10, table);

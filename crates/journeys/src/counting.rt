@@ -35,12 +35,14 @@ fn counted(all: &[u32], since: &[u16], t: Step) -> u8
     1
 }
 
-// Tells for each step whether an arrival at the goal then counts, on the sheet in the array with the first steps of its free runs.
-pub fn fill_counting(all: &[u32], since: &[u16], counting: &mut [u8; 256])
+// For each step whether an arrival at the goal then counts, on the sheet in the array with the first steps of its free runs.
+pub fn counting_of(all: &[u32], since: &[u16]) -> [u8; 256]
     requires { ⌜ Countable (now all) (now since) ⌝ }
-    ensures { λ _. ⌜ CountedBy (now (all .entry)) (now (since .entry)) (now (counting .exit)) ⌝ }
+    ensures { λ r. ⌜ CountedBy (now (all .entry)) (now (since .entry)) r ⌝ }
 {
+    let mut counting = [0u8; 256];
     for t in 0..256 {
         counting[t] = counted(all, since, Step(t as u32));
     }
+    counting
 }

@@ -41,7 +41,14 @@ fn is_front_row(table: &[u32], n: usize, v: Place, counting: &[u8], k: usize) ->
 }
 
 // How many of the front's rows have a cost before g, or how many there are.
-pub fn count_rows(table: &[u32], n: usize, v: Place, counting: &[u8], every: bool, g: [u32; 3]) -> usize
+pub fn count_rows(
+    table: &[u32],
+    n: usize,
+    v: Place,
+    counting: &[u8],
+    every: bool,
+    g: [u32; 3],
+) -> usize
     requires { ⌜ n * 5 ≤ length (now table) ⌝ }
     ensures { λ r. ⌜ r ≡ countTo (v .0) (now (counting .entry)) n (now (table .entry)) every g n ⌝ }
 {

@@ -7,6 +7,7 @@ use lib.Dec.{leb}
 use lib.ListN.{length}
 use Rattle.sheet.specs.Lists.{pick, number}
 use Rattle.sheet.specs.Sheet.{Sheet}
+use Rattle.costs.specs.Laws.Figures.{Stored}
 use Rattle.journeys.specs.Computed.{countsb}
 use Rattle.journeys.specs.Inner.{countsAt}
 
@@ -22,9 +23,8 @@ pub record Countable (all since : List ℕ) : Type 0 where
 abbrev pub countedBy : List ℕ → List ℕ → ℕ → ℕ
 countedBy all since t = pick (leb (t + number all 7) (number all 1) && leb (number since (number all 3 * 256 + (t + number all 7))) t) 1 0
 
-pub record CountedBy (all since counting : List ℕ) : Type 0 where
-  pub size : length counting ≡ 256
-  pub every : (t : ℕ) → t < 256 → number counting t ≡ countedBy all since t
+abbrev pub CountedBy : List ℕ → List ℕ → List ℕ → Type 0
+CountedBy all since counting = Stored 256 (countedBy all since) 256 counting
 
 -- the array tells which arrivals at the goal of s count
 pub record CountingOf (s : Sheet) (counting : List ℕ) : Type 0 where

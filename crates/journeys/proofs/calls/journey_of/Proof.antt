@@ -13,6 +13,7 @@ use Rattle.sheet.specs.Store.{sheetIn}
 use Rattle.sheet.specs.Laws.Store.{store-length, head-number}
 use Rattle.journeys.specs.Calls.{journeyEnd}
 use Rattle.journeys.specs.Laws.Searched.{Ready, search-full, search-ready}
+use Rattle.journeys.proofs.Unloading.{countable, counting-of}
 use Rattle.journeys.proofs.Ends.{journey-eight, journey-ten, journey-eleven, journey-end, layable}
 use Rattle.journeys.proofs.calls.journey_of.Statement.{statement}
 use Rattle.journeys.proofs.calls.journey_of.Tie as tie
@@ -39,14 +40,17 @@ returns c =
     let f = search-full s (c .before .before .before .before .before .before .before .before .before .before .before .before .args .table .now) (q .ensures) (not-true (q .result .served) (c .before .if1 .taken)) in
     journey-eight s (c .before .before .before .before .before .before .before .before .before .before .before .before .args .number) (c .before .before .before .before .before .before .before .before .before .before .before .before .args .table .now) (c .before .before .before .before .before .before .before .before .before .before .before .before .args .path .now) (c .refuse-journey .ensures) (f .1) (f .0)
 
-shared-slice-read-t18 : tie.Need-shared-slice-read-t18
-shared-slice-read-t18 c = omega (arith, store-length (c .before .before .before .before .before .before .before .before .before .before .before .before .before .pre .store))
+counting-of-requires : tie.Need-counting-of-requires
+counting-of-requires c κs = countable (c .before .before .before .before .before .before .before .before .before .before .before .pre)
 
-shared-slice-read-t21 : tie.Need-shared-slice-read-t21
-shared-slice-read-t21 c = omega (arith, store-length (c .before .before .before .before .before .before .before .before .before .before .before .before .before .before .pre .store))
+shared-slice-read-t20 : tie.Need-shared-slice-read-t20
+shared-slice-read-t20 c = omega (arith, store-length (c .before .before .before .before .before .before .before .before .before .before .before .before .before .before .pre .store))
+
+slice-aggregate-nth-front : tie.Need-slice-aggregate-nth-front
+slice-aggregate-nth-front c = search needs
 
 nth-front-requires : tie.Need-nth-front-requires
-nth-front-requires c κs = ready (c .before .before .before) .holds .room
+nth-front-requires c κs = ready (c .before .before .before .before) .holds .room
 
 refuse-searched-requires : tie.Need-refuse-searched-requires
 refuse-searched-requires c κs = search needs
@@ -58,7 +62,7 @@ returns-2 : tie.Need-returns-2
 returns-2 c =
     let k = c .before .before .before .before .before .before .before .before .nth-front in
     let r = c .before .before .refuse-searched in
-    journey-ten (ready (c .before .before .before .before .before .before .before .before .before .before .before .before)) (head-number (c .before .before .before .before .before .before .before .before .before .before .before .before .before .before .before .before .before .before .before .before .before .before .before .pre .store) 3 (omega arith)) (head-number (c .before .before .before .before .before .before .before .before .before .before .before .before .before .before .before .before .before .before .before .before .before .before .before .pre .store) 1 (omega arith)) (k .ensures .numbered) (c .before .before .before .before .before .before .before .before .before .before .before .before .before .before .before .before .before .before .before .before .before .before .before .args .path .now)
+    journey-ten (ready (c .before .before .before .before .before .before .before .before .before .before .before .before .before)) (head-number (c .before .before .before .before .before .before .before .before .before .before .before .before .before .before .before .before .before .before .before .before .before .before .before .before .pre .store) 3 (omega arith)) (counting-of (c .before .before .before .before .before .before .before .before .before .before .before .before .before .before .before .before .before .before .before .before .before .before .before .before .pre) (c .before .before .before .before .before .before .before .before .before .before .before .before .counting-of .ensures)) (k .ensures .numbered) (c .before .before .before .before .before .before .before .before .before .before .before .before .before .before .before .before .before .before .before .before .before .before .before .before .args .path .now)
     (r .ensures .0) (r .ensures .1 ∙ ap (λ (xs : List ℕ). filled (length xs) []) (k .ensures .kept)) (not-true (k .result .found) (c .before .before .before .before .if2 .taken))
 
 cast-if3 : tie.Need-cast-if3
@@ -74,14 +78,14 @@ returns-3 : tie.Need-returns-3
 returns-3 c =
     let k = c .before .before .before .before .before .before .before .before .before .before .before .nth-front in
     let r = c .before .before .refuse-searched2 in
-    journey-eleven (ready (c .before .before .before .before .before .before .before .before .before .before .before .before .before .before .before)) (head-number (c .before .before .before .before .before .before .before .before .before .before .before .before .before .before .before .before .before .before .before .before .before .before .before .before .before .before .pre .store) 3 (omega arith)) (head-number (c .before .before .before .before .before .before .before .before .before .before .before .before .before .before .before .before .before .before .before .before .before .before .before .before .before .before .pre .store) 1 (omega arith)) (k .ensures .numbered) (c .before .before .before .before .before .before .before .before .before .before .before .before .before .before .before .before .before .before .before .before .before .before .before .before .before .before .args .path .now)
+    journey-eleven (ready (c .before .before .before .before .before .before .before .before .before .before .before .before .before .before .before .before)) (head-number (c .before .before .before .before .before .before .before .before .before .before .before .before .before .before .before .before .before .before .before .before .before .before .before .before .before .before .before .pre .store) 3 (omega arith)) (counting-of (c .before .before .before .before .before .before .before .before .before .before .before .before .before .before .before .before .before .before .before .before .before .before .before .before .before .before .before .pre) (c .before .before .before .before .before .before .before .before .before .before .before .before .before .before .before .counting-of .ensures)) (k .ensures .numbered) (c .before .before .before .before .before .before .before .before .before .before .before .before .before .before .before .before .before .before .before .before .before .before .before .before .before .before .before .args .path .now)
     (r .ensures .0) (r .ensures .1 ∙ ap (λ (xs : List ℕ). filled (length xs) []) (k .ensures .kept)) (not-false (k .result .found) (c .before .before .before .before .before .before .before .if2 .left)) (c .before .before .before .before .if3 .taken)
 
 lay-path-requires : tie.Need-lay-path-requires
 lay-path-requires c κs =
     let k = c .before .before .before .before .before .before .before .before .before .before .nth-front in
     rw (k .ensures .kept)
-    (layable (c .before .before .before .before .before .before .before .before .before .before .before .before .before .before .before .before .before .before .before .before .before .before .before .before .before .pre) (ready (c .before .before .before .before .before .before .before .before .before .before .before .before .before .before)) (head-number (c .before .before .before .before .before .before .before .before .before .before .before .before .before .before .before .before .before .before .before .before .before .before .before .before .before .pre .store) 3 (omega arith)) (head-number (c .before .before .before .before .before .before .before .before .before .before .before .before .before .before .before .before .before .before .before .before .before .before .before .before .before .pre .store) 1 (omega arith)) (k .ensures .numbered) (c .before .before .before .before .before .before .before .before .before .before .before .before .before .before .before .before .before .before .before .before .before .before .before .before .before .args .path .now) (not-false (k .result .found) (c .before .before .before .before .before .before .if2 .left)) (c .before .before .before .if3 .left))
+    (layable (c .before .before .before .before .before .before .before .before .before .before .before .before .before .before .before .before .before .before .before .before .before .before .before .before .before .before .pre) (ready (c .before .before .before .before .before .before .before .before .before .before .before .before .before .before .before)) (head-number (c .before .before .before .before .before .before .before .before .before .before .before .before .before .before .before .before .before .before .before .before .before .before .before .before .before .before .pre .store) 3 (omega arith)) (counting-of (c .before .before .before .before .before .before .before .before .before .before .before .before .before .before .before .before .before .before .before .before .before .before .before .before .before .before .pre) (c .before .before .before .before .before .before .before .before .before .before .before .before .before .before .counting-of .ensures)) (k .ensures .numbered) (c .before .before .before .before .before .before .before .before .before .before .before .before .before .before .before .before .before .before .before .before .before .before .before .before .before .before .args .path .now) (not-false (k .result .found) (c .before .before .before .before .before .before .if2 .left)) (c .before .before .before .if3 .left))
 
 same-length-4 : tie.Need-same-length-4
 same-length-4 c = search needs
@@ -94,7 +98,7 @@ returns-4 c =
     let k = c .before .before .before .before .before .before .before .before .before .before .before .before .before .before .before .nth-front in
     let l = c .before .before .before .before .lay-path in
     ap (λ (xs : List ℕ). journeyEnd (record { refusal = 0; line = 0; cost = k .result .cost; arrival = k .result .step .0 }) xs (l .last .1 .1 .1 .1 .1 .1 .1 .0)) (l .ensures .0 ∙ k .ensures .kept)
-    ∙ journey-end (ready (c .before .before .before .before .before .before .before .before .before .before .before .before .before .before .before .before .before .before .before)) (head-number (c .before .before .before .before .before .before .before .before .before .before .before .before .before .before .before .before .before .before .before .before .before .before .before .before .before .before .before .before .before .before .pre .store) 3 (omega arith)) (head-number (c .before .before .before .before .before .before .before .before .before .before .before .before .before .before .before .before .before .before .before .before .before .before .before .before .before .before .before .before .before .before .pre .store) 1 (omega arith)) (k .ensures .numbered) (c .before .before .before .before .before .before .before .before .before .before .before .before .before .before .before .before .before .before .before .before .before .before .before .before .before .before .before .before .before .before .args .path .now) (not-false (k .result .found) (c .before .before .before .before .before .before .before .before .before .before .before .if2 .left)) (c .before .before .before .before .before .before .before .before .if3 .left) (l .ensures .1)
+    ∙ journey-end (ready (c .before .before .before .before .before .before .before .before .before .before .before .before .before .before .before .before .before .before .before .before)) (head-number (c .before .before .before .before .before .before .before .before .before .before .before .before .before .before .before .before .before .before .before .before .before .before .before .before .before .before .before .before .before .before .before .pre .store) 3 (omega arith)) (counting-of (c .before .before .before .before .before .before .before .before .before .before .before .before .before .before .before .before .before .before .before .before .before .before .before .before .before .before .before .before .before .before .before .pre) (c .before .before .before .before .before .before .before .before .before .before .before .before .before .before .before .before .before .before .before .counting-of .ensures)) (k .ensures .numbered) (c .before .before .before .before .before .before .before .before .before .before .before .before .before .before .before .before .before .before .before .before .before .before .before .before .before .before .before .before .before .before .before .args .path .now) (not-false (k .result .found) (c .before .before .before .before .before .before .before .before .before .before .before .if2 .left)) (c .before .before .before .before .before .before .before .before .if3 .left) (l .ensures .1)
 
 pub journey-of-spec : {M : Type 1} → statement M
 journey-of-spec =
@@ -104,8 +108,9 @@ journey-of-spec =
     refuse-journey-requires
     same-length
     returns
-    shared-slice-read-t18
-    shared-slice-read-t21
+    counting-of-requires
+    shared-slice-read-t20
+    slice-aggregate-nth-front
     nth-front-requires
     refuse-searched-requires
     same-length-2

@@ -1,41 +1,50 @@
-use borrow.Author.Needs.{needs}
+-- `journeys::counting::counted` meets its contract, test by test.
+-- Assumes nothing.
+use Prim.Native.Nat.{_+_, _*_}
+use native.Mathlib.Omega.{arith}
+use lib.Dec.{leb}
+use borrow.Author.Tests.{le-leb, lt-leb}
+use Rattle.sheet.specs.Lists.{number}
 use Rattle.journeys.proofs.counting.counted.Statement.{statement}
 use Rattle.journeys.proofs.counting.counted.Tie as tie
-use Rattle.journeys.proofs.counting.counted.Reads as reads
-use Rattle.journeys.proofs.counting.counted.Lts as lts
-use Rattle.intervals.proofs.first_step.Reads as first-step-reads
 
--- src/counting.rt:27:21
 shared-slice-read-end : tie.Need-shared-slice-read-end
-shared-slice-read-end c = search needs
+shared-slice-read-end c = omega (arith, c .before .before .before .pre .0 .head)
 
--- src/counting.rt:27:15
 add-end : tie.Need-add-end
-add-end c = search needs
+add-end c = omega (arith, c .before .before .before .before .pre .1, c .before .before .before .before .pre .0 .unloading)
 
--- src/counting.rt:28:8
 shared-slice-read-if1 : tie.Need-shared-slice-read-if1
-shared-slice-read-if1 c = search needs
+shared-slice-read-if1 c = omega (arith, c .before .before .before .before .before .pre .0 .head)
 
--- src/counting.rt:29:9
 returns : tie.Need-returns
-returns c = ?
+returns c =
+    let a = c .before .before .before .before .before .before .args in
+    rw (lt-leb (a .t .0 + number (a .all .now) 7) (number (a .all .now) 1) (c .if1 .taken))
 
--- src/counting.rt:31:41
 shared-slice-read-t7 : tie.Need-shared-slice-read-t7
-shared-slice-read-t7 c = search needs
+shared-slice-read-t7 c = omega (arith, c .before .before .before .before .before .before .before .pre .0 .head)
 
--- src/counting.rt:31:9
 first-step-requires : tie.Need-first-step-requires
-first-step-requires c κs = search needs
+first-step-requires c κs = (c .before .before .before .before .before .before .before .pre .0 .place, omega (arith, c .before .if1 .left, c .before .before .before .before .before .before .before .pre .0 .day), c .before .before .before .before .before .before .before .pre .0 .size)
 
--- src/counting.rt:33:9
 returns-2 : tie.Need-returns-2
-returns-2 c = ?
+returns-2 c =
+    let a = c .before .before .before .before .before .before .before .before .before .before .before .args in
+    let end = a .t .0 + number (a .all .now) 7 in
+    rw (
+      le-leb end (number (a .all .now) 1) (c .before .before .before .before .before .if1 .left),
+      lt-leb (number (a .since .now) (number (a .all .now) 3 * 256 + end)) (a .t .0) (omega (arith, c .if2 .taken, c .before .before .before .first-step .ensures)),
+    )
 
--- src/counting.rt:23:1
 returns-3 : tie.Need-returns-3
-returns-3 c = ?
+returns-3 c =
+    let a = c .before .before .before .before .before .before .before .before .before .before .before .args in
+    let end = a .t .0 + number (a .all .now) 7 in
+    rw (
+      le-leb end (number (a .all .now) 1) (c .before .before .before .before .before .if1 .left),
+      le-leb (number (a .since .now) (number (a .all .now) 3 * 256 + end)) (a .t .0) (omega (arith, c .if2 .left, c .before .before .before .first-step .ensures)),
+    )
 
 pub counted-spec : {M : Type 1} → statement M
 counted-spec =

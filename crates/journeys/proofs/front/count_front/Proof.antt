@@ -16,7 +16,7 @@ same-length : tie.Need-same-length
 same-length c = search needs
 
 returns : tie.Need-returns
-returns c = record { counted = c .count-rows .ensures ∙ slow-count (c .before .before .before .before .args .v .0) (c .before .before .before .before .args .counting .now) (c .before .before .before .before .args .n) (c .before .before .before .before .args .table .now) (0 ∷ 0 ∷ 0 ∷ []); kept = refl }
+returns c = record { counted = c .count-rows .ensures ∙ slow-count (c .before .before .before .before .before .args .v .0) (c .before .before .before .before .before .args .counting .now) (c .before .before .before .before .before .args .n) (c .before .before .before .before .before .args .table .now) (0 ∷ 0 ∷ 0 ∷ []); kept = refl }
 
 begin-requires : tie.Need-begin-requires
 begin-requires c κs = search needs

@@ -34,7 +34,7 @@ counts-at-requires : tie.Need-counts-at-requires
 counts-at-requires c κs = search needs
 
 returns : tie.Need-returns
-returns c = ap (λ (b : Bool). eqb (number (c .before .before .before .before .before .args .table .now) (c .before .before .before .before .before .args .k * 5)) (c .before .before .before .before .before .args .v .0) && b) (c .counts-at .ensures)
+returns c = ap (λ (b : Bool). eqb (number (c .before .before .before .before .before .before .args .table .now) (c .before .before .before .before .before .before .args .k * 5)) (c .before .before .before .before .before .before .args .v .0) && b) (c .counts-at .ensures)
 
 pub is-goal-row-spec : {M : Type 1} → statement M
 is-goal-row-spec =

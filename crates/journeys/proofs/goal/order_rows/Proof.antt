@@ -24,7 +24,7 @@ loop-holds : tie.Need-loop-holds Inv-loop μ-loop
 loop-holds c = (omega arith, refl, ordering-none _ _ _ _ (c .start .ensures))
 
 order-row-requires : tie.Need-order-row-requires Inv-loop μ-loop
-order-row-requires c κs = record { small = omega (arith, c .before .before .before .before .before .pre .0); room = omega (arith, c .before .before .before .before .before .pre .1, c .before .before .loop .inv .1); base = _; ordering = c .before .before .loop .inv .2 }
+order-row-requires c κs = record { small = omega (arith, c .before .before .before .before .before .before .pre .0); room = omega (arith, c .before .before .before .before .before .before .pre .1, c .before .before .loop .inv .1); base = _; ordering = c .before .before .loop .inv .2 }
 
 add-k : tie.Need-add-k Inv-loop μ-loop
 add-k c = search needs
@@ -39,8 +39,8 @@ same-length : tie.Need-same-length Inv-loop μ-loop
 same-length c = c .before .loop .inv .1
 
 returns : tie.Need-returns Inv-loop μ-loop
-returns c = let e : c .before .loop .k ≡ c .before .before .before .before .args .n = omega (arith, c .loop-test .left, c .before .loop .inv .0) in
-    ordering-all _ _ _ _ _ _ (subst (λ (i : ℕ). Ordering (c .before .before .before .before .args .v .0) (c .before .before .before .before .args .counting .now) i (c .before .before .before .before .args .table .now) (c .before .loop .table) (c .before .loop .at)) e (c .before .loop .inv .2))
+returns c = let e : c .before .loop .k ≡ c .before .before .before .before .before .args .n = omega (arith, c .loop-test .left, c .before .loop .inv .0) in
+    ordering-all _ _ _ _ _ _ (subst (λ (i : ℕ). Ordering (c .before .before .before .before .before .args .v .0) (c .before .before .before .before .before .args .counting .now) i (c .before .before .before .before .before .args .table .now) (c .before .loop .table) (c .before .loop .at)) e (c .before .loop .inv .2))
 
 pub order-rows-spec : {M : Type 1} → statement M
 order-rows-spec =

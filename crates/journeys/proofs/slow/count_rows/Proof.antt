@@ -42,7 +42,7 @@ loop-less c = search needs
 
 loop-again : tie.Need-loop-again Inv-loop μ-loop
 loop-again c =
-    let a = c .before .before .before .before .before .before .before .args in
+    let a = c .before .before .before .before .before .before .before .before .args in
     let l = c .before .before .before .before .before .loop in
     let e = ap₂ (λ (b d : Bool). b && (a .every || d)) (c .before .before .before .is-front-row .ensures) (c .before .before2 .ensures ∙ ap (λ (h : Cost). lexb h (a .g)) (c .before .before .row-cost .ensures)) in
     let p = (inCount (a .v .0) (a .counting .now) (a .n) (a .table .now) (a .every) (a .g)) in (
@@ -56,7 +56,7 @@ loop-again c =
 
 returns : tie.Need-returns Inv-loop μ-loop
 returns c =
-    let a = c .before .before .before .args in
+    let a = c .before .before .before .before .args in
     let l = c .before .loop in
     let z : l .k ≡ a .n = omega arith in
     l .inv .2 ∙ ap (countTo (a .v .0) (a .counting .now) (a .n) (a .table .now) (a .every) (a .g)) z

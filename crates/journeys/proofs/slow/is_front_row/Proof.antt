@@ -26,7 +26,7 @@ is-kept-off-requires c κs = (omega arith, omega arith)
 returns : tie.Need-returns Inv-loop μ-loop
 unfolding isFrontRow
 returns c =
-    let a = c .before .before .before .before .before .args in
+    let a = c .before .before .before .before .before .before .args in
     let l = c .before .before .before .loop in
     rw (not-none (keptOff (a .v .0) (a .counting .now) (a .table .now) (a .k)) (a .n) (l .j) (omega arith) (sym (c .before .is-kept-off .ensures) ∙ c .if1 .taken))
 
@@ -38,7 +38,7 @@ loop-less c = search needs
 
 loop-again : tie.Need-loop-again Inv-loop μ-loop
 loop-again c =
-    let a = c .before .before .before .before .before .args in
+    let a = c .before .before .before .before .before .before .args in
     let l = c .before .before .before .loop in
     (omega arith, none-more (keptOff (a .v .0) (a .counting .now) (a .table .now) (a .k)) (l .j) (l .inv .1) (sym (c .before .is-kept-off .ensures) ∙ c .if1 .left))
 
@@ -48,7 +48,7 @@ is-goal-row-requires c κs = omega arith
 returns-2 : tie.Need-returns-2 Inv-loop μ-loop
 unfolding isFrontRow
 returns-2 c =
-    let a = c .before .before .before .before .args in
+    let a = c .before .before .before .before .before .args in
     let l = c .before .before .loop in
     let z : a .n ≡ l .j = omega arith in
     let e : noneOf (keptOff (a .v .0) (a .counting .now) (a .table .now) (a .k)) (a .n) ≡ true = ap (noneOf (keptOff (a .v .0) (a .counting .now) (a .table .now) (a .k))) z ∙ l .inv .1 in

@@ -31,7 +31,7 @@ returns c =
     let g = c .before .before .before .before .row-cost .ensures in
     let h = c .before .before .before .row-cost2 .ensures in
     ap₂ _&&_ (ap₂ _&&_ (c .before .before .is-goal-row .ensures) (c .before .at-most .ensures ∙ ap₂ atMostb h g))
-    (ap (λ (b : Bool). b || ltb (c .before .before .before .before .before .before .args .j) (c .before .before .before .before .before .before .args .k)) (c .before2 .ensures ∙ ap₂ lexb h g))
+    (ap (λ (b : Bool). b || ltb (c .before .before .before .before .before .before .before .args .j) (c .before .before .before .before .before .before .before .args .k)) (c .before2 .ensures ∙ ap₂ lexb h g))
 
 pub is-kept-off-spec : {M : Type 1} → statement M
 is-kept-off-spec =

@@ -21,15 +21,15 @@ abbrev μ-loop : tie.MeasureT-loop
 μ-loop table n v counting list₀ count i₀ list i = count - i
 
 count-rows-requires : tie.Need-count-rows-requires Inv-loop μ-loop
-count-rows-requires c κs = c .before .before .pre .room
+count-rows-requires c κs = c .before .before .before .pre .room
 
 loop-holds : tie.Need-loop-holds Inv-loop μ-loop
 loop-holds c =
-    let a = c .before .before .before .args in
-    (omega arith, refl, c .count-rows .ensures ∙ slow-count (a .v .0) (a .counting .now) (a .n) (a .table .now) (0 ∷ 0 ∷ 0 ∷ []) ∙ sym (front-counted (slow-front (a .v .0) (a .counting .now) (a .n) (a .table .now))), listed-none (slow-front (a .v .0) (a .counting .now) (a .n) (a .table .now)) (c .before .before .before .pre))
+    let a = c .before .before .before .before .args in
+    (omega arith, refl, c .count-rows .ensures ∙ slow-count (a .v .0) (a .counting .now) (a .n) (a .table .now) (0 ∷ 0 ∷ 0 ∷ []) ∙ sym (front-counted (slow-front (a .v .0) (a .counting .now) (a .n) (a .table .now))), listed-none (slow-front (a .v .0) (a .counting .now) (a .n) (a .table .now)) (c .before .before .before .before .pre))
 
 nth-slow-requires : tie.Need-nth-slow-requires Inv-loop μ-loop
-nth-slow-requires c κs = c .before .before .before .before .before .pre .room
+nth-slow-requires c κs = c .before .before .before .before .before .before .pre .room
 
 put-cost-requires : tie.Need-put-cost-requires Inv-loop μ-loop
 put-cost-requires c κs = omega (arith, c .before .before .before .before .loop .inv .3 .room)
@@ -42,7 +42,7 @@ loop-less c = search needs
 
 loop-again : tie.Need-loop-again Inv-loop μ-loop
 loop-again c =
-    let a = c .before .before .before .before .before .before .before .before .before .before .before .args in
+    let a = c .before .before .before .before .before .before .before .before .before .before .before .before .args in
     let l = c .before .before .before .before .before .before .before .loop in
     let o = c .before .before .before .before .before .nth-slow in (
       omega arith,
@@ -62,7 +62,7 @@ same-length c = c .before .before .clear-from .kept .0 ∙ c .before .before .be
 
 returns : tie.Need-returns Inv-loop μ-loop
 returns c =
-    let a = c .before .before .before .before .before .before .before .before .before .args in
+    let a = c .before .before .before .before .before .before .before .before .before .before .args in
     let l = c .before .before .before .before .before .loop in
     let z : l .i ≡ c .before .before .before .before .before .before .count-rows .result = omega arith in
     c .before .before .clear-from .ensures

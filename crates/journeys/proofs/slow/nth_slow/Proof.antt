@@ -44,7 +44,7 @@ shared-slice-read-t16 c = omega arith
 
 returns : tie.Need-returns Inv-loop μ-loop
 returns c =
-    let a = c .before .before .before .before .before .before .before .before .args in
+    let a = c .before .before .before .before .before .before .before .before .before .args in
     let l = c .before .before .before .before .before .before .loop in
     let e = ap₂ (λ (b : Bool) (m : ℕ). b && eqb m (a .number)) (c .before .before .is-front-row .ensures)
     (c .before .before .before .count-rows .ensures ∙ ap (λ (g : Cost). countTo (a .v .0) (a .counting .now) (a .n) (a .table .now) false g (a .n)) (c .before .before .before .before .row-cost .ensures)) in
@@ -58,7 +58,7 @@ loop-less c = search needs
 
 loop-again : tie.Need-loop-again Inv-loop μ-loop
 loop-again c =
-    let a = c .before .before .before .before .before .before .before .args in
+    let a = c .before .before .before .before .before .before .before .before .args in
     let l = c .before .before .before .before .before .loop in
     let e = ap₂ (λ (b : Bool) (m : ℕ). b && eqb m (a .number)) (c .before .is-front-row .ensures)
     (c .before .before .count-rows .ensures ∙ ap (λ (g : Cost). countTo (a .v .0) (a .counting .now) (a .n) (a .table .now) false g (a .n)) (c .before .before .before .row-cost .ensures)) in
@@ -66,7 +66,7 @@ loop-again c =
 
 returns-2 : tie.Need-returns-2 Inv-loop μ-loop
 returns-2 c =
-    let a = c .before .before .before .args in
+    let a = c .before .before .before .before .args in
     let l = c .before .loop in
     let z : a .n ≡ l .k = omega arith in
     slow-off (a .v .0) (a .counting .now) (a .n) (a .table .now) (a .number) _ (ap (noneOf (hasNumber (a .v .0) (a .counting .now) (a .n) (a .table .now) (a .number))) z ∙ l .inv .1) refl
