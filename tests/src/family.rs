@@ -136,7 +136,7 @@ impl Ends {
             Ends::GoalOccupied => vec![occupancy_near([0, steps], goal, steps, random)],
             Ends::ApartAndLate => {
                 let least = steps / 2;
-                vec![[goal, 0, random.from_to(least, least.max(steps - 1 - unloading))]]
+                vec![[goal, 0, random.from_to(least, least.max(steps.saturating_sub(1 + unloading)))]]
             }
             Ends::GoalParted | Ends::ApartAndParted | Ends::StartParted => parting(goal, steps, random),
             Ends::StartLeft => vec![[start, random.from_to(1, 4), 255]],

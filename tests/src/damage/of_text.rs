@@ -198,7 +198,7 @@ fn remove_field(text: &mut Vec<u8>, line: Range<usize>, random: &mut Random) {
 /// Removes the last field of the line, adds one more after it or puts another in its place.
 fn change_last_field(text: &mut Vec<u8>, line: Range<usize>, random: &mut Random) {
     let comma = text[line.clone()].iter().rposition(|&byte| byte == b',');
-    let start = comma.map_or(line.end - 1, |at| line.start + at).min(line.end - 1);
+    let start = comma.map_or(line.end - 1, |at| line.start + at);
     let kept = if random.percent(30) { line.end - 1 } else { start };
     text.splice(kept..line.end - 1, random.pick(&LAST_FIELDS).bytes());
 }
