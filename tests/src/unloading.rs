@@ -21,16 +21,16 @@ pub const CHANGES: [&str; 9] = [
 /// A cost of a front, with the places of its journey.
 type Journey = ([u32; 3], Vec<u32>);
 
-/// A sheet with a time to unload: its front, and the one that it has without.
-pub struct Unloading {
+/// The front of a sheet with a time to unload, and the one that the sheet has without.
+pub struct Fronts {
     read: SheetRead,
-    front: Vec<Journey>,
+    with: Vec<Journey>,
     without: Vec<Journey>,
 }
 
-impl Unloading {
-    /// The sheet of a text that offers this, if it has a time to unload.
-    pub fn of(text: &[u8], offer: &Offer) -> Option<Unloading> {
+impl Fronts {
+    /// The fronts of a text that offers this, if its sheet has a time to unload.
+    pub fn of(text: &[u8], offer: &Offer) -> Option<Fronts> {
         let read = read_sheet(text);
         let [numbers @ .., unloading] = read.head;
         if unloading == 0 {
@@ -39,31 +39,31 @@ impl Unloading {
         let head = [&numbers[..], &[0]].concat();
         let [corridors, occupancies] = [read.corridor_numbers(), read.occupancy_numbers()].map(<[u32]>::to_vec);
         let without = offered(&Groups { head, corridors, occupancies }.text()).ok()?.shown();
-        Some(Unloading { read, front: offer.shown(), without })
+        Some(Fronts { read, with: offer.shown(), without })
     }
 
-    /// Whether the two fronts differ, in a cost or in a journey.
-    pub fn is_change(&self) -> bool {
-        self.front != self.without
+    /// Whether they differ, in a cost or in a journey.
+    pub fn differ(&self) -> bool {
+        self.with != self.without
     }
 
     /// For each change whether it comes up here.
     pub fn changes(&self) -> [bool; CHANGES.len()] {
         let [_, last, _, goal, .., unloading] = self.read.head;
         let has = |front: &[Journey], cost| front.iter().any(|one| one.0 == cost);
-        let goes = self.without.iter().any(|one| !has(&self.front, one.0));
-        let comes = self.front.iter().any(|one| !has(&self.without, one.0));
+        let goes = self.without.iter().any(|one| !has(&self.with, one.0));
+        let comes = self.with.iter().any(|one| !has(&self.without, one.0));
         let later = |one: &Journey| self.without.iter().any(|other| other.0 == one.0 && other.1.len() < one.1.len());
         let passes = |one: &Journey| one.1[..one.1.len() - 1].contains(&goal);
         let end = |one: &Journey| one.1.len() as u32 - 1 + unloading;
         [
-            goes && self.front.is_empty(),
-            goes && !self.front.is_empty(),
+            goes && self.with.is_empty(),
+            goes && !self.with.is_empty(),
             comes,
-            self.front.iter().any(later),
-            self.front.iter().any(passes),
-            self.front.iter().any(|one| end(one) == last),
-            self.front.iter().any(|one| end(one) < last && !self.is_free(end(one) + 1)),
+            self.with.iter().any(later),
+            self.with.iter().any(passes),
+            self.with.iter().any(|one| end(one) == last),
+            self.with.iter().any(|one| end(one) < last && !self.is_free(end(one) + 1)),
             self.without.iter().any(|one| end(one) == last + 1 && self.is_free_before(end(one))),
             self.without.iter().any(|one| end(one) <= last && !self.is_free(end(one)) && self.is_free_before(end(one))),
         ]

@@ -17,7 +17,7 @@ use planner_tests::random::Random;
 use planner_tests::small::{damaged_text, small_text};
 use planner_tests::step_by_step::Offer;
 use planner_tests::ties::{Choice, DECIDED};
-use planner_tests::unloading::{CHANGES, Unloading};
+use planner_tests::unloading::{CHANGES, Fronts};
 use std::process::ExitCode;
 
 const FRONT_CASES: &str = include_str!("../../cases/fronts.txt");
@@ -137,9 +137,9 @@ fn count_ties(offer: &Offer, tally: &mut Tally) {
 
 /// Counts a sheet by what its time to unload changes.
 fn count_changes(text: &[u8], offer: &Offer, tally: &mut Tally) {
-    if let Some(unloading) = Unloading::of(text, offer) {
-        tally.changed += u64::from(unloading.is_change());
-        for (count, is_met) in tally.changes.iter_mut().zip(unloading.changes()) {
+    if let Some(fronts) = Fronts::of(text, offer) {
+        tally.changed += u64::from(fronts.differ());
+        for (count, is_met) in tally.changes.iter_mut().zip(fronts.changes()) {
             *count += u64::from(is_met);
         }
     }
