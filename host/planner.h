@@ -1,10 +1,15 @@
 /* The planner's calls for a host in C or C++, in target/staticlib/libplanner.a (made by `rt staticlib planner`).
  *
  * The sheet, the front, the tie rule and the refusals are those of document 01, "The corridor sheet and the journeys
- * it offers", with what document 02 changed (E4: the kinds of bytes; E6: PLANNER_LATE); their open points are
- * decided in docs/DECISIONS.md. What each call hands back and leaves in every lent buffer is proved of the calls in
- * crates/planner/src/lib.rt. That this header declares those calls is not proved; tests/host runs each of them through
- * it.
+ * it offers", with what document 02 changed (E2: the time to unload; E4: the kinds of bytes; E6: PLANNER_LATE; E9: the
+ * tie rule); their open points are decided in docs/DECISIONS.md. What each call hands back and leaves in every lent
+ * buffer is proved of the calls in crates/planner/src/lib.rt. That this header declares those calls is not proved;
+ * tests/host runs each of them through it.
+ *
+ * The S line is `S,places,steps,start,goal,w1,w2,w3,u`: the count of places, the last step, where a journey starts and
+ * ends, the cost of waiting one step, and the steps that unloading takes, 0 to 99. An arrival at the goal at step A
+ * counts only if the goal is free at each step from A to A + u, and A + u is at most the last step. A journey is lawful
+ * only if its arrival counts; the arrival step handed back is A.
  *
  * Holds for every call:
  * - An array is passed as a pointer and a length, the count of its elements. A pointer is never null, not even where
@@ -37,7 +42,7 @@ extern "C" {
 #define PLANNER_MOST_TABLE 41943039 /* numbers of an arrivals table; past them the search is hundreds of times slower */
 #define PLANNER_MOST_STACK 200000   /* bytes of stack of any call */
 #define PLANNER_FIGURES 3           /* of a cost: charge, noise, doors */
-#define PLANNER_HEAD_WIDTH 7        /* places, steps, start, goal, w1, w2, w3 */
+#define PLANNER_HEAD_WIDTH 8        /* places, steps, start, goal, w1, w2, w3, u */
 #define PLANNER_CORRIDOR_WIDTH 5    /* from, to, c1, c2, c3 */
 #define PLANNER_OCCUPANCY_WIDTH 3   /* place, first, last */
 #define PLANNER_ARRIVAL_WIDTH 5     /* a row of the arrivals table: place, step, c1, c2, c3 */
@@ -117,12 +122,12 @@ typedef struct {
  * Stack: 27,896 bytes measured. */
 PlannerSheetRead planner_read(const uint8_t *sheet, size_t sheet_len);
 
-/* Writes the sheet of three groups: the S line's seven numbers, five for each corridor, three for each occupancy. The
+/* Writes the sheet of three groups: the S line's eight numbers, five for each corridor, three for each occupancy. The
  * lengths are counts of numbers, of a read sheet: PLANNER_HEAD_WIDTH, lines[1] * PLANNER_CORRIDOR_WIDTH and
  * lines[2] * PLANNER_OCCUPANCY_WIDTH.
  *
  * Hands back: the count of bytes written; planner_read turns them back into the same groups.
- * Refuses with: 2 (line 0: head_len is not 7, corridors_len no multiple of 5 or occupancies_len none of 3); 4 to 7
+ * Refuses with: 2 (line 0: head_len is not 8, corridors_len no multiple of 5 or occupancies_len none of 3); 4 to 7
  * and 16 (the first line at fault, as counted in the sheet to be written); 12 (line 0). PLANNER_MOST_BYTES bytes are
  * always enough.
  * out: the bytes of the sheet, and past them kept. Refused: kept.

@@ -7,13 +7,13 @@
 #define AT(type, field, offset) _Static_assert(offsetof(type, field) == (offset), #type "." #field)
 #define SIZE(type, size, align) _Static_assert(sizeof(type) == (size) && _Alignof(type) == (align), #type)
 
-SIZE(PlannerSheetRead, 8240, 4);
+SIZE(PlannerSheetRead, 8244, 4);
 AT(PlannerSheetRead, refusal, 0);
 AT(PlannerSheetRead, line, 4);
 AT(PlannerSheetRead, lines, 8);
 AT(PlannerSheetRead, head, 20);
-AT(PlannerSheetRead, corridors, 48);
-AT(PlannerSheetRead, occupancies, 5168);
+AT(PlannerSheetRead, corridors, 52);
+AT(PlannerSheetRead, occupancies, 5172);
 
 SIZE(PlannerSheetWritten, 12, 4);
 AT(PlannerSheetWritten, refusal, 0);

@@ -3,13 +3,13 @@
 
 # Sheet A.
 sheet_a() {
-    printf '%s\n' S,4,6,0,3,1,0,0 C,0,1,1,0,4 C,0,2,1,3,0 C,1,3,1,0,4 C,2,3,1,3,0 O,1,1,2
+    printf '%s\n' S,4,6,0,3,1,0,0,0 C,0,1,1,0,4 C,0,2,1,3,0 C,1,3,1,0,4 C,2,3,1,3,0 O,1,1,2
 }
 
-# The longest sheet that is read, 10,017 bytes; nothing leads away from its start.
+# The longest sheet that is read, 10,020 bytes; nothing leads away from its start.
 longest() {
     awk 'BEGIN {
-        print "S,64,255,63,62,60000,59999,12345"
+        print "S,64,255,63,62,60000,59999,12345,99"
         for (n = 0; n < 256; n++) print "C," 10 + int(n / 32) "," 20 + n % 32 ",60000," 10000 + 7 * n ",54321"
         for (n = 0; n < 256; n++) print "O," 10 + int(n / 8) "," 100 + n % 8 "," 255 - n % 8
     }'
@@ -18,12 +18,12 @@ longest() {
 # The longest sheet with line feeds up to so many bytes.
 padded() {
     longest
-    awk -v more=$(($1 - 10017)) 'BEGIN { while (more-- > 0) print "" }'
+    awk -v more=$(($1 - 10020)) 'BEGIN { while (more-- > 0) print "" }'
 }
 
 # A sheet with 257 O lines.
 many_lines() {
-    awk 'BEGIN { print "S,64,9,0,8,1,0,0"; for (n = 0; n < 257; n++) print "O," int(n / 5) ",0," n % 5 }'
+    awk 'BEGIN { print "S,64,9,0,8,1,0,0,0"; for (n = 0; n < 257; n++) print "O," int(n / 5) ",0," n % 5 }'
 }
 
 # A sheet with 200 front costs, or with 201: many_costs 0 | 1. From place 10 by one of ten places and one of twenty to
@@ -31,7 +31,7 @@ many_lines() {
 # to 199. The last cost is that of a way by 42 and 43, which alone adds to the third figure.
 many_costs() {
     awk -v more="$1" 'BEGIN {
-        print "S,44,255,10,41,60000,60000,60000"
+        print "S,44,255,10,41,60000,60000,60000,0"
         for (a = 0; a < 10; a++) print "C,10," 11 + a "," 20 * a "," 180 - 20 * a ",0"
         if (more) print "C,10,42,0,0,1"
         for (a = 0; a < 10; a++) for (b = 0; b < 20; b++) print "C," 11 + a "," 21 + b "," b "," 19 - b ",0"
@@ -59,7 +59,7 @@ many_costs_page() {
 # with the start, 2^(n - 1) at each place. Then places where ways end: 19 with 512 arrivals, 20 with 256, 21 with 128,
 # 22 with 64, 23 with 16, 24 with 1 and 25 with the last. An arrival after a wait is led by the one without it.
 many_arrivals() {
-    echo "S,26,10,0,$1,1,1,1"
+    echo "S,26,10,0,$1,1,1,1,0"
     awk -v more="$2" 'BEGIN {
         for (n = 1; n <= 9; n++) for (from = 2 * n - 3; from < 2 * n - 1; from++) if (from >= 0) {
             print "C," from "," 2 * n - 1 "," 2 ^ (n - 1) ",0,0"

@@ -21,7 +21,7 @@ static uint32_t refusal;
 static void write_sheet(void)
 {
     char *at = (char *)sheet;
-    at += sprintf(at, "S,64,255,0,63,1,0,0\n");
+    at += sprintf(at, "S,64,255,0,63,1,0,0,0\n");
     for (int v = 0; v < 64; v++) {
         if (v % 8 < 7) at += sprintf(at, "C,%d,%d,%d,1,0\n", v, v + 1, 1 + v % 3);
         if (v < 56) at += sprintf(at, "C,%d,%d,1,%d,1\n", v, v + 8, v % 4);
@@ -41,7 +41,7 @@ static void *run_read(void *unused)
 
 static void *run_write(void *unused)
 {
-    refusal = planner_write(answer.head, 7, answer.corridors, answer.lines[1] * 5, answer.occupancies, answer.lines[2] * 3, written, BYTES).refusal;
+    refusal = planner_write(answer.head, 8, answer.corridors, answer.lines[1] * 5, answer.occupancies, answer.lines[2] * 3, written, BYTES).refusal;
     return unused;
 }
 

@@ -47,6 +47,11 @@ impl Tried {
         Tried { text, offered }
     }
 
+    /// The text.
+    pub fn text(&self) -> &[u8] {
+        &self.text
+    }
+
     /// What the text offers, unless it is refused.
     pub fn offer(&self) -> Option<&Offer> {
         self.offered.as_ref().ok()

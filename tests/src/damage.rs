@@ -6,7 +6,8 @@ pub mod of_groups;
 pub mod of_text;
 
 /// Numbers at or next to the ends of the ranges, and the first number of six digits.
-const BOUNDARIES: [u32; 14] = [0, 1, 2, 63, 64, 65, 255, 256, 59_999, 60_000, 60_001, 65_535, 99_999, 100_000];
+const BOUNDARIES: [u32; 17] =
+    [0, 1, 2, 63, 64, 65, 98, 99, 100, 255, 256, 59_999, 60_000, 60_001, 65_535, 99_999, 100_000];
 
 /// What is done to the order of lines.
 #[derive(Clone, Copy, Debug, PartialEq, Eq)]

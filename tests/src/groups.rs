@@ -15,7 +15,7 @@ impl Groups {
     /// The sheet's text, whatever the numbers are.
     pub fn text(&self) -> Vec<u8> {
         let mut text = String::new();
-        for (letter, width, group) in [('S', 7, &self.head), ('C', 5, &self.corridors), ('O', 3, &self.occupancies)] {
+        for (letter, width, group) in [('S', 8, &self.head), ('C', 5, &self.corridors), ('O', 3, &self.occupancies)] {
             for numbers in group.chunks(width) {
                 text.push(letter);
                 numbers.iter().for_each(|number| text.push_str(&format!(",{number}")));
@@ -39,7 +39,7 @@ pub fn ascending_occupancies(count: u32) -> Vec<u32> {
 /// The longest sheet: all lines, and in each place a number with the most digits.
 pub fn longest_groups() -> Groups {
     Groups {
-        head: vec![64, 255, 63, 62, 60_000, 59_999, 12_345],
+        head: vec![64, 255, 63, 62, 60_000, 59_999, 12_345, 99],
         corridors: (0..256).flat_map(|i| [10 + i / 32, 20 + i % 32, 60_000, 10_000 + 7 * i, 54_321]).collect(),
         occupancies: (0..256).flat_map(|i| [10 + i / 8, 100 + i % 8, 255 - i % 8]).collect(),
     }
@@ -65,7 +65,10 @@ pub fn random_groups(random: &mut Random) -> Groups {
 fn random_head(random: &mut Random, places: u32) -> Vec<u32> {
     let start = random.from_to(0, places - 1);
     let goal = random.from_to(0, places - 1);
-    vec![places, random_step(random), start, goal, random_cost(random), random_cost(random), random_cost(random)]
+    let mut head = vec![places, random_step(random), start, goal];
+    head.extend((0..3).map(|_| random_cost(random)));
+    head.push(random_unloading(random));
+    head
 }
 
 /// Random corridor lines in ascending order.
@@ -114,6 +117,15 @@ fn random_count(random: &mut Random) -> usize {
 /// A step, often at an end of its range.
 fn random_step(random: &mut Random) -> u32 {
     if random.percent(20) { random.pick(&[0, 1, 9, 10, 99, 100, 254, 255]) } else { random.from_to(0, 255) }
+}
+
+/// A time to unload, often at an end of its range or where it gets a digit more.
+fn random_unloading(random: &mut Random) -> u32 {
+    match random.below(3) {
+        0 => 0,
+        1 => random.pick(&[1, 9, 10, 98, 99]),
+        _ => random.from_to(0, 99),
+    }
 }
 
 /// A cost, often at an end of its range or where it gets a digit more.

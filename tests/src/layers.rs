@@ -2,7 +2,8 @@
 //!
 //! The places stand in layers, each crossed in one step from any place of the one before. The choice in a layer moves
 //! some of the cost from one figure to another, so that no journey's cost dominates another's. A place is occupied at
-//! all steps but one, so that there are no more ways than choices, and all can be listed.
+//! all steps but one, so that there are no more ways than choices, and all can be listed; the goal is free afterwards
+//! too, for unloading.
 
 use crate::groups::Groups;
 use crate::random::Random;
@@ -17,7 +18,8 @@ const WIDEST: u32 = 5;
 pub fn layered_text(random: &mut Random) -> Vec<u8> {
     let widths = random_widths(random);
     let places = widths.iter().sum();
-    let head = vec![places, widths.len() as u32 - 1, 0, places - 1, 1, 1, 1];
+    let unloading = random.pick(&[0, 0, 1, 2]);
+    let head = vec![places, widths.len() as u32 - 1 + unloading, 0, places - 1, 1, 1, 1, unloading];
     Groups { head, corridors: corridors_of(&widths), occupancies: occupancies_of(&widths) }.text()
 }
 
@@ -58,7 +60,7 @@ fn corridors_of(widths: &[u32]) -> Vec<u32> {
     corridors
 }
 
-/// The occupancies that leave each place free at the step of its layer alone.
+/// The occupancies that leave each place free at the step of its layer alone, and the goal from that of the last on.
 fn occupancies_of(widths: &[u32]) -> Vec<u32> {
     let mut occupancies = Vec::new();
     let mut place = 0;

@@ -6,6 +6,7 @@ pub mod compare;
 pub mod compare_search;
 pub mod damage;
 pub mod families;
+pub mod family;
 pub mod groups;
 pub mod layers;
 pub mod lent;
@@ -19,6 +20,7 @@ pub mod sheet;
 pub mod small;
 pub mod step_by_step;
 pub mod ties;
+pub mod unloading;
 
 pub use ::planner::calls as answers;
 #[cfg(not(feature = "stub"))]

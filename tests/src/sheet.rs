@@ -1,4 +1,4 @@
-// The reference: a reader and a writer of corridor sheets, written from document 01 and document 02's E6 alone, and the
+// The reference: a reader and a writer of corridor sheets, written from document 01 and document 02's E2 and E6 alone, and the
 // kinds of bytes, with the numbers that E4 keeps and the letters of docs/DECISIONS.md, 6.
 
 use crate::answers::{SheetRead, SheetWritten};
@@ -11,6 +11,7 @@ const MOST_LINES: usize = 256;
 const MOST_PLACES: u32 = 64;
 const LAST_STEP: u32 = 255;
 const MOST_COST: u32 = 60_000;
+const MOST_UNLOADING: u32 = 99;
 
 /// A number has at most so many digits.
 const MOST_DIGITS: usize = 5;
@@ -128,8 +129,8 @@ impl Cursor<'_> {
 }
 
 /// Adds an S line to the sheet, or hands back the number of the first test that it fails.
-fn add_head(sheet: &mut SheetRead, numbers: [u32; 7]) -> Result<(), u32> {
-    let [places, steps, start, goal, waiting @ ..] = numbers;
+fn add_head(sheet: &mut SheetRead, numbers: [u32; 8]) -> Result<(), u32> {
+    let [places, steps, start, goal, waiting @ .., unloading] = numbers;
     if sheet.lines[0] > 0 {
         return Err(3);
     }
@@ -138,6 +139,7 @@ fn add_head(sheet: &mut SheetRead, numbers: [u32; 7]) -> Result<(), u32> {
         || start >= places
         || goal >= places
         || has_cost_out_of_range(waiting)
+        || unloading > MOST_UNLOADING
     {
         return Err(4);
     }

@@ -2,7 +2,8 @@
 
 use crate::answers::SheetRead;
 use crate::damage::of_text::{TextDamage, damage_text};
-use crate::families::{FAMILIES, Family};
+use crate::families::FAMILIES;
+use crate::family::Family;
 use crate::groups::random_groups;
 use crate::random::Random;
 use crate::sheet::read_sheet;

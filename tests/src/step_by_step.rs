@@ -30,6 +30,7 @@ struct Sheet {
     start: u32,
     goal: u32,
     waiting: Cost,
+    unloading: u32,
     corridors: Vec<[u32; 5]>,
     occupancies: Vec<[u32; 3]>,
     intervals: Vec<Vec<RangeInclusive<u32>>>,
@@ -38,10 +39,10 @@ struct Sheet {
 impl Sheet {
     /// The sheet that was read.
     fn of(read: &SheetRead) -> Sheet {
-        let [places, steps, start, goal, waiting @ ..] = read.head;
+        let [places, steps, start, goal, waiting @ .., unloading] = read.head;
         let corridors = read.corridor_numbers().as_chunks().0.to_vec();
         let occupancies = read.occupancy_numbers().as_chunks().0.to_vec();
-        let mut sheet = Sheet { steps, start, goal, waiting, corridors, occupancies, intervals: vec![] };
+        let mut sheet = Sheet { steps, start, goal, waiting, unloading, corridors, occupancies, intervals: vec![] };
         sheet.intervals = (0..places).map(|place| sheet.safe_intervals(place)).collect();
         sheet
     }
@@ -107,14 +108,25 @@ impl Sheet {
         arrivals.iter().filter(|one| !arrivals.iter().any(|other| self.leads(other, one))).copied().collect()
     }
 
-    /// The front, ascending, each cost with the journey that the tie rule selects.
-    fn front(&self, ways: &[Way]) -> Vec<Way> {
-        let mut journeys: Vec<&Way> = ways.iter().filter(|way| way.place() == self.goal).collect();
-        journeys.sort_by_cached_key(|way| (way.cost, way.rank()));
-        journeys.dedup_by_key(|way| way.cost);
-        let on_front = |way: &Way| !journeys.iter().any(|other| dominates(other.cost, way.cost));
-        journeys.iter().filter(|way| on_front(way)).map(|&way| way.clone()).collect()
+    /// Whether an arrival at the goal at a step counts: unloading ends within T, and the goal is free until it does.
+    fn counts(&self, step: u32) -> bool {
+        let unloaded = step + self.unloading;
+        unloaded <= self.steps && (step..=unloaded).all(|step| self.is_free(self.goal, step))
     }
+
+    /// The lawful journeys: the ways that end with an arrival at the goal that counts.
+    fn journeys(&self, ways: &[Way]) -> Vec<Way> {
+        ways.iter().filter(|way| way.place() == self.goal && self.counts(way.step())).cloned().collect()
+    }
+}
+
+/// The front of some journeys, ascending, each cost with the journey that the tie rule selects.
+fn front_among(journeys: &[Way]) -> Vec<Way> {
+    let mut journeys: Vec<&Way> = journeys.iter().collect();
+    journeys.sort_by_cached_key(|way| (way.cost, way.rank()));
+    journeys.dedup_by_key(|way| way.cost);
+    let on_front = |way: &Way| !journeys.iter().any(|other| dominates(other.cost, way.cost));
+    journeys.iter().filter(|way| on_front(way)).map(|&way| way.clone()).collect()
 }
 
 /// A way from the start: a place for each step from 0 on, and its cost.
@@ -161,11 +173,11 @@ struct Arrival {
     cost: Cost,
 }
 
-/// What a sheet offers: the leading arrivals in the order of rows, the front with its journeys, and all lawful ways.
+/// What a sheet offers: the leading arrivals in the order of rows, the front with its journeys, and all lawful journeys.
 pub struct Offer {
     leading: Vec<Arrival>,
     front: Vec<Way>,
-    ways: Vec<Way>,
+    journeys: Vec<Way>,
 }
 
 /// The number and the line of a refusal by the reader.
@@ -183,7 +195,8 @@ pub fn offered(text: &[u8]) -> Result<Offer, Refusal> {
     let sheet = Sheet::of(&read);
     let ways = sheet.lawful_ways();
     let arrivals: BTreeSet<Arrival> = ways.iter().map(Way::arrival).collect();
-    Ok(Offer { leading: sheet.leading(&arrivals), front: sheet.front(&ways), ways })
+    let journeys = sheet.journeys(&ways);
+    Ok(Offer { leading: sheet.leading(&arrivals), front: front_among(&journeys), journeys })
 }
 
 /// What a call of the front hands back, with what it leaves in the lent arrays.
@@ -228,12 +241,15 @@ impl Offer {
         self.front.iter().map(Way::step).collect()
     }
 
+    /// The front: each cost, with the places of its journey.
+    pub fn shown(&self) -> Vec<(Cost, Vec<u32>)> {
+        self.front.iter().map(|way| (way.cost, way.places.clone())).collect()
+    }
+
     /// For each cost of the front the places of every journey that has it.
     pub fn journeys(&self) -> Vec<Vec<&[u32]>> {
-        let of_cost = |one: &Way| {
-            let journeys = self.ways.iter().filter(|way| way.place() == one.place() && way.cost == one.cost);
-            journeys.map(|way| &way.places[..]).collect()
-        };
+        let of_cost =
+            |one: &Way| self.journeys.iter().filter(|way| way.cost == one.cost).map(|way| &way.places[..]).collect();
         self.front.iter().map(of_cost).collect()
     }
 

@@ -37,7 +37,7 @@ fn texts() -> Vec<(&'static str, Vec<u8>)> {
 /// Document 01's sheet A.
 fn sheet_a() -> Groups {
     Groups {
-        head: vec![4, 6, 0, 3, 1, 0, 0],
+        head: vec![4, 6, 0, 3, 1, 0, 0, 0],
         corridors: vec![0, 1, 1, 0, 4, 0, 2, 1, 3, 0, 1, 3, 1, 0, 4, 2, 3, 1, 3, 0],
         occupancies: vec![1, 1, 2],
     }

@@ -12,7 +12,7 @@ pub struct SheetRead {
     /// The count of S, C and O lines.
     pub lines: [u32; 3],
     /// The numbers of the S line.
-    pub head: [u32; 7],
+    pub head: [u32; 8],
     /// The numbers of the C lines, five for each.
     pub corridors: [u32; 1280],
     /// The numbers of the O lines, three for each.
@@ -22,7 +22,7 @@ pub struct SheetRead {
 impl SheetRead {
     /// The answer with this number and line, and zero for all else.
     pub fn refused(refusal: u32, line: u32) -> SheetRead {
-        SheetRead { refusal, line, lines: [0; 3], head: [0; 7], corridors: [0; 1280], occupancies: [0; 768] }
+        SheetRead { refusal, line, lines: [0; 3], head: [0; 8], corridors: [0; 1280], occupancies: [0; 768] }
     }
 
     /// The numbers of the corridor lines.
@@ -191,10 +191,10 @@ mod tests {
     /// The numbers that tests/header.c holds the C structs against.
     #[test]
     fn the_structs_are_laid_out_as_in_c() {
-        assert_eq!((size_of::<SheetRead>(), align_of::<SheetRead>()), (8240, 4));
+        assert_eq!((size_of::<SheetRead>(), align_of::<SheetRead>()), (8244, 4));
         assert_eq!([offset_of!(SheetRead, refusal), offset_of!(SheetRead, line)], [0, 4]);
         assert_eq!([offset_of!(SheetRead, lines), offset_of!(SheetRead, head)], [8, 20]);
-        assert_eq!([offset_of!(SheetRead, corridors), offset_of!(SheetRead, occupancies)], [48, 5168]);
+        assert_eq!([offset_of!(SheetRead, corridors), offset_of!(SheetRead, occupancies)], [52, 5172]);
 
         assert_eq!((size_of::<SheetWritten>(), align_of::<SheetWritten>()), (12, 4));
         assert_eq!([offset_of!(SheetWritten, refusal), offset_of!(SheetWritten, line)], [0, 4]);

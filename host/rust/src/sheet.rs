@@ -18,6 +18,9 @@ pub struct Sheet {
     pub goal: Place,
     /// The cost of waiting one step.
     pub waiting: Cost,
+    /// Steps that unloading takes, 0 to 99. An arrival at the goal counts only if the goal is free from its step to so
+    /// many steps after it, and the last of them is not after the sheet's last step.
+    pub unloading: u32,
     /// Up to 256, strictly ascending by (from, to).
     pub corridors: Vec<Corridor>,
     /// Up to 256, strictly ascending by (place, first, last).
@@ -51,13 +54,14 @@ pub fn read(text: &[u8]) -> Result<Sheet, Refusal> {
     let answer = calls::read(text);
     Refusal::check(answer.refusal, answer.line)?;
     let [_, corridors, occupancies] = answer.lines.map(|count| count as usize);
-    let [places, steps, start, goal, waiting @ ..] = answer.head;
+    let [places, steps, start, goal, waiting @ .., unloading] = answer.head;
     Ok(Sheet {
         places,
         steps: Step(steps),
         start: Place(start),
         goal: Place(goal),
         waiting,
+        unloading,
         corridors: rows(&answer.corridors, corridors).map(corridor).collect(),
         occupancies: rows(&answer.occupancies, occupancies).map(occupancy).collect(),
     })
@@ -67,7 +71,7 @@ pub fn read(text: &[u8]) -> Result<Sheet, Refusal> {
 /// text would have.
 pub fn write(sheet: &Sheet) -> Result<Vec<u8>, Refusal> {
     let [w1, w2, w3] = sheet.waiting;
-    let head = [sheet.places, sheet.steps.0, sheet.start.0, sheet.goal.0, w1, w2, w3];
+    let head = [sheet.places, sheet.steps.0, sheet.start.0, sheet.goal.0, w1, w2, w3, sheet.unloading];
     let corridors: Vec<u32> = sheet.corridors.iter().flat_map(corridor_numbers).collect();
     let occupancies: Vec<u32> = sheet.occupancies.iter().flat_map(occupancy_numbers).collect();
     let mut text = vec![0; MOST_BYTES];

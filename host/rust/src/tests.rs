@@ -1,11 +1,11 @@
-//! Document 01's "Sheets to try", sheet D with the journey of document 02, and each refusal of a sheet, through the
-//! wrapper.
+//! Document 01's "Sheets to try", sheet D with the journey of document 02, times to unload, and each refusal of a sheet,
+//! through the wrapper.
 
 use crate::{Cost, Place, Refusal, Room, Step, front, journey, read, write};
 
-const A: &str = "S,4,6,0,3,1,0,0\nC,0,1,1,0,4\nC,0,2,1,3,0\nC,1,3,1,0,4\nC,2,3,1,3,0\nO,1,1,2\n";
-const B: &str = "S,5,4,0,4,1,0,0\nC,0,1,1,0,0\nC,0,3,1,0,0\nC,1,2,1,0,0\nC,2,3,0,0,0\nC,3,4,0,0,0\nO,4,0,3\n";
-const D: &str = "S,6,3,0,5,0,0,0\nC,0,1,1,0,0\nC,0,2,1,0,0\nC,1,4,1,0,0\nC,2,3,1,0,0\nC,3,5,1,0,0\nC,4,5,1,0,0\n";
+const A: &str = "S,4,6,0,3,1,0,0,0\nC,0,1,1,0,4\nC,0,2,1,3,0\nC,1,3,1,0,4\nC,2,3,1,3,0\nO,1,1,2\n";
+const B: &str = "S,5,4,0,4,1,0,0,0\nC,0,1,1,0,0\nC,0,3,1,0,0\nC,1,2,1,0,0\nC,2,3,0,0,0\nC,3,4,0,0,0\nO,4,0,3\n";
+const D: &str = "S,6,3,0,5,0,0,0,0\nC,0,1,1,0,0\nC,0,2,1,0,0\nC,1,4,1,0,0\nC,2,3,1,0,0\nC,3,5,1,0,0\nC,4,5,1,0,0\n";
 
 /// A journey's cost, arrival step and places.
 type Told<'a> = (Cost, u32, &'a [u32]);
@@ -102,8 +102,25 @@ fn sheet_d() {
 }
 
 #[test]
+fn a_with_2_steps_to_unload() {
+    let text = a_with("1,0,0,0", "1,0,0,2");
+    assert_offers(&text, 5, &[([2, 6, 0], 2, &[0, 2, 3]), ([4, 0, 8], 4, &[0, 0, 0, 1, 3])]);
+}
+
+#[test]
+fn a_with_3_steps_to_unload() {
+    assert_offers(&a_with("1,0,0,0", "1,0,0,3"), 5, &[([2, 6, 0], 2, &[0, 2, 3])]);
+}
+
+#[test]
+fn a_with_the_goal_occupied_before_the_first_arrival_has_unloaded() {
+    let text = a_with("O,1,1,2\n", "O,1,1,2\nO,3,3,3\n").replace("1,0,0,0", "1,0,0,1");
+    assert_offers(&text, 6, &[([4, 0, 8], 4, &[0, 0, 0, 1, 3]), ([4, 6, 0], 4, &[0, 0, 0, 2, 3])]);
+}
+
+#[test]
 fn a_sheet_read_and_written_gives_its_own_bytes() {
-    for text in [A, B, D] {
+    for text in [A, B, D, &a_with("1,0,0,0", "1,0,0,99")] {
         let sheet = read(text.as_bytes()).expect("the sheet is served");
         assert_eq!(write(&sheet), Ok(text.as_bytes().to_vec()));
     }
@@ -114,6 +131,7 @@ fn the_values_of_b() {
     let sheet = read(B.as_bytes()).expect("the sheet is served");
     assert_eq!((sheet.places, sheet.steps, sheet.start, sheet.goal), (5, Step(4), Place(0), Place(4)));
     assert_eq!((sheet.waiting, sheet.corridors.len(), sheet.occupancies.len()), ([1, 0, 0], 5, 1));
+    assert_eq!(sheet.unloading, 0);
     let (corridor, occupancy) = (sheet.corridors[2], sheet.occupancies[0]);
     assert_eq!((corridor.from, corridor.to, corridor.cost), (Place(1), Place(2), [1, 0, 0]));
     assert_eq!((occupancy.place, occupancy.first, occupancy.last), (Place(4), Step(0), Step(3)));
@@ -124,6 +142,15 @@ fn the_writer_names_the_line_that_the_text_would_have() {
     let mut sheet = read(A.as_bytes()).expect("the sheet is served");
     sheet.corridors[1].to = Place(0);
     assert_eq!(write(&sheet), Err(Refusal { number: 6, line: 3 }));
+}
+
+#[test]
+fn a_time_to_unload_is_written_up_to_99_steps() {
+    let mut sheet = read(A.as_bytes()).expect("the sheet is served");
+    sheet.unloading = 99;
+    assert_eq!(write(&sheet), Ok(a_with("1,0,0,0", "1,0,0,99").into_bytes()));
+    sheet.unloading = 100;
+    assert_eq!(write(&sheet), Err(Refusal { number: 4, line: 1 }));
 }
 
 #[test]
@@ -141,12 +168,15 @@ fn the_refusals_of_a_sheet() {
     let refused = |text: &str| refused(text, Room::default());
     assert_eq!(refused(&"\n".repeat(10_241)), (1, 0));
     assert_eq!(refused(&a_with("O,1,1,2", "O,1,007,2")), (2, 6));
+    assert_eq!(refused(&a_with("1,0,0,0", "1,0,0")), (2, 1));
+    assert_eq!(refused(&a_with("1,0,0,0", "1,0,0,0,0")), (2, 1));
     assert_eq!(refused(""), (3, 1));
     assert_eq!(refused(&a_with("O,1,1,2", "O,4,1,2")), (4, 6));
+    assert_eq!(refused(&a_with("1,0,0,0", "1,0,0,100")), (4, 1));
     assert_eq!(refused(&a_with("C,0,2,", "C,0,1,")), (5, 3));
     assert_eq!(refused(&a_with("O,1,1,2", "O,1,5,4")), (6, 6));
     let occupied: String = (0..257).map(|n| format!("O,{},0,{}\n", n / 100, n % 100)).collect();
-    assert_eq!(refused(&format!("S,4,6,0,3,1,0,0\n{occupied}")), (7, 258));
+    assert_eq!(refused(&format!("S,4,6,0,3,1,0,0,0\n{occupied}")), (7, 258));
     assert_eq!(refused(&a_with("O,1,1,2", "O,1,7,7")), (16, 6));
 }
 

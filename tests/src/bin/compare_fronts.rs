@@ -3,8 +3,9 @@
 //!
 //! `compare_fronts [--seed N] [--runs N]`: each run is one small sheet, with several calls, among them one for each of
 //! its journeys with room, and five damaged texts, with one call of the front and one of a journey each. The exit status
-//! is 0 if all answers and all cells of all lent arrays agree, a third of the small sheets have a tie, and each refusal
-//! number, family, size, way in which the tie rule decides, room and kind of damage came up often.
+//! is 0 if all answers and all cells of all lent arrays agree, a third of the small sheets have a tie, the time to unload
+//! changes the front of a sixth of them, and each refusal number, family, size, way in which the tie rule decides, change
+//! by unloading, room and kind of damage came up often.
 
 use planner_tests::cases::{Asked, FrontCase, front_cases};
 use planner_tests::compare_search::{Filled, Tried};
@@ -16,6 +17,7 @@ use planner_tests::random::Random;
 use planner_tests::small::{damaged_text, small_text};
 use planner_tests::step_by_step::Offer;
 use planner_tests::ties::{Choice, DECIDED};
+use planner_tests::unloading::{CHANGES, Fronts};
 use std::process::ExitCode;
 
 const FRONT_CASES: &str = include_str!("../../cases/fronts.txt");
@@ -29,6 +31,9 @@ const SIZES: [&str; 5] = ["empty", "one cost", "two costs", "three costs", "more
 /// A sheet with a tie, two journeys of a front cost that arrive at its earliest step, must come up once in so many sheets.
 const TIES: u64 = 3;
 
+/// A sheet whose front is another one without the time to unload must come up once in so many sheets.
+const CHANGED: u64 = 6;
+
 /// The lengths of lent arrays that must come up, and the number of a journey.
 const ROOMS: [&str; 7] = [
     "arrivals just fit",
@@ -40,7 +45,7 @@ const ROOMS: [&str; 7] = [
     "the number after the last",
 ];
 
-/// How many calls or sheets met each refusal number, family, size, tie, room and kind of damage.
+/// How many calls or sheets met each refusal number, family, size, tie, change by unloading, room and kind of damage.
 #[derive(Default)]
 struct Tally {
     front: ByRefusal,
@@ -49,6 +54,8 @@ struct Tally {
     sizes: [u64; SIZES.len()],
     tied: u64,
     decided: [u64; DECIDED.len()],
+    changed: u64,
+    changes: [u64; CHANGES.len()],
     rooms: [u64; ROOMS.len()],
     damages: [u64; TEXT_DAMAGES.len()],
 }
@@ -79,6 +86,8 @@ fn counts(tally: &Tally) -> Vec<Counts> {
         Counts::of("fronts of small sheets", &SIZES, &tally.sizes),
         Counts::of("small sheets", &["with a tie"], &[tally.tied]).once_in(TIES),
         Counts::of("small sheets on which the tie rule decides", &DECIDED, &tally.decided),
+        Counts::of("small sheets", &["whose front unloading changes"], &[tally.changed]).once_in(CHANGED),
+        Counts::of("small sheets on which unloading has a bearing", &CHANGES, &tally.changes),
         Counts::of("rooms of calls", &ROOMS, &tally.rooms),
         Counts::of("damage to texts", &TEXT_DAMAGES, &tally.damages),
     ]
@@ -106,6 +115,7 @@ fn compare_calls(tried: &Tried, random: &mut Random, tally: &mut Tally) -> Resul
     let front = offer.steps();
     tally.sizes[front.len().min(SIZES.len() - 1)] += 1;
     count_ties(offer, tally);
+    count_changes(tried.text(), offer, tally);
     compare_front(tried, random, tally)?;
     compare_front(tried, random, tally)?;
     for (number, &step) in (0..).zip(&front) {
@@ -122,6 +132,16 @@ fn count_ties(offer: &Offer, tally: &mut Tally) {
     tally.tied += u64::from(choices.iter().any(Choice::is_tie));
     for (how, count) in tally.decided.iter_mut().enumerate() {
         *count += u64::from(choices.iter().any(|choice| choice.decided()[how]));
+    }
+}
+
+/// Counts a sheet by what its time to unload changes.
+fn count_changes(text: &[u8], offer: &Offer, tally: &mut Tally) {
+    if let Some(fronts) = Fronts::of(text, offer) {
+        tally.changed += u64::from(fronts.differ());
+        for (count, is_met) in tally.changes.iter_mut().zip(fronts.changes()) {
+            *count += u64::from(is_met);
+        }
     }
 }
 

@@ -65,7 +65,7 @@ pub fn damage_groups(groups: &mut Groups, random: &mut Random) -> Vec<GroupDamag
 /// The group of a kind, and the count of numbers on its lines.
 fn group_of(groups: &mut Groups, kind: usize) -> (&mut Vec<u32>, usize) {
     match kind {
-        0 => (&mut groups.head, 7),
+        0 => (&mut groups.head, 8),
         1 => (&mut groups.corridors, 5),
         _ => (&mut groups.occupancies, 3),
     }

@@ -10,6 +10,10 @@ pub const ALPHABET: &[u8] = b"0123456789,\nSCO0123456789,\n,1 -+.\r\0xXWsco/:@\x
 /// What is inserted into a line, often before its line feed.
 const PIECES: [&str; 8] = [",", ",0", ",1", "S,", "O,", " ", "\r", "\0"];
 
+/// What is put in the place of a line's last field, or after it: no field, one at an end of a range, one with a zero
+/// too many.
+const LAST_FIELDS: [&str; 10] = ["", "", ",0", ",1", ",99", ",100", ",255", ",256", ",00", ",07"];
+
 /// What is done to the text of a sheet.
 #[derive(Clone, Copy, Debug, PartialEq, Eq)]
 pub enum TextDamage {
@@ -23,6 +27,7 @@ pub enum TextDamage {
     LetterChanged,
     PieceInserted,
     FieldRemoved,
+    LastFieldChanged,
     FinalFeedMissing,
     FeedAdded,
     Truncated,
@@ -30,7 +35,7 @@ pub enum TextDamage {
 }
 
 /// Every kind of damage to a text: first to numbers, then to the order of lines, then all that makes a line ill-formed.
-pub const TEXT_DAMAGES: [TextDamage; 20] = [
+pub const TEXT_DAMAGES: [TextDamage; 21] = [
     TextDamage::Number(NumberDamage::AtBoundary),
     TextDamage::Number(NumberDamage::Nudged),
     TextDamage::Number(NumberDamage::Copied),
@@ -47,6 +52,7 @@ pub const TEXT_DAMAGES: [TextDamage; 20] = [
     TextDamage::LetterChanged,
     TextDamage::PieceInserted,
     TextDamage::FieldRemoved,
+    TextDamage::LastFieldChanged,
     TextDamage::FinalFeedMissing,
     TextDamage::FeedAdded,
     TextDamage::Truncated,
@@ -55,7 +61,7 @@ pub const TEXT_DAMAGES: [TextDamage; 20] = [
 
 /// So many kinds are drawn from: to numbers alone, to well-formed lines alone, or all. The tests after 2, and the
 /// order among them, show only on well-formed lines.
-const KINDS: [usize; 4] = [3, 8, 20, 20];
+const KINDS: [usize; 4] = [3, 8, 21, 21];
 
 /// A text of up to 40 random bytes, often the empty one.
 pub fn random_bytes(random: &mut Random) -> Vec<u8> {
@@ -107,6 +113,7 @@ fn damage_line(text: &mut Vec<u8>, at: usize, damage: TextDamage, random: &mut R
             text.splice(at..at, random.pick(&PIECES).bytes());
         }
         TextDamage::FieldRemoved => remove_field(text, line, random),
+        TextDamage::LastFieldChanged => change_last_field(text, line, random),
         TextDamage::FinalFeedMissing => {
             text.pop();
         }
@@ -186,6 +193,14 @@ fn remove_field(text: &mut Vec<u8>, line: Range<usize>, random: &mut Random) {
     }
     let Range { start, end } = numbers[random.below(numbers.len())].clone();
     text.drain(start - usize::from(start > 0 && random.percent(60))..end);
+}
+
+/// Removes the last field of the line, adds one more after it or puts another in its place.
+fn change_last_field(text: &mut Vec<u8>, line: Range<usize>, random: &mut Random) {
+    let comma = text[line.clone()].iter().rposition(|&byte| byte == b',');
+    let start = comma.map_or(line.end - 1, |at| line.start + at);
+    let kept = if random.percent(30) { line.end - 1 } else { start };
+    text.splice(kept..line.end - 1, random.pick(&LAST_FIELDS).bytes());
 }
 
 /// Repeats a part of the text up to 10,240 bytes, one more or many more.
