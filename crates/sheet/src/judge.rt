@@ -11,7 +11,6 @@ ghost use Rattle.sheet.specs.Sheet.{beyond, outside, unpaired};
 ghost use Rattle.sheet.specs.Store.{kindCount};
 ghost use Rattle.sheet.specs.Inner.{limitAt, pairAt, lineAt, misplacedBy, lateBy, notAboveBy, RowFits, Kept, LacksIs, FaultIs};
 use crate::kinds::ALONE;
-use crate::kinds::COST;
 use crate::kinds::COUNT;
 use crate::kinds::DIFFERENT;
 use crate::kinds::KINDS;
@@ -19,7 +18,6 @@ use crate::kinds::O_LINE;
 use crate::kinds::PLACE;
 use crate::kinds::Row;
 use crate::kinds::S_LINE;
-use crate::kinds::STEP;
 use crate::kinds::row_of;
 
 // Test 3: no S line first, a second S, or a line after one of a later kind.
@@ -44,26 +42,20 @@ fn is_misplaced(lines: &[u32], kind: usize) -> bool
 }
 
 // Whether n is outside the limit, on a sheet of `places` places.
-fn is_beyond(places: u32, limit: u8, n: u32) -> bool
+fn is_beyond(places: u32, limit: u32, n: u32) -> bool
     ensures { λ r. ⌜ r ≡ beyond places (limitAt limit) n ⌝ }
 {
     if limit == PLACE {
         return places <= n;
     }
-    if limit == STEP {
-        return 255 < n;
-    }
-    if limit == COST {
-        return 60000 < n;
-    }
     if limit == COUNT {
-        return (n < 1) | (64 < n);
+        return (n < 1) | (COUNT < n);
     }
-    99 < n
+    limit < n
 }
 
 // Test 4: one of the first w numbers is outside its limit.
-fn is_outside(places: u32, limits: [u8; 8], w: usize, values: [u32; 8]) -> bool
+fn is_outside(places: u32, limits: [u32; 8], w: usize, values: [u32; 8]) -> bool
     requires { ⌜ w ≤ 8 ⌝ }
     ensures { λ r. ⌜ r ≡ outside places (map limitAt (take w limits)) (take w values) ⌝ }
 {

@@ -23,11 +23,14 @@ abbrev μ-loop : tie.MeasureT-loop
 loop-holds : tie.Need-loop-holds Inv-loop μ-loop
 loop-holds c = (omega arith, search needs, search needs, refl)
 
+mul-is-beyond : tie.Need-mul-is-beyond Inv-loop μ-loop
+mul-is-beyond c = omega arith
+
 array-read-is-beyond : tie.Need-array-read-is-beyond Inv-loop μ-loop
 array-read-is-beyond c = omega arith
 
-mul-is-beyond : tie.Need-mul-is-beyond Inv-loop μ-loop
-mul-is-beyond c = omega arith
+mul-is-beyond-2 : tie.Need-mul-is-beyond-2 Inv-loop μ-loop
+mul-is-beyond-2 c = omega arith
 
 array-read-is-beyond-2 : tie.Need-array-read-is-beyond-2 Inv-loop μ-loop
 array-read-is-beyond-2 c = omega arith
@@ -69,8 +72,9 @@ is-outside-spec =
     Inv-loop
     μ-loop
     loop-holds
-    array-read-is-beyond
     mul-is-beyond
+    array-read-is-beyond
+    mul-is-beyond-2
     array-read-is-beyond-2
     is-beyond-requires
     returns
