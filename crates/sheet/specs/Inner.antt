@@ -11,7 +11,7 @@ use Rattle.sheet.specs.Lists.{pick, number, any, rows, bind}
 use Rattle.sheet.specs.Computed.{lexb}
 use Rattle.sheet.specs.Bytes.{kindOf, comma, split}
 use Rattle.sheet.specs.Decimal.{digitsFrom, numberOf, mostDigits}
-use Rattle.sheet.specs.Kinds.{Limit, between, place, Pair, alone, different, ordered, Kind, width, kindS, kindO, kinds}
+use Rattle.sheet.specs.Kinds.{Limit, between, place, cost, Pair, alone, different, ordered, Kind, width, kindS, kindO, kinds}
 use Rattle.sheet.specs.Lines.{Line, line, lineOf}
 use Rattle.sheet.specs.Sheet.{Sheet, group, fault, lacking, Outcome, refused, loaded, judge}
 use Rattle.sheet.specs.Text.{lineText, sheetText}
@@ -25,10 +25,10 @@ use Rattle.sheet.specs.declared.lines.Field.{Field}
 use Rattle.sheet.specs.declared.lines.Parsed.{Parsed}
 use Rattle.sheet.specs.declared.reader.Verdict.{Verdict}
 
--- the limit that its highest number stands for, and the pair that the numbers in a row stand for
+-- the limit and the pair that the numbers in a row stand for
 abbrev pub limitAt : ℕ → Limit
 limitAt zero = place
-limitAt (suc n) = pick (eqb (suc n) 64) (between 1 64) (between 0 (suc n))
+limitAt (suc n) = pick (eqb (suc n) 60) cost (pick (eqb (suc n) 64) (between 1 64) (between 0 (suc n)))
 
 abbrev pub pairAt : ℕ → ℕ → ℕ → Pair
 pairAt zero i j = alone

@@ -11,6 +11,7 @@ ghost use Rattle.sheet.specs.Sheet.{beyond, outside, unpaired};
 ghost use Rattle.sheet.specs.Store.{kindCount};
 ghost use Rattle.sheet.specs.Inner.{limitAt, pairAt, lineAt, misplacedBy, lateBy, notAboveBy, RowFits, Kept, LacksIs, FaultIs};
 use crate::kinds::ALONE;
+use crate::kinds::COST;
 use crate::kinds::COUNT;
 use crate::kinds::DIFFERENT;
 use crate::kinds::KINDS;
@@ -42,20 +43,23 @@ fn is_misplaced(lines: &[u32], kind: usize) -> bool
 }
 
 // Whether n is outside the limit, on a sheet of `places` places.
-fn is_beyond(places: u32, limit: u32, n: u32) -> bool
+fn is_beyond(places: u32, limit: u8, n: u32) -> bool
     ensures { λ r. ⌜ r ≡ beyond places (limitAt limit) n ⌝ }
 {
     if limit == PLACE {
         return places <= n;
     }
-    if limit == COUNT {
-        return (n < 1) | (COUNT < n);
+    if limit == COST {
+        return 60000 < n;
     }
-    limit < n
+    if limit == COUNT {
+        return (n < 1) | (64 < n);
+    }
+    (limit as u32) < n
 }
 
 // Test 4: one of the first w numbers is outside its limit.
-fn is_outside(places: u32, limits: [u32; 8], w: usize, values: [u32; 8]) -> bool
+fn is_outside(places: u32, limits: [u8; 8], w: usize, values: [u32; 8]) -> bool
     requires { ⌜ w ≤ 8 ⌝ }
     ensures { λ r. ⌜ r ≡ outside places (map limitAt (take w limits)) (take w values) ⌝ }
 {

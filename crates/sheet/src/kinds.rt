@@ -37,16 +37,17 @@ pub const MOST_BYTES: usize = 10240;
 // The most digits of a number.
 pub const DIGITS: usize = 5;
 
-// The limits of numbers, each told by its highest: a place of the sheet by 0, the count of places by 64 and not below 1; the others begin at 0.
-pub const PLACE: u32 = 0;
+// The limits of numbers: a place of the sheet; a cost, 0 to 60,000; the count of places, 1 to 64; any other by its highest, from 0 on. They fit into a
+// byte each, so that a row's limits are one number and no constant of the archive.
+pub const PLACE: u8 = 0;
 
-pub const COUNT: u32 = 64;
+pub const COST: u8 = 60;
 
-pub const STEP: u32 = 255;
+pub const COUNT: u8 = 64;
 
-pub const COST: u32 = 60000;
+pub const UNLOAD: u8 = 99;
 
-pub const UNLOAD: u32 = 99;
+pub const STEP: u8 = 255;
 
 // What two numbers of a line must be: nothing; different; the first at most the second.
 pub const ALONE: u8 = 0;
@@ -60,7 +61,7 @@ pub const ORDERED: u8 = 2;
 pub struct Row {
     pub letter: u8,
     pub width: usize,
-    pub limits: [u32; 8],
+    pub limits: [u8; 8],
     pub most: u32,
     pub pair: u8,
     pub one: usize,

@@ -12,21 +12,24 @@ use Rattle.sheet.specs.Inner.{limitAt}
 use Rattle.sheet.proofs.judge.is_beyond.Statement.{statement}
 use Rattle.sheet.proofs.judge.is_beyond.Tie as tie
 
--- any other limit begins at 0
-from-zero : (n : ℕ) → n ≢ 0 → n ≢ 64 → limitAt n ≡ between 0 n
-from-zero zero a b = absurd (a refl)
-from-zero (suc n) a b = rw (ne-eqb (suc n) 64 b)
+-- any other limit is told by its highest
+by-highest : (n : ℕ) → n ≢ 0 → n ≢ 60 → n ≢ 64 → limitAt n ≡ between 0 n
+by-highest zero a b d = absurd (a refl)
+by-highest (suc n) a b d = rw (ne-eqb (suc n) 60 b, ne-eqb (suc n) 64 d)
 
 returns : tie.Need-returns
 returns c = rw (c .if1 .taken)
 
 returns-2 : tie.Need-returns-2
-returns-2 c = rw (c .if2 .taken)
+returns-2 c = rw (c .if2 .taken, le-ltb (c .before .before .args .n) 0 (omega arith))
 
 returns-3 : tie.Need-returns-3
-returns-3 c =
-    let s = c .before .before in
-    rw (from-zero (s .args .limit) (c .before .if1 .left) (c .if2 .left), le-ltb (s .args .n) 0 (omega arith))
+returns-3 c = rw (c .if3 .taken)
+
+returns-4 : tie.Need-returns-4
+returns-4 c =
+    let s = c .before .before .before in
+    rw (by-highest (s .args .limit) (c .before .before .if1 .left) (c .before .if2 .left) (c .if3 .left), le-ltb (s .args .n) 0 (omega arith))
 
 pub is-beyond-spec : {M : Type 1} → statement M
-is-beyond-spec = tie.close (tie.spec returns returns-2 returns-3)
+is-beyond-spec = tie.close (tie.spec returns returns-2 returns-3 returns-4)

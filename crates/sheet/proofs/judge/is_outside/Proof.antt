@@ -23,14 +23,11 @@ abbrev μ-loop : tie.MeasureT-loop
 loop-holds : tie.Need-loop-holds Inv-loop μ-loop
 loop-holds c = (omega arith, search needs, search needs, refl)
 
-mul-is-beyond : tie.Need-mul-is-beyond Inv-loop μ-loop
-mul-is-beyond c = omega arith
-
 array-read-is-beyond : tie.Need-array-read-is-beyond Inv-loop μ-loop
 array-read-is-beyond c = omega arith
 
-mul-is-beyond-2 : tie.Need-mul-is-beyond-2 Inv-loop μ-loop
-mul-is-beyond-2 c = omega arith
+mul-is-beyond : tie.Need-mul-is-beyond Inv-loop μ-loop
+mul-is-beyond c = omega arith
 
 array-read-is-beyond-2 : tie.Need-array-read-is-beyond-2 Inv-loop μ-loop
 array-read-is-beyond-2 c = omega arith
@@ -72,9 +69,8 @@ is-outside-spec =
     Inv-loop
     μ-loop
     loop-holds
-    mul-is-beyond
     array-read-is-beyond
-    mul-is-beyond-2
+    mul-is-beyond
     array-read-is-beyond-2
     is-beyond-requires
     returns
