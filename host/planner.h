@@ -131,7 +131,7 @@ PlannerSheetRead planner_read(const uint8_t *sheet, size_t sheet_len);
  * and 16 (the first line at fault, as counted in the sheet to be written); 12 (line 0). PLANNER_MOST_BYTES bytes are
  * always enough.
  * out: the bytes of the sheet, and past them kept. Refused: kept.
- * Stack: 8,564 bytes measured. */
+ * Stack: 8,624 bytes measured. */
 PlannerSheetWritten planner_write(const uint32_t *head, size_t head_len, const uint32_t *corridors,
                                   size_t corridors_len, const uint32_t *occupancies, size_t occupancies_len,
                                   uint8_t *out, size_t out_len);
@@ -145,7 +145,7 @@ PlannerSheetWritten planner_write(const uint32_t *head, size_t head_len, const u
  * its end. Refused with one of the sheet: kept. Refused with 8 or 9: zeros from its first element to its last.
  * list: a row for each front cost (c1, c2, c3, arrival step), ascending by c1, c2, c3, then zeros to its end. The
  * arrival step is the earliest at which a lawful journey with that cost arrives. Refused: kept.
- * Stack: 183,016 bytes measured. */
+ * Stack: 183,496 bytes measured. */
 PlannerFrontAnswer planner_front(const uint8_t *sheet, size_t sheet_len, uint32_t *arrivals, size_t arrivals_len,
                                  uint32_t *list, size_t list_len);
 
@@ -160,7 +160,7 @@ PlannerFrontAnswer planner_front(const uint8_t *sheet, size_t sheet_len, uint32_
  * arrivals: as planner_front leaves it. Refused with one of the sheet: kept. Refused with 8, 10 or 11: zeros from its
  * first element to its last.
  * path: a place for each step from 0 to the arrival step, then zeros to its end. Refused: kept.
- * Stack: 183,128 bytes measured. */
+ * Stack: 183,608 bytes measured. */
 PlannerJourneyAnswer planner_journey(const uint8_t *sheet, size_t sheet_len, uint32_t number, uint32_t *arrivals,
                                      size_t arrivals_len, uint32_t *path, size_t path_len);
 

@@ -12,7 +12,7 @@ use Rattle.sheet.specs.Lists.{pick, number}
 use Rattle.sheet.specs.Sheet.{Sheet}
 use Rattle.costs.specs.Laws.Figures.{Stored}
 use Rattle.intervals.specs.Computed.{stayb, sinceOf}
-use Rattle.intervals.specs.FirstSteps.{SinceTable, StayTable}
+use Rattle.intervals.specs.FirstSteps.{StayTable}
 use Rattle.intervals.specs.Inner.{entry, stayBy}
 use Rattle.intervals.specs.Laws.Runs.{stayb-true, stays-stayb, since-run}
 use Rattle.intervals.specs.Laws.Horizon.{bool-same}

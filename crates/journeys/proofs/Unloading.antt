@@ -1,8 +1,7 @@
 -- Which arrivals at the goal count, off the table of first steps: the S line stands at the front of the array.
-use mathlib.Core.Path.{_≡_, refl, sym, _∙_, ap}
-use mathlib.Core.Bool.{Bool}
+use mathlib.Core.Path.{_≡_, refl, _∙_}
 use mathlib.Core.List.{List}
-use Prim.Native.Nat.{ℕ, _<_}
+use Prim.Native.Nat.{ℕ}
 use native.Mathlib.Omega.{arith}
 use Rattle.sheet.specs.Lists.{number}
 use Rattle.sheet.specs.Sheet.{goal, steps, unload}
