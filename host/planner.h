@@ -142,7 +142,8 @@ PlannerSheetWritten planner_write(const uint32_t *head, size_t head_len, const u
  * Hands back: the count of front costs and the number of leading arrivals. An empty front is no refusal.
  * Refuses with: the refusals of the sheet, as planner_read; 8 (line 0); 9 (line 0).
  * arrivals: a row for each leading arrival (place, step, c1, c2, c3), ascending by step, place, cost, then zeros to
- * its end. Refused with one of the sheet: kept. Refused with 8 or 9: zeros from its first element to its last.
+ * its end; a row at the goal need not be an arrival that counts. Refused with one of the sheet: kept. Refused with 8 or
+ * 9: zeros from its first element to its last.
  * list: a row for each front cost (c1, c2, c3, arrival step), ascending by c1, c2, c3, then zeros to its end. The
  * arrival step is the earliest at which a lawful journey with that cost arrives. Refused: kept.
  * Stack: 183,496 bytes measured. */

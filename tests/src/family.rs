@@ -148,7 +148,7 @@ impl Unloading {
     /// A random time to unload for a sheet with so many steps.
     fn steps(self, steps: u32, random: &mut Random) -> u32 {
         match self {
-            Unloading::Any => random_unloading(steps, random),
+            Unloading::Any => any_unloading(steps, random),
             Unloading::Steps(of) => random.pick(of),
         }
     }
@@ -164,8 +164,8 @@ impl Costs {
     }
 }
 
-/// A time to unload: none in half of the cases, else mostly short, at times near the last step or past it.
-fn random_unloading(steps: u32, random: &mut Random) -> u32 {
+/// A time to unload as `Unloading::Any` has it, for a sheet with so many steps.
+fn any_unloading(steps: u32, random: &mut Random) -> u32 {
     let drawn = match random.below(20) {
         0..10 => 0,
         10..15 => 1,

@@ -2,8 +2,8 @@
 //!
 //! The places stand in layers, each crossed in one step from any place of the one before. The choice in a layer moves
 //! some of the cost from one figure to another, so that no journey's cost dominates another's. A place is occupied at
-//! all steps but one, so that there are no more ways than choices, and all can be listed; the goal is free afterwards
-//! too, for unloading.
+//! all steps but one, so that there is one way for each choice, and all can be listed; the goal is free afterwards too,
+//! for unloading, where a cart may wait.
 
 use crate::groups::Groups;
 use crate::random::Random;

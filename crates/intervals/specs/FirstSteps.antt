@@ -2,9 +2,8 @@
 use mathlib.Core.Path.{_≡_}
 use mathlib.Core.List.{List}
 use Prim.Native.Nat.{ℕ, _+_, _*_, _≤_, _<_, _%_}
-use lib.Dec.{eqb}
 use lib.ListN.{length}
-use Rattle.sheet.specs.Lists.{_∈_, number}
+use Rattle.sheet.specs.Lists.{_∈_, pick, number}
 use Rattle.sheet.specs.Kinds.{width, room, kindO}
 use Rattle.sheet.specs.Sheet.{Sheet, placeOf, last}
 use Rattle.sheet.specs.Calls.{groupRows}
@@ -30,10 +29,11 @@ pub record Stayable (since : List ℕ) (v last n : ℕ) : Type 0 where
   pub day : last ≤ 255
   pub short : n ≤ 255
 
--- r tells for each step by 1 that v is free from it to n steps after it, no later than `last`, on every sheet whose first steps the table holds
+-- r tells for each step by 1 that v is free from it to n steps after it, no later than `last`, and by 0 that it is not, on every sheet whose first
+-- steps the table holds
 pub record StayTable (since : List ℕ) (v last n : ℕ) (r : List ℕ) : Type 0 where
   pub of : (occupancies : List ℕ) → SinceTable occupancies since → (s : Sheet) → s .occupancies ≡ groupRows kindO occupancies
-      → (t : ℕ) → eqb (number r t) 1 ≡ stayb s v last n t
+      → (t : ℕ) → number r t ≡ pick (stayb s v last n t) 1 0
 
 -- a valid sheet stands in the array, and the table holds the first steps of its free runs
 pub record Derived (lines all since : List ℕ) : Type 0 where

@@ -1,9 +1,11 @@
 -- Which arrivals at the goal count, off the table of first steps: the S line stands at the front of the array.
-use mathlib.Core.Path.{_≡_, refl, _∙_}
+use mathlib.Core.Path.{_≡_, refl, _∙_, ap}
+use mathlib.Core.Bool.{Bool, true, false}
 use mathlib.Core.List.{List}
 use Prim.Native.Nat.{ℕ}
 use native.Mathlib.Omega.{arith}
-use Rattle.sheet.specs.Lists.{number}
+use lib.Dec.{eqb}
+use Rattle.sheet.specs.Lists.{pick, number}
 use Rattle.sheet.specs.Sheet.{goal, steps, unload}
 use Rattle.sheet.specs.Store.{sheetIn}
 use Rattle.sheet.specs.Laws.Store.{store-length, store-valid, head-number}
@@ -25,6 +27,10 @@ countable {lines} {all} {since} d =
       };
     }
 
+one-is : (b : Bool) → eqb (pick b 1 0) 1 ≡ b
+one-is true = refl
+one-is false = refl
+
 pub counting-in : {all since r : List ℕ} → StayTable since (number all 3) (number all 1) (number all 7) r → CountingIn all since r
 unfolding countsb
 counting-in {all} {since} {r} k = record { of = λ lines d. counting lines d }
@@ -35,7 +41,7 @@ counting-in {all} {since} {r} k = record { of = λ lines d. counting lines d }
         let g : number all 3 ≡ goal s = head-number (d .store) 3 (omega arith) in
         let l : number all 1 ≡ steps s = head-number (d .store) 1 (omega arith) in
         let u : number all 7 ≡ unload s = head-number (d .store) 7 (omega arith) in
-        record { of = λ t. k .of _ (d .firsts) s refl t ∙ same t g l u }
+        record { of = λ t. ap (λ (m : ℕ). eqb m 1) (k .of _ (d .firsts) s refl t) ∙ one-is (stayb s (number all 3) (number all 1) (number all 7) t) ∙ same t g l u }
       where
         same : (t : ℕ) {g g′ l l′ u u′ : ℕ} → g ≡ g′ → l ≡ l′ → u ≡ u′ → stayb (sheetIn lines all) g l u t ≡ stayb (sheetIn lines all) g′ l′ u′ t
         same t p q r = λ i. stayb (sheetIn lines all) (p i) (q i) (r i) t

@@ -24,7 +24,7 @@ pub mod Chain
 pub mod Sweep
 pub mod Slow
 
--- an arrival at the goal at step t counts, told by the number of the step
+-- an arrival at the goal at step t counts, told by an array with a number for each step: 1 where it does
 abbrev pub countsAt : List ℕ → ℕ → Bool
 countsAt counting t = eqb (number counting t) 1
 

@@ -38,8 +38,8 @@ fn refuse_front(number: u32, line: u32) -> FrontAnswer
     }
 }
 
-// The front off the first n rows of the table, the arrivals at place v that count: the front list filled; or 9. The front is counted before anything
-// is written into the list.
+// The front off those of the first n rows of the table that are arrivals at place v and count: the front list filled; or 9, and the table cleared. The
+// front is counted before anything is written into the list.
 fn offer_front(
     table: &mut [u32],
     n: usize,

@@ -18,8 +18,8 @@ pub fn counts_at(counting: &[u8], step: Step) -> bool
     counting[t] == 1
 }
 
-// For each step whether an arrival at the goal then counts, on the sheet in the array with the first steps of its free runs: the goal is free until the
-// cart has unloaded, no later than the last step.
+// For each step whether an arrival at the goal then counts, on the sheet in the array with the first steps of its free runs: the goal is free
+// from it to the step at which the cart has unloaded, which is no later than the last step.
 pub fn counting_of(all: &[u32], since: &[u16]) -> [u8; 256]
     requires { ⌜ Countable (now all) (now since) ⌝ }
     ensures { λ r. ⌜ CountingIn (now (all .entry)) (now (since .entry)) r ⌝ }

@@ -32,7 +32,7 @@ pub record Valid (s : Sheet) : Type 0 where
   pub most-steps : steps s ≤ 255
   pub start-place : start s < places s
   pub goal-place : goal s < places s
-  pub wait : (i : ℕ) → 4 ≤ i → number (s .head) i ≤ 60000
+  pub wait : (i : ℕ) → 4 ≤ i → i < 7 → number (s .head) i ≤ 60000
   pub most-unload : unload s ≤ 99
   pub corridors : (k : List ℕ) → k ∈ s .corridors → ValidCorridor s k
   pub most-corridors : length (s .corridors) ≤ kindC .most

@@ -1,5 +1,5 @@
 -- What the leading arrivals depend on: the start, the horizon, the waiting costs, the crossings, and which places are free at which steps within
--- the horizon. So the goal plays no part, and a step past T has no effect.
+-- the horizon. So neither the goal nor the time to unload there plays a part, and a step past T has no effect.
 use mathlib.Core.Path.{_≡_, refl, sym, _∙_, subst}
 use mathlib.Core.List.{List}
 use Prim.Native.Nat.{ℕ, suc, _-_, _≤_, _<_}
@@ -84,7 +84,7 @@ goal-alike s g u =
     record {
       starts = other 2 (λ e. omega arith) (omega arith);
       within = record { horizon = other 1 (λ e. omega arith) (omega arith); free = λ v t l. refl };
-      wait = λ v. (let a = wait 4 (omega arith) (omega arith) in let b = wait 5 (omega arith) (omega arith) in let c = wait 6 (omega arith) (omega arith) in cc);
+      wait = λ v. (let a = w 4 (omega arith) (omega arith) in let b = w 5 (omega arith) (omega arith) in let c = w 6 (omega arith) (omega arith) in cc);
       forth = same-crossing (withGoal s g u) s refl;
       back = same-crossing s (withGoal s g u) refl;
     }
@@ -92,10 +92,10 @@ goal-alike s g u =
     other : (i : ℕ) → (i ≡ 3 → ⊥) → i < 7 → number (set (set (s .head) 3 g) 7 u) i ≡ number (s .head) i
     other i n h = getD-set-other (set (s .head) 3 g) 7 i u 0 (λ e. omega arith) ∙ getD-set-other (s .head) 3 i g 0 n
 
-    wait : (i : ℕ) → 4 ≤ i → i < 7 → number (set (set (s .head) 3 g) 7 u) i ≡ number (s .head) i
-    wait i l h = other i (λ e. omega arith) h
+    w : (i : ℕ) → 4 ≤ i → i < 7 → number (set (set (s .head) 3 g) 7 u) i ≡ number (s .head) i
+    w i l h = other i (λ e. omega arith) h
 
--- the goal plays no part
+-- the goal and the time to unload play no part
 pub leading-any-goal : (s : Sheet) (g u : ℕ) → leading (withGoal s g u) ≡ leading s
 leading-any-goal s g u = leading-alike (withGoal s g u) s (goal-alike s g u)
 

@@ -3,7 +3,7 @@
 use mathlib.Core.Path.{_≡_, refl, sym, _∙_, ap}
 use mathlib.Core.Logic.{inl, inr}
 use mathlib.Core.List.{List, [], _∷_}
-use Prim.Native.Nat.{ℕ, zero, suc, _/_, _≤_, _<_}
+use Prim.Native.Nat.{ℕ, zero, suc, _/_, _+_, _≤_, _<_}
 use native.Mathlib.Omega.{arith}
 use lib.Dec.{eqb}
 use lib.ListN.{length, getD, take}
@@ -44,11 +44,11 @@ pub crossing-leaving : (s : Sheet) (u v t : ℕ) (c : Cost) (x : Crossing s u v 
 unfolding leaving
 crossing-leaving s u v t c x = mem-filter (λ (k : List ℕ). eqb (from k) u) (x .line) (s .corridors) (x .listed) (eq-eqb _ _ (x .leaves))
 
--- a figure of numbers that stand from position i on is one of them, or past the end
-from-within : (n i m : ℕ) (l : List ℕ) → ((j : ℕ) → i ≤ j → number l j ≤ m) → (j : ℕ) → fig (numbersFrom n i l) j ≤ m
+-- a figure of n numbers that stand from position i on is one of them, or past the end
+from-within : (n i m : ℕ) (l : List ℕ) → ((j : ℕ) → i ≤ j → j < i + n → number l j ≤ m) → (j : ℕ) → fig (numbersFrom n i l) j ≤ m
 from-within zero i m l h j = omega arith
-from-within (suc n) i m l h zero = h i (omega arith)
-from-within (suc n) i m l h (suc j) = from-within n (suc i) m l (λ k p. h k (omega arith)) j
+from-within (suc n) i m l h zero = h i (omega arith) (omega arith)
+from-within (suc n) i m l h (suc j) = from-within n (suc i) m l (λ k p q. h k (omega arith) (omega arith)) j
 
 -- no figure of a valid sheet is above 60,000
 pub wait-bounded : (s : Sheet) → Valid s → (v i : ℕ) → fig (waitOf s v) i ≤ 60000
@@ -57,7 +57,7 @@ wait-bounded s h v i = from-within figures 4 60000 (s .head) (h .wait) i
 
 pub crossing-bounded : (s : Sheet) → Valid s → (u v t : ℕ) (c : Cost) → Crossing s u v t c → (i : ℕ) → fig c i ≤ 60000
 unfolding costOf
-crossing-bounded s h u v t c x i = rw (x .price) (from-within figures 2 60000 (x .line) (h .corridors (x .line) (x .listed) .cost) i)
+crossing-bounded s h u v t c x i = rw (x .price) (from-within figures 2 60000 (x .line) (λ j p q. h .corridors (x .line) (x .listed) .cost j p) i)
 
 -- on a valid sheet at most one corridor has these ends, and it never leads to its own place
 ends-key : (k l : List ℕ) → length k ≡ 5 → length l ≡ 5 → from k ≡ from l → to k ≡ to l → take 2 k ≡ take 2 l

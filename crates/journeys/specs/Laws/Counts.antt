@@ -18,7 +18,7 @@ pub countsb-true : (s : Sheet) (t : ℕ) → countsb s t ≡ true → Counts s t
 unfolding countsb
 countsb-true s t h =
     let q = stayb-true s (goal s) (steps s) (unload s) t h in
-    record { in-time = q .0; stays = q .1 }
+    record { in-time = omega (arith, q .0); stays = λ i a b. q .1 i a (omega arith) }
 
 pub counts-countsb : (s : Sheet) (t : ℕ) → Counts s t → countsb s t ≡ true
 unfolding countsb

@@ -1,6 +1,6 @@
 -- The front and the leading arrivals at the goal: every front cost is the cost of a leading arrival at the goal that counts, its earliest arrival is
--- one of them, and the front is what none of their costs dominates. An arrival at the goal with a front cost is led by one of the same cost, since a
--- lower cost would dominate.
+-- one of them, and the front is what none of their costs dominates. An arrival at the goal that counts, with a front cost, is led by one of
+-- the same cost, since a lower cost would dominate; and that one counts too.
 use mathlib.Core.Path.{_≡_, refl, sym, _∙_, ap, subst}
 use mathlib.Core.Logic.{_⊎_, inl, inr}
 use mathlib.Core.Bool.{Bool, _&&_}
@@ -41,7 +41,7 @@ at-journey s t g a = record { A = t; way = a .arrives .way; ends = a .arrives .s
 pub at-has : (s : Sheet) (t : ℕ) (g : Cost) → AtGoal s t g → HasCost s g
 at-has s t g a = (a .arrives .path, at-journey s t g a)
 
--- an arrival at the goal with a front cost is reached from a leading one with the same cost, no later
+-- an arrival at the goal that counts, with a front cost, is reached from a leading one with the same cost that counts, no later
 pub front-leading : (s : Sheet) (t : ℕ) (g : Cost) → OnFront s g → AtGoal s t g → (t′ : ℕ) × (t′ ≤ t) × Leading s (arrival (goal s) t′ g) × Counts s t′
 front-leading s t g o a = go (led s (arrival (goal s) t g) (a .arrives))
   where
@@ -55,19 +55,19 @@ front-leading s t g o a = go (led s (arrival (goal s) t g) (a .arrives))
         let q : e .cost ≡ g = undominated-same (e .cost) g (has-three s (e .cost) h ∙ sym (has-three s g (o .has))) l (o .undominated (e .cost) h) in
         (e .step, x .no-later, subst (Leading s) (arrival-path e (arrival (goal s) (e .step) g) (x .same-place) refl q) (k .is), c)
 
-abbrev pub standsAtGoal : Sheet → Arrival → Bool
-standsAtGoal s a = let c = countsb s (a .step) in eqb (a .place) (goal s) && c
+abbrev pub countsAtGoal : Sheet → Arrival → Bool
+countsAtGoal s a = let c = countsb s (a .step) in eqb (a .place) (goal s) && c
 
--- the costs of the leading arrivals at the goal
+-- the costs of the leading arrivals at the goal that count
 unfoldable pub goalCosts : Sheet → List Cost
 unfolding leading countsb
-goalCosts s = map (λ a. a .cost) (filter (standsAtGoal s) (leading s))
+goalCosts s = map (λ a. a .cost) (filter (countsAtGoal s) (leading s))
 
 goalCosts-has : (s : Sheet) (g : Cost) → g ∈ goalCosts s → HasCost s g
 unfolding goalCosts
 goalCosts-has s g m =
-    let r = map-mem (λ (a : Arrival). a .cost) g (filter (standsAtGoal s) (leading s)) m in
-    let f = filter-mem (standsAtGoal s) (r .0) (leading s) (r .1) in
+    let r = map-mem (λ (a : Arrival). a .cost) g (filter (countsAtGoal s) (leading s)) m in
+    let f = filter-mem (countsAtGoal s) (r .0) (leading s) (r .1) in
     let l = leading-is s (r .0) (f .0) in
     let q = and-true (eqb (r .0 .place) (goal s)) (countsb s (r .0 .step)) (f .1) in
     at-has s (r .0 .step) g (record { arrives = subst (Arrives s) (arrival-path (r .0) (arrival (goal s) (r .0 .step) g) (eqb-true _ _ (q .0)) refl (sym (r .2))) (l .arrives); counts = countsb-true s (r .0 .step) (q .1) })
@@ -77,10 +77,10 @@ unfolding goalCosts
 on-goalCosts s g o =
     let j = o .has .1 in
     let k = front-leading s (j .A) g o (journey-at s (o .has .0) g j) in
-    mem-map (λ (a : Arrival). a .cost) (arrival (goal s) (k .0) g) (filter (standsAtGoal s) (leading s))
-    (mem-filter (standsAtGoal s) (arrival (goal s) (k .0) g) (leading s) (is-leading s (arrival (goal s) (k .0) g) (k .2)) (true-and (eqb (goal s) (goal s)) (countsb s (k .0)) (eq-eqb (goal s) (goal s) refl) (counts-countsb s (k .0) (k .3))))
+    mem-map (λ (a : Arrival). a .cost) (arrival (goal s) (k .0) g) (filter (countsAtGoal s) (leading s))
+    (mem-filter (countsAtGoal s) (arrival (goal s) (k .0) g) (leading s) (is-leading s (arrival (goal s) (k .0) g) (k .2)) (true-and (eqb (goal s) (goal s)) (countsb s (k .0)) (eq-eqb (goal s) (goal s) refl) (counts-countsb s (k .0) (k .3))))
 
--- the front is that of the leading arrivals at the goal
+-- the front is that of the leading arrivals at the goal that count
 pub front-by-leading : (s : Sheet) → front s ≡ frontOf (goalCosts s)
 front-by-leading s =
     ascending-unique self (front s) (frontOf (goalCosts s)) (front-ascending s) (frontOf-ascending (goalCosts s))
@@ -103,7 +103,7 @@ selected-earliest s g p q c j = go (c .first q j)
     go (inr (inl h)) = omega arith
     go (inr (inr h)) = omega arith
 
--- it is the earliest step at which an arrival at the goal has that cost, and a leading arrival has it then
+-- it is the earliest step at which an arrival at the goal with that cost counts, and a leading arrival has it then
 pub record Earliest (s : Sheet) (g : Cost) (t : ℕ) : Type 0 where
   pub there : AtGoal s t g
   pub none-sooner : (t′ : ℕ) → AtGoal s t′ g → t ≤ t′

@@ -32,7 +32,7 @@ use Rattle.journeys.specs.Inner.{isGoalRow, goalRows, costsOf, firstStep
 use Rattle.journeys.specs.Inner.Counting.{CountingOf}
 use Rattle.journeys.specs.Laws.Counts.{countsb-true, counts-countsb}
 use Rattle.journeys.specs.Laws.Front.{front-on}
-use Rattle.journeys.specs.Laws.Goal.{standsAtGoal, goalCosts, front-by-leading, Earliest, arrivalOf-earliest, arrivalOf-leading}
+use Rattle.journeys.specs.Laws.Goal.{countsAtGoal, goalCosts, front-by-leading, Earliest, arrivalOf-earliest, arrivalOf-leading}
 
 filter-alike : (p q : Arrival → Bool) → ((a : Arrival) → p a ≡ q a) → (l : List Arrival) → filter p l ≡ filter q l
 filter-alike p q e [] = refl
@@ -41,10 +41,10 @@ filter-alike p q e (a ∷ l) = rw (e a, filter-alike p q e l)
 -- the front of a sheet off its table
 module _ (s : Sheet) (n : ℕ) (xs counting : List ℕ) where
   -- the goal's rows are the leading arrivals at the goal that count
-  goal-leading : Holds s n xs → CountingOf s counting → goalRows (goal s) counting n xs ≡ filter (standsAtGoal s) (leading s)
+  goal-leading : Holds s n xs → CountingOf s counting → goalRows (goal s) counting n xs ≡ filter (countsAtGoal s) (leading s)
   goal-leading h c =
       ap (filter (isGoalRow (goal s) counting)) (h .rows-are)
-      ∙ filter-alike (isGoalRow (goal s) counting) (standsAtGoal s) (λ a. ap (λ (b : Bool). eqb (a .place) (goal s) && b) (c .of (a .step))) (leading s)
+      ∙ filter-alike (isGoalRow (goal s) counting) (countsAtGoal s) (λ a. ap (λ (b : Bool). eqb (a .place) (goal s) && b) (c .of (a .step))) (leading s)
 
   pub holds-front : Holds s n xs → CountingOf s counting → front s ≡ frontOf (costsOf (goalRows (goal s) counting n xs))
   unfolding goalCosts
@@ -80,7 +80,7 @@ pub holds-step : (s : Sheet) (n : ℕ) (xs counting : List ℕ) (g : Cost) → H
 holds-step s n xs counting g h c m = ap (firstStep g) (goal-leading s n xs counting h c) ∙ same
   where
     test : Arrival → Bool
-    test = standsAtGoal s
+    test = countsAtGoal s
 
     l : List Arrival
     l = filter test (leading s)

@@ -1,4 +1,5 @@
--- The sheets to try of document 01 that are marked with *, and sheet A with time to unload (document 02, E2): from the bytes on standard input to the bytes printed, one table, one theorem.
+-- The sheets to try of document 01 that are marked with *, and sheet A with time to unload (document 02, E2): from the bytes on standard input to the
+-- bytes printed, one table, one theorem.
 use mathlib.Core.Path.{_≡_, refl}
 use mathlib.Core.List.{List, [], _∷_, map}
 use Prim.Native.String.{String, _++_}

@@ -1,4 +1,5 @@
--- The boundary cases of document 01 and of document 02's E2 and E6 for sheets, computed: what each text reads as, and what calls of the writer hand back and leave.
+-- The boundary cases of document 01 and of document 02's E2 and E6 for sheets, computed: what each text reads as, and what calls of the writer hand
+-- back and leave.
 use mathlib.Core.Path.{_≡_, refl}
 use mathlib.Core.List.{List, [], _∷_, _++_, map}
 use Prim.Native.Nat.{ℕ, zero, suc, _+_}

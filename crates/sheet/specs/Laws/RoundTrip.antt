@@ -328,7 +328,7 @@ read-valid b s e =
 pub valid-read : (s : Sheet) → Valid s → readOf (sheetText s) ≡ loaded s
 valid-read s v = write-read-sheet s (valid-shaped s v) (valid-passes s v)
 
--- the most bytes of a valid sheet
+-- a valid sheet has at most 10,020 bytes
 pub valid-text : (s : Sheet) → Valid s → length (sheetText s) ≤ longest
 unfolding sheetText
 valid-text s v = text-longest (sheetLines s) (valid-shaped s v) (valid-passes s v) (omega arith)

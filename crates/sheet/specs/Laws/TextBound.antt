@@ -1,5 +1,5 @@
 -- The text of lines that pass is no longer than a sheet may be. A line's text is at most as long as its kind's description allows: a number
--- has at most as many digits as the highest within its limit. The most lines of each kind, each as long as that, are short enough (`text-room`).
+-- has at most as many digits as the highest within its limit. The most lines of each kind, each as long as that, are 10,020 bytes (`text-room`).
 use mathlib.Core.Path.{_≡_, refl, ap}
 use mathlib.Core.Logic.{inl}
 use mathlib.Core.Bool.{Bool, true, false}
@@ -92,7 +92,7 @@ runs-text p h (k ∷ ks) (g ∷ gs) r =
     let b = length-append (bind (map (line k) g) (lineText mostDigits)) (bind (linesFrom ks gs) (lineText mostDigits)) in
     omega (arith, a, b, run-text p h k g (r .0), runs-text p h ks gs (r .1), mul-le-mul-right (lineRoom k) (r .0 .few))
 
--- the most bytes of lines that pass
+-- no text of lines that pass has more bytes
 abbrev pub longest : ℕ
 longest = 10020
 
