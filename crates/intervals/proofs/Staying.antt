@@ -10,13 +10,12 @@ use lib.ListN.{List·getD-eq-default}
 use borrow.Author.Tests.{leb-true, le-leb, ltb-true, ltb-false}
 use Rattle.sheet.specs.Lists.{pick, number}
 use Rattle.sheet.specs.Sheet.{Sheet}
-use Rattle.sheet.specs.Laws.Order.{and-true, true-and}
+use Rattle.sheet.specs.Laws.Order.{bool-same, and-true, true-and}
 use Rattle.costs.specs.Laws.Figures.{Stored}
 use Rattle.intervals.specs.Computed.{stayb, sinceOf}
 use Rattle.intervals.specs.FirstSteps.{StayTable}
 use Rattle.intervals.specs.Inner.{entry, stayBy}
 use Rattle.intervals.specs.Laws.Runs.{stayb-true, stays-stayb, since-run}
-use Rattle.intervals.specs.Laws.Horizon.{bool-same}
 
 module _ (since : List ℕ) (v last n : ℕ) (low : v < 64) (day : last ≤ 255) where
   module _ (s : Sheet) (is : (t : ℕ) → t < 256 → entry since v t ≡ sinceOf s v t) where

@@ -19,7 +19,7 @@ use Rattle.costs.specs.Laws.Figures.{at-most-refl, at-most-Lex, dominates-irref
 use Rattle.sheet.specs.Laws.Decided.{lt-or-le}
 use Rattle.arrivals.specs.Rows.{costAt, rowAt}
 use Rattle.journeys.specs.Computed.{self, frontOf}
-use Rattle.journeys.specs.Inner.{countsAt, goalRows, costsOf, firstStep, NumberIs}
+use Rattle.journeys.specs.Inner.{countsAt, isGoalRow, goalRows, costsOf, firstStep, NumberIs}
 use Rattle.journeys.specs.Inner.Chain.{chain, Once, startOf, InTable, Releasable, Released, rank, Ordered, OrderedAll}
 use Rattle.journeys.specs.Inner.Sweep.{swept, third, stairOf, aheadOf, Sweeps, SweptTo, FrontRows, Begun, listRow}
 use Rattle.journeys.specs.Laws.Front.{frontOf-is, is-frontOf, frontOf-ascending}
@@ -59,8 +59,8 @@ front-rows v counting n base xs ks o =
         subst (λ (h : Cost). h ∈ frontOf l) (sym (w .2))
         (is-frontOf l (c k)
         (record {
-          member = at-cost v counting n base k (q .0) (q .1);
-          none = λ h m d. (let a = cost-at v counting n base h m in
+          member = at-cost (isGoalRow v counting) n base k (q .0) (q .1);
+          none = λ h m d. (let a = cost-at (isGoalRow v counting) n base h m in
               let e = subst (λ (x : Cost). Dominates x (c k)) (a .3) d in
               r .first (a .0) (o .all (a .0) (a .1) (a .2)) (lower (a .0) k e) (e .at-most));
         }))
@@ -68,16 +68,16 @@ front-rows v counting n base xs ks o =
     onto : (g : Cost) → g ∈ frontOf l → g ∈ map c fs
     onto g m =
         let u = frontOf-is l g m in
-        let a = cost-at v counting n base g (u .member) in
+        let a = cost-at (isGoalRow v counting) n base g (u .member) in
         subst (λ (h : Cost). h ∈ map c fs) (sym (a .3))
         (left-swept c (λ i j. refl) ks [] (a .0) (o .all (a .0) (a .1) (a .2)) refl
-        (λ j i d. let q = o .are j i in u .none (c j) (at-cost v counting n base j (q .0) (q .1)) (subst (Dominates (c j)) (sym (a .3)) d)))
+        (λ j i d. let q = o .are j i in u .none (c j) (at-cost (isGoalRow v counting) n base j (q .0) (q .1)) (subst (Dominates (c j)) (sym (a .3)) d)))
 
     steps : (k : ℕ) → Left c [] ks k → firstStep (c k) (goalRows v counting n base) ≡ rowAt base k .step
     steps k r =
         let q = o .are k (r .member) in
-        first-row v counting n base k (q .0) (q .1)
-        (λ m. let a = cost-at v counting k base (c k) m in
+        first-row (isGoalRow v counting) n base k (q .0) (q .1)
+        (λ m. let a = cost-at (isGoalRow v counting) k base (c k) m in
         r .first (a .0) (o .all (a .0) (omega (arith, a .1, q .0)) (a .2)) (rank-tie base (a .0) k (sym (a .3)) (a .1)) (subst (λ (g : Cost). AtMost (c (a .0)) g) (sym (a .3)) (at-most-refl (c (a .0)))))
 
 -- a sweep begins

@@ -32,8 +32,12 @@ countsAt counting t = eqb (number counting t) 1
 abbrev pub isGoalRow : ℕ → List ℕ → Arrival → Bool
 isGoalRow v counting a = eqb (a .place) v && countsAt counting (a .step)
 
+-- those of the first n rows of a table that pass a test
+abbrev pub rowsBy : (Arrival → Bool) → ℕ → List ℕ → List Arrival
+rowsBy test n xs = filter test (tableRows n xs)
+
 abbrev pub goalRows : ℕ → List ℕ → ℕ → List ℕ → List Arrival
-goalRows v counting n xs = filter (isGoalRow v counting) (tableRows n xs)
+goalRows v counting n xs = rowsBy (isGoalRow v counting) n xs
 
 abbrev pub costsOf : List Arrival → List Cost
 costsOf l = map (λ a. a .cost) l

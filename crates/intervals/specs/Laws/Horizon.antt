@@ -10,6 +10,7 @@ use lib.Dec.{leb}
 use borrow.Author.Tests.{leb-true, leb-false}
 use Rattle.sheet.specs.Lists.{pick, all}
 use Rattle.sheet.specs.Sheet.{Sheet, steps, placeOf, first, last}
+use Rattle.sheet.specs.Laws.Order.{bool-same}
 use Rattle.intervals.specs.Intervals.{occupiesb, freeb, Interval}
 use Rattle.intervals.specs.Laws.Free.{occupiesb-true, occupies-occupiesb}
 
@@ -51,11 +52,6 @@ cutOff T o = placeOf o ∷ first o ∷ pick (leb (last o) T) (last o) T ∷ []
 unfoldable pub withinHorizon : Sheet → Sheet
 withinHorizon s =
     record { head = s .head; corridors = s .corridors; occupancies = map (cutOff (steps s)) (s .occupancies) }
-
-pub bool-same : (a b : Bool) → (a ≡ true → b ≡ true) → (b ≡ true → a ≡ true) → a ≡ b
-bool-same true b f g = sym (f refl)
-bool-same false true f g = g refl
-bool-same false false f g = refl
 
 cut-same : (T v t : ℕ) (o : List ℕ) → t ≤ T → occupiesb v t o ≡ occupiesb v t (cutOff T o)
 cut-same T v t o h =

@@ -4,6 +4,7 @@ use mathlib.Core.List.{List}
 use Prim.Native.Nat.{ℕ, _≤_}
 use lib.ListN.{length}
 use Rattle.sheet.specs.Lists.{number}
+use Rattle.sheet.specs.Kinds.{width, kindS}
 use Rattle.sheet.specs.Sheet.{Sheet}
 use Rattle.sheet.specs.Store.{sheetIn}
 use Rattle.intervals.specs.FirstSteps.{Stayable, Derived}
@@ -12,7 +13,7 @@ use Rattle.journeys.specs.Inner.{countsAt}
 
 -- the numbers of an S line, at the front of the array, and a table of first steps
 pub record Countable (all since : List ℕ) : Type 0 where
-  pub head : 8 ≤ length all
+  pub head : width kindS ≤ length all
   pub goal : Stayable since (number all 3) (number all 1) (number all 7)
 
 -- the array tells which arrivals at the goal of s count

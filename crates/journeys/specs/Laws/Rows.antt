@@ -25,7 +25,7 @@ use Rattle.arrivals.specs.Computed.{arrival}
 use Rattle.arrivals.specs.Laws.Leading.{arrival-path}
 use Rattle.arrivals.specs.Rows.{costAt, rowAt}
 use Rattle.journeys.specs.Held.{rowOf, tableRows}
-use Rattle.journeys.specs.Inner.{isGoalRow, goalRows, costsOf, firstStep}
+use Rattle.journeys.specs.Inner.{rowsBy, costsOf, firstStep}
 
 -- of an ascending list, the member with the lower number stands before
 module _ {A : Type 0} (d : A) where
@@ -80,30 +80,31 @@ table-more k xs =
     ∙ map-snoc rowOf (rows 5 k xs) (row 5 xs k)
     ∙ ap (λ (a : Arrival). tableRows k xs ++ (a ∷ [])) (rowAt-is xs k)
 
-module _ (v : ℕ) (c : List ℕ) (xs : List ℕ) where
-  pub goal-more : (k : ℕ) → goalRows v c (k + 1) xs ≡ goalRows v c k xs ++ keep (isGoalRow v c (rowAt xs k)) (rowAt xs k) []
-  goal-more k = ap (filter (isGoalRow v c)) (table-more k xs) ∙ filter-snoc (isGoalRow v c) (tableRows k xs) (rowAt xs k)
+-- the rows of a table that pass a test, whatever it is
+module _ (test : Arrival → Bool) (xs : List ℕ) where
+  pub by-more : (k : ℕ) → rowsBy test (k + 1) xs ≡ rowsBy test k xs ++ keep (test (rowAt xs k)) (rowAt xs k) []
+  by-more k = ap (filter test) (table-more k xs) ∙ filter-snoc test (tableRows k xs) (rowAt xs k)
 
-  pub goal-kept : (k : ℕ) → isGoalRow v c (rowAt xs k) ≡ true → goalRows v c (k + 1) xs ≡ goalRows v c k xs ++ (rowAt xs k ∷ [])
-  goal-kept k e = goal-more k ∙ ap (λ (b : Bool). goalRows v c k xs ++ keep b (rowAt xs k) []) e
+  pub by-kept : (k : ℕ) → test (rowAt xs k) ≡ true → rowsBy test (k + 1) xs ≡ rowsBy test k xs ++ (rowAt xs k ∷ [])
+  by-kept k e = by-more k ∙ ap (λ (b : Bool). rowsBy test k xs ++ keep b (rowAt xs k) []) e
 
-  goal-later : (k : ℕ) (a : Arrival) → a ∈ goalRows v c k xs → a ∈ goalRows v c (k + 1) xs
-  goal-later k a m = subst (λ (l : List Arrival). a ∈ l) (sym (goal-more k)) (mem-left a (goalRows v c k xs) (keep (isGoalRow v c (rowAt xs k)) (rowAt xs k) []) m)
+  by-later : (k : ℕ) (a : Arrival) → a ∈ rowsBy test k xs → a ∈ rowsBy test (k + 1) xs
+  by-later k a m = subst (λ (l : List Arrival). a ∈ l) (sym (by-more k)) (mem-left a (rowsBy test k xs) (keep (test (rowAt xs k)) (rowAt xs k) []) m)
 
-  -- the rows are the goal rows
-  pub goal-row : (n k : ℕ) → k < n → isGoalRow v c (rowAt xs k) ≡ true → rowAt xs k ∈ goalRows v c n xs
-  goal-row zero k h e = absurd (omega arith)
-  goal-row (suc n) k h e = go (eqb k n) refl (goal-row n k)
+  -- each row that passes is one of them
+  pub by-row : (n k : ℕ) → k < n → test (rowAt xs k) ≡ true → rowAt xs k ∈ rowsBy test n xs
+  by-row zero k h e = absurd (omega arith)
+  by-row (suc n) k h e = go (eqb k n) refl (by-row n k)
     where
-      go : (b : Bool) → eqb k n ≡ b → (k < n → isGoalRow v c (rowAt xs k) ≡ true → rowAt xs k ∈ goalRows v c n xs) → rowAt xs k ∈ goalRows v c (suc n) xs
+      go : (b : Bool) → eqb k n ≡ b → (k < n → test (rowAt xs k) ≡ true → rowAt xs k ∈ rowsBy test n xs) → rowAt xs k ∈ rowsBy test (suc n) xs
       go true q f =
           let r : k ≡ n = eqb-true k n q in
-          let m : rowAt xs k ∈ goalRows v c (k + 1) xs = subst (λ (l : List Arrival). rowAt xs k ∈ l) (sym (goal-kept k e)) (mem-right (rowAt xs k) (goalRows v c k xs) (rowAt xs k ∷ []) (inl refl)) in
+          let m : rowAt xs k ∈ rowsBy test (k + 1) xs = subst (λ (l : List Arrival). rowAt xs k ∈ l) (sym (by-kept k e)) (mem-right (rowAt xs k) (rowsBy test k xs) (rowAt xs k ∷ []) (inl refl)) in
           let z : k + 1 ≡ suc n = omega arith in
-          subst (λ (i : ℕ). rowAt xs k ∈ goalRows v c i xs) z m
+          subst (λ (i : ℕ). rowAt xs k ∈ rowsBy test i xs) z m
       go false q f =
           let d : k ≢ n = eqb-false k n q in
-          subst (λ (i : ℕ). rowAt xs k ∈ goalRows v c i xs) (add-one n) (goal-later n (rowAt xs k) (f (omega arith) e))
+          subst (λ (i : ℕ). rowAt xs k ∈ rowsBy test i xs) (add-one n) (by-later n (rowAt xs k) (f (omega arith) e))
 
 -- each arrival of the table is a row, and each row is one of them
 pub table-at : (n : ℕ) (xs : List ℕ) (a : Arrival) → a ∈ tableRows n xs → (k : ℕ) × (k < n) × (a ≡ rowAt xs k)
@@ -115,20 +116,20 @@ table-at n xs a m =
 pub at-table : (n : ℕ) (xs : List ℕ) (k : ℕ) → k < n → rowAt xs k ∈ tableRows n xs
 at-table n xs k h = subst (λ (a : Arrival). a ∈ tableRows n xs) (rowAt-is xs k) (mem-map rowOf (row 5 xs k) (rows 5 n xs) (mem-rows 5 n xs k h))
 
-pub goal-at : (v : ℕ) (c : List ℕ) (n : ℕ) (xs : List ℕ) (a : Arrival) → a ∈ goalRows v c n xs → (k : ℕ) × (k < n) × (isGoalRow v c (rowAt xs k) ≡ true) × (a ≡ rowAt xs k)
-goal-at v c n xs a m =
-    let f = filter-mem (isGoalRow v c) a (tableRows n xs) m in
+pub by-at : (test : Arrival → Bool) (n : ℕ) (xs : List ℕ) (a : Arrival) → a ∈ rowsBy test n xs → (k : ℕ) × (k < n) × (test (rowAt xs k) ≡ true) × (a ≡ rowAt xs k)
+by-at test n xs a m =
+    let f = filter-mem test a (tableRows n xs) m in
     let q = table-at n xs a (f .0) in
-    (q .0, q .1, ap (isGoalRow v c) (sym (q .2)) ∙ f .1, q .2)
+    (q .0, q .1, ap test (sym (q .2)) ∙ f .1, q .2)
 
-pub cost-at : (v : ℕ) (c : List ℕ) (n : ℕ) (xs : List ℕ) (g : Cost) → g ∈ costsOf (goalRows v c n xs) → (k : ℕ) × (k < n) × (isGoalRow v c (rowAt xs k) ≡ true) × (g ≡ costAt xs k)
-cost-at v c n xs g m =
-    let r = map-mem (λ (a : Arrival). a .cost) g (goalRows v c n xs) m in
-    let q = goal-at v c n xs (r .0) (r .1) in
+pub cost-at : (test : Arrival → Bool) (n : ℕ) (xs : List ℕ) (g : Cost) → g ∈ costsOf (rowsBy test n xs) → (k : ℕ) × (k < n) × (test (rowAt xs k) ≡ true) × (g ≡ costAt xs k)
+cost-at test n xs g m =
+    let r = map-mem (λ (a : Arrival). a .cost) g (rowsBy test n xs) m in
+    let q = by-at test n xs (r .0) (r .1) in
     (q .0, q .1, q .2, r .2 ∙ ap (λ (a : Arrival). a .cost) (q .3))
 
-pub at-cost : (v : ℕ) (c : List ℕ) (n : ℕ) (xs : List ℕ) (k : ℕ) → k < n → isGoalRow v c (rowAt xs k) ≡ true → costAt xs k ∈ costsOf (goalRows v c n xs)
-at-cost v c n xs k h e = mem-map (λ (a : Arrival). a .cost) (rowAt xs k) (goalRows v c n xs) (goal-row v c xs n k h e)
+pub at-cost : (test : Arrival → Bool) (n : ℕ) (xs : List ℕ) (k : ℕ) → k < n → test (rowAt xs k) ≡ true → costAt xs k ∈ costsOf (rowsBy test n xs)
+at-cost test n xs k h e = mem-map (λ (a : Arrival). a .cost) (rowAt xs k) (rowsBy test n xs) (by-row test xs n k h e)
 
 -- the step of the first arrival with a cost, in a list that is gone through
 first-left : (g : Cost) (p : List Arrival) (a : Arrival) → g ∈ costsOf p → firstStep g (p ++ (a ∷ [])) ≡ firstStep g p
@@ -148,25 +149,25 @@ first-right (x ∷ p) a n = go (sameb (x .cost) (a .cost)) refl (first-right p a
     go true e f = absurd (n (inl (sym (sameb-true (x .cost) (a .cost) e))))
     go false e f = f (λ m. n (inr m))
 
--- the step of the first arrival with the cost of row k is row k's, where no goal row before it has that cost
-pub first-row : (v : ℕ) (c : List ℕ) (n : ℕ) (xs : List ℕ) (k : ℕ) → k < n → isGoalRow v c (rowAt xs k) ≡ true → (costAt xs k ∈ costsOf (goalRows v c k xs) → ⊥)
-    → firstStep (costAt xs k) (goalRows v c n xs) ≡ rowAt xs k .step
-first-row v c zero xs k h e f = absurd (omega arith)
-first-row v c (suc n) xs k h e f = go (eqb k n) refl (first-row v c n xs k)
+-- the step of the first arrival with the cost of row k is row k's, where no row that passes before it has that cost
+pub first-row : (test : Arrival → Bool) (n : ℕ) (xs : List ℕ) (k : ℕ) → k < n → test (rowAt xs k) ≡ true → (costAt xs k ∈ costsOf (rowsBy test k xs) → ⊥)
+    → firstStep (costAt xs k) (rowsBy test n xs) ≡ rowAt xs k .step
+first-row test zero xs k h e f = absurd (omega arith)
+first-row test (suc n) xs k h e f = go (eqb k n) refl (first-row test n xs k)
   where
     g : Cost
     g = costAt xs k
 
-    more : (b : Bool) → firstStep g (goalRows v c n xs) ≡ rowAt xs k .step → g ∈ costsOf (goalRows v c n xs) → firstStep g (goalRows v c n xs ++ keep b (rowAt xs n) []) ≡ rowAt xs k .step
-    more true q m = first-left g (goalRows v c n xs) (rowAt xs n) m ∙ q
-    more false q m = ap (firstStep g) (append-nil (goalRows v c n xs)) ∙ q
+    more : (b : Bool) → firstStep g (rowsBy test n xs) ≡ rowAt xs k .step → g ∈ costsOf (rowsBy test n xs) → firstStep g (rowsBy test n xs ++ keep b (rowAt xs n) []) ≡ rowAt xs k .step
+    more true q m = first-left g (rowsBy test n xs) (rowAt xs n) m ∙ q
+    more false q m = ap (firstStep g) (append-nil (rowsBy test n xs)) ∙ q
 
-    go : (b : Bool) → eqb k n ≡ b → (k < n → isGoalRow v c (rowAt xs k) ≡ true → (g ∈ costsOf (goalRows v c k xs) → ⊥) → firstStep g (goalRows v c n xs) ≡ rowAt xs k .step)
-        → firstStep g (goalRows v c (suc n) xs) ≡ rowAt xs k .step
+    go : (b : Bool) → eqb k n ≡ b → (k < n → test (rowAt xs k) ≡ true → (g ∈ costsOf (rowsBy test k xs) → ⊥) → firstStep g (rowsBy test n xs) ≡ rowAt xs k .step)
+        → firstStep g (rowsBy test (suc n) xs) ≡ rowAt xs k .step
     go true q r =
         let z : suc n ≡ k + 1 = omega (arith, eqb-true k n q) in
-        ap (λ (i : ℕ). firstStep g (goalRows v c i xs)) z ∙ ap (firstStep g) (goal-kept v c xs k e) ∙ first-right (goalRows v c k xs) (rowAt xs k) f
+        ap (λ (i : ℕ). firstStep g (rowsBy test i xs)) z ∙ ap (firstStep g) (by-kept test xs k e) ∙ first-right (rowsBy test k xs) (rowAt xs k) f
     go false q r =
         let d : k ≢ n = eqb-false k n q in
         let l : k < n = omega arith in
-        ap (λ (i : ℕ). firstStep g (goalRows v c i xs)) (sym (add-one n)) ∙ ap (firstStep g) (goal-more v c xs n) ∙ more (isGoalRow v c (rowAt xs n)) (r l e f) (at-cost v c n xs k l e)
+        ap (λ (i : ℕ). firstStep g (rowsBy test i xs)) (sym (add-one n)) ∙ ap (firstStep g) (by-more test xs n) ∙ more (test (rowAt xs n)) (r l e f) (at-cost test n xs k l e)
