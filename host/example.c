@@ -20,18 +20,19 @@ static uint32_t path[PLANNER_MOST_PATH];
 /* The refusals in words, by their numbers, as refusals.txt has them. */
 static const char *const meanings[] = {
     [PLANNER_SERVED] = "served",
-    [PLANNER_TOO_LONG] = "the sheet has more than 10,240 bytes",
+    [PLANNER_TOO_LONG] = "the sheet has more than 16,384 bytes",
     [PLANNER_MALFORMED] = "the line is malformed: its letter, its count of fields, a number or its line feed",
-    [PLANNER_OUT_OF_ORDER] = "the line is out of order: S comes first and once, then C, then O",
+    [PLANNER_OUT_OF_ORDER] = "the line is out of order: S comes first and once, then C, then X, then O",
     [PLANNER_OUT_OF_RANGE] = "a number is outside its range",
     [PLANNER_NOT_ASCENDING] = "the line is not above the line before",
-    [PLANNER_REVERSED] = "a corridor leads from a place to itself, or an occupancy ends before it begins",
+    [PLANNER_REVERSED] = "a corridor or a closure leads from a place to itself, or an occupancy ends before it begins",
     [PLANNER_TOO_MANY_LINES] = "the sheet has more than 256 lines of this kind",
     [PLANNER_ROOM_ARRIVALS] = "there are more leading arrivals than room",
     [PLANNER_ROOM_COSTS] = "there are more front costs than room",
     [PLANNER_NOT_ON_FRONT] = "no journey on the front has this number",
     [PLANNER_ROOM_PATH] = "the path buffer is shorter than the journey",
     [PLANNER_ROOM_SHEET] = "the buffer is shorter than the sheet",
+    [PLANNER_NO_CORRIDOR] = "the closure names no corridor of the sheet",
     [PLANNER_LATE] = "the occupancy begins after the last step",
 };
 

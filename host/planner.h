@@ -1,15 +1,19 @@
 /* The planner's calls for a host in C or C++, in target/staticlib/libplanner.a (made by `rt staticlib planner`).
  *
  * The sheet, the front, the tie rule and the refusals are those of document 01, "The corridor sheet and the journeys
- * it offers", with what document 02 changed (E2: the time to unload; E4: the kinds of bytes; E6: PLANNER_LATE; E9: the
- * tie rule); their open points are decided in docs/DECISIONS.md. What each call hands back and leaves in every lent
- * buffer is proved of the calls in crates/planner/src/lib.rt. That this header declares those calls is not proved;
- * tests/host runs each of them through it.
+ * it offers", with what document 02 changed (E2: the time to unload; E4: the kinds of bytes; E5: the closures; E6:
+ * PLANNER_LATE; E9: the tie rule); their open points are decided in docs/DECISIONS.md. What each call hands back and
+ * leaves in every lent buffer is proved of the calls in crates/planner/src/lib.rt. That this header declares those
+ * calls is not proved; tests/host runs each of them through it.
  *
  * The S line is `S,places,steps,start,goal,w1,w2,w3,u`: the count of places, the last step, where a journey starts and
  * ends, the cost of waiting one step, and the steps that unloading takes, 0 to 99. An arrival at the goal at step A
  * counts only if the goal is free at each step from A to A + u, and A + u is at most the last step. A journey is lawful
  * only if its arrival counts; the arrival step handed back is A.
+ *
+ * A closure, `X,from,to,step`, between the C and the O lines, closes the corridor from the one place to the other to a
+ * cart that would depart by it at that step, 0 to 255; one past the last step has no effect. The other direction is not
+ * closed by it: for a bed that is moved towards the cart the sheet names the cart's direction.
  *
  * Holds for every call:
  * - An array is passed as a pointer and a length, the count of its elements. A pointer is never null, not even where
@@ -36,32 +40,34 @@
 extern "C" {
 #endif
 
-#define PLANNER_MOST_BYTES 10240    /* of a sheet that is read; every sheet that can be written fits too */
-#define PLANNER_MOST_LINES 256      /* of corridors, and of occupancies */
+#define PLANNER_MOST_BYTES 16384    /* of a sheet that is read; every sheet that can be written fits too */
+#define PLANNER_MOST_LINES 256      /* of corridors, of closures, and of occupancies */
 #define PLANNER_MOST_PATH 256       /* places of a journey: steps 0 to 255 */
 #define PLANNER_MOST_TABLE 41943039 /* numbers of an arrivals table; past them the search is hundreds of times slower */
 #define PLANNER_MOST_STACK 200000   /* bytes of stack of any call */
 #define PLANNER_FIGURES 3           /* of a cost: charge, noise, doors */
 #define PLANNER_HEAD_WIDTH 8        /* places, steps, start, goal, w1, w2, w3, u */
 #define PLANNER_CORRIDOR_WIDTH 5    /* from, to, c1, c2, c3 */
+#define PLANNER_CLOSURE_WIDTH 3     /* from, to, step */
 #define PLANNER_OCCUPANCY_WIDTH 3   /* place, first, last */
 #define PLANNER_ARRIVAL_WIDTH 5     /* a row of the arrivals table: place, step, c1, c2, c3 */
 #define PLANNER_COST_WIDTH 4        /* a row of the front list: c1, c2, c3, arrival step */
 
-/* The refusals of the sheet, 1 to 7 and 16, and those of the host, 8 to 12. PLANNER_TOO_LONG comes first; then the
- * first faulty line is named, tested in the order 2, 3, 7, 4, 6, 16, 5; then 8 and 9, or 8, 10 and 11 for a journey.
- * The writer: 2, then 7, 4, 6, 16, 5 line by line, then 12. */
+/* The refusals of the sheet, 1 to 7, 15 and 16, and those of the host, 8 to 12. PLANNER_TOO_LONG comes first; then the
+ * first faulty line is named, tested in the order 2, 3, 7, 4, 6, 15, 16, 5; then 8 and 9, or 8, 10 and 11 for a
+ * journey. The writer: 2, then 7, 4, 6, 15, 16, 5 line by line, then 12. */
 enum PlannerRefusal {
     PLANNER_SERVED = 0,           /* no refusal */
     /* of the sheet: caused by its writer */
     PLANNER_TOO_LONG = 1,         /* more than PLANNER_MOST_BYTES bytes; line 0 */
-    PLANNER_MALFORMED = 2,        /* a first field other than S, C, O; a wrong count of fields; a bad number; an empty
-                                     line; a line feed missing */
-    PLANNER_OUT_OF_ORDER = 3,     /* no S line first, a second S, or C after O; empty input, at line 1 */
+    PLANNER_MALFORMED = 2,        /* a first field other than S, C, X, O; a wrong count of fields; a bad number; an
+                                     empty line; a line feed missing */
+    PLANNER_OUT_OF_ORDER = 3,     /* no S line first, a second S, C after X or O, or X after O; empty input, at
+                                     line 1 */
     PLANNER_OUT_OF_RANGE = 4,     /* a number outside its range */
-    PLANNER_NOT_ASCENDING = 5,    /* a C or O line not above the one before */
-    PLANNER_REVERSED = 6,         /* a corridor from a place to itself, or last below first */
-    PLANNER_TOO_MANY_LINES = 7,   /* a 257th C or O line */
+    PLANNER_NOT_ASCENDING = 5,    /* a C, X or O line not above the one of its kind before */
+    PLANNER_REVERSED = 6,         /* a corridor or a closure from a place to itself, or last below first */
+    PLANNER_TOO_MANY_LINES = 7,   /* a 257th C, X or O line */
     /* of the host; line 0 */
     PLANNER_ROOM_ARRIVALS = 8,    /* more leading arrivals than room in the arrivals table */
     PLANNER_ROOM_COSTS = 9,       /* more front costs than room in the front list */
@@ -69,6 +75,7 @@ enum PlannerRefusal {
     PLANNER_ROOM_PATH = 11,       /* a path buffer shorter than the arrival step + 1 */
     PLANNER_ROOM_SHEET = 12,      /* a buffer shorter than the sheet to be written */
     /* of the sheet */
+    PLANNER_NO_CORRIDOR = 15,     /* a closure that names no corridor of the sheet, by both its ends */
     PLANNER_LATE = 16             /* an occupancy that begins after the last step; to end after it is no fault */
 };
 
@@ -81,13 +88,14 @@ enum PlannerKind {
     PLANNER_KIND_OTHER = 4       /* every other byte */
 };
 
-/* What planner_read hands back: the sheet as three groups of numbers, zeros past the last line of each. */
+/* What planner_read hands back: the sheet as four groups of numbers, zeros past the last line of each. */
 typedef struct {
     uint32_t refusal;
     uint32_t line;
-    uint32_t lines[3];                                                   /* count of S lines (1), C lines, O lines */
+    uint32_t lines[4];                                                   /* count of S (1), C, X and O lines */
     uint32_t head[PLANNER_HEAD_WIDTH];                                   /* the S line */
     uint32_t corridors[PLANNER_MOST_LINES * PLANNER_CORRIDOR_WIDTH];     /* the C lines, one after the other */
+    uint32_t closures[PLANNER_MOST_LINES * PLANNER_CLOSURE_WIDTH];       /* the X lines, one after the other */
     uint32_t occupancies[PLANNER_MOST_LINES * PLANNER_OCCUPANCY_WIDTH];  /* the O lines, one after the other */
 } PlannerSheetRead;
 
@@ -116,25 +124,25 @@ typedef struct {
 
 /* Reads a sheet.
  *
- * Hands back: the three groups by value, which planner_write turns back into the same bytes.
+ * Hands back: the four groups by value, which planner_write turns back into the same bytes.
  * Refuses with: the refusals of the sheet, 1 at line 0, the others at the first line at fault.
  * Lent to be written: nothing.
- * Stack: 27,896 bytes measured. */
+ * Stack: 37,112 bytes measured. */
 PlannerSheetRead planner_read(const uint8_t *sheet, size_t sheet_len);
 
-/* Writes the sheet of three groups: the S line's eight numbers, five for each corridor, three for each occupancy. The
- * lengths are counts of numbers, of a read sheet: PLANNER_HEAD_WIDTH, lines[1] * PLANNER_CORRIDOR_WIDTH and
- * lines[2] * PLANNER_OCCUPANCY_WIDTH.
+/* Writes the sheet of four groups: the S line's eight numbers, five for each corridor, three for each closure, three
+ * for each occupancy. The lengths are counts of numbers, of a read sheet: PLANNER_HEAD_WIDTH,
+ * lines[1] * PLANNER_CORRIDOR_WIDTH, lines[2] * PLANNER_CLOSURE_WIDTH and lines[3] * PLANNER_OCCUPANCY_WIDTH.
  *
  * Hands back: the count of bytes written; planner_read turns them back into the same groups.
- * Refuses with: 2 (line 0: head_len is not 8, corridors_len no multiple of 5 or occupancies_len none of 3); 4 to 7
- * and 16 (the first line at fault, as counted in the sheet to be written); 12 (line 0). PLANNER_MOST_BYTES bytes are
- * always enough.
+ * Refuses with: 2 (line 0: head_len is not 8, corridors_len no multiple of 5, closures_len or occupancies_len none of
+ * 3); 4 to 7, 15 and 16 (the first line at fault, as counted in the sheet to be written); 12 (line 0).
+ * PLANNER_MOST_BYTES bytes are always enough.
  * out: the bytes of the sheet, and past them kept. Refused: kept.
- * Stack: 8,624 bytes measured. */
+ * Stack: 11,688 bytes measured. */
 PlannerSheetWritten planner_write(const uint32_t *head, size_t head_len, const uint32_t *corridors,
-                                  size_t corridors_len, const uint32_t *occupancies, size_t occupancies_len,
-                                  uint8_t *out, size_t out_len);
+                                  size_t corridors_len, const uint32_t *closures, size_t closures_len,
+                                  const uint32_t *occupancies, size_t occupancies_len, uint8_t *out, size_t out_len);
 
 /* Works out the front of a sheet: every cost of a lawful journey that no lawful journey's cost dominates, each once.
  * Room for arrivals is arrivals_len / PLANNER_ARRIVAL_WIDTH, for costs list_len / PLANNER_COST_WIDTH, rounded down.
@@ -146,7 +154,7 @@ PlannerSheetWritten planner_write(const uint32_t *head, size_t head_len, const u
  * 9: zeros from its first element to its last.
  * list: a row for each front cost (c1, c2, c3, arrival step), ascending by c1, c2, c3, then zeros to its end. The
  * arrival step is the earliest at which a lawful journey with that cost arrives. Refused: kept.
- * Stack: 183,496 bytes measured. */
+ * Stack: 191,688 bytes measured. */
 PlannerFrontAnswer planner_front(const uint8_t *sheet, size_t sheet_len, uint32_t *arrivals, size_t arrivals_len,
                                  uint32_t *list, size_t list_len);
 
@@ -161,7 +169,7 @@ PlannerFrontAnswer planner_front(const uint8_t *sheet, size_t sheet_len, uint32_
  * arrivals: as planner_front leaves it. Refused with one of the sheet: kept. Refused with 8, 10 or 11: zeros from its
  * first element to its last.
  * path: a place for each step from 0 to the arrival step, then zeros to its end. Refused: kept.
- * Stack: 183,608 bytes measured. */
+ * Stack: 191,832 bytes measured. */
 PlannerJourneyAnswer planner_journey(const uint8_t *sheet, size_t sheet_len, uint32_t number, uint32_t *arrivals,
                                      size_t arrivals_len, uint32_t *path, size_t path_len);
 

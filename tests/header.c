@@ -7,13 +7,14 @@
 #define AT(type, field, offset) _Static_assert(offsetof(type, field) == (offset), #type "." #field)
 #define SIZE(type, size, align) _Static_assert(sizeof(type) == (size) && _Alignof(type) == (align), #type)
 
-SIZE(PlannerSheetRead, 8244, 4);
+SIZE(PlannerSheetRead, 11320, 4);
 AT(PlannerSheetRead, refusal, 0);
 AT(PlannerSheetRead, line, 4);
 AT(PlannerSheetRead, lines, 8);
-AT(PlannerSheetRead, head, 20);
-AT(PlannerSheetRead, corridors, 52);
-AT(PlannerSheetRead, occupancies, 5172);
+AT(PlannerSheetRead, head, 24);
+AT(PlannerSheetRead, corridors, 56);
+AT(PlannerSheetRead, closures, 5176);
+AT(PlannerSheetRead, occupancies, 8248);
 
 SIZE(PlannerSheetWritten, 12, 4);
 AT(PlannerSheetWritten, refusal, 0);
@@ -39,8 +40,9 @@ int main(void)
     size_t len = fread(text, 1, sizeof text, stdin);
     PlannerSheetRead read = planner_read(text, len);
     PlannerSheetWritten written = planner_write(
-        read.head, PLANNER_HEAD_WIDTH, read.corridors, read.lines[1] * PLANNER_CORRIDOR_WIDTH, read.occupancies,
-        read.lines[2] * PLANNER_OCCUPANCY_WIDTH, copy, sizeof copy);
+        read.head, PLANNER_HEAD_WIDTH, read.corridors, read.lines[1] * PLANNER_CORRIDOR_WIDTH, read.closures,
+        read.lines[2] * PLANNER_CLOSURE_WIDTH, read.occupancies, read.lines[3] * PLANNER_OCCUPANCY_WIDTH, copy,
+        sizeof copy);
     if (planner_kind(',') != PLANNER_KIND_COMMA || planner_kind('Z' + 1) != PLANNER_KIND_OTHER)
         return 1;
     if (read.refusal != PLANNER_SERVED || written.refusal != PLANNER_SERVED || read.lines[0] != 1)

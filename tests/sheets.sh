@@ -6,11 +6,12 @@ sheet_a() {
     printf '%s\n' S,4,6,0,3,1,0,0,0 C,0,1,1,0,4 C,0,2,1,3,0 C,1,3,1,0,4 C,2,3,1,3,0 O,1,1,2
 }
 
-# The longest sheet that is read, 10,020 bytes; nothing leads away from its start.
+# The longest sheet that is read, 13,092 bytes; nothing leads away from its start.
 longest() {
     awk 'BEGIN {
         print "S,64,255,63,62,60000,59999,12345,99"
         for (n = 0; n < 256; n++) print "C," 10 + int(n / 32) "," 20 + n % 32 ",60000," 10000 + 7 * n ",54321"
+        for (n = 0; n < 256; n++) print "X," 10 + int(n / 32) "," 20 + n % 32 "," 100 + n % 156
         for (n = 0; n < 256; n++) print "O," 10 + int(n / 8) "," 100 + n % 8 "," 255 - n % 8
     }'
 }
@@ -18,7 +19,7 @@ longest() {
 # The longest sheet with line feeds up to so many bytes.
 padded() {
     longest
-    awk -v more=$(($1 - 10020)) 'BEGIN { while (more-- > 0) print "" }'
+    awk -v more=$(($1 - 13092)) 'BEGIN { while (more-- > 0) print "" }'
 }
 
 # A sheet with 257 O lines.
@@ -74,9 +75,9 @@ many_arrivals() {
 in_pieces() {
     head -c 3 "$1"
     sleep 0.05
-    head -c 10240 "$1" | tail -c +4
+    head -c 16384 "$1" | tail -c +4
     sleep 0.05
-    tail -c +10241 "$1"
+    tail -c +16385 "$1"
 }
 
 # A file's bytes, each written by itself.

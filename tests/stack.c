@@ -17,7 +17,7 @@ static uint32_t arrivals[ARRIVALS], list[COSTS];
 static PlannerSheetRead answer;
 static uint32_t refusal;
 
-/* The sheet: a grid of 8 by 8 places, each occupied for three steps, and 255 steps. */
+/* The sheet: a grid of 8 by 8 places, each occupied for three steps, a closure of each corridor to the right, and 255 steps. */
 static void write_sheet(void)
 {
     char *at = (char *)sheet;
@@ -26,6 +26,8 @@ static void write_sheet(void)
         if (v % 8 < 7) at += sprintf(at, "C,%d,%d,%d,1,0\n", v, v + 1, 1 + v % 3);
         if (v < 56) at += sprintf(at, "C,%d,%d,1,%d,1\n", v, v + 8, v % 4);
     }
+    for (int v = 0; v < 64; v++)
+        if (v % 8 < 7) at += sprintf(at, "X,%d,%d,%d\n", v, v + 1, 4 + v);
     for (int v = 0; v < 64; v++) at += sprintf(at, "O,%d,%d,%d\n", v, 20 + v, 22 + v);
     sheet_len = (size_t)(at - (char *)sheet);
 }
@@ -41,7 +43,9 @@ static void *run_read(void *unused)
 
 static void *run_write(void *unused)
 {
-    refusal = planner_write(answer.head, 8, answer.corridors, answer.lines[1] * 5, answer.occupancies, answer.lines[2] * 3, written, BYTES).refusal;
+    const uint32_t *lines = answer.lines;
+    refusal = planner_write(answer.head, 8, answer.corridors, lines[1] * 5, answer.closures, lines[2] * 3, answer.occupancies, lines[3] * 3, written, BYTES)
+                  .refusal;
     return unused;
 }
 

@@ -4,7 +4,9 @@ use std::hint::black_box;
 use std::ops::RangeInclusive;
 use std::time::{Duration, Instant};
 
+pub mod beside;
 pub mod diamonds;
+pub mod form;
 pub mod front;
 pub mod peer;
 pub mod rounds;

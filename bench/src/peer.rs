@@ -1,6 +1,7 @@
-//! The peers' programs: `gen`, which prints a random sheet of a family, and those that search a sheet. Their S line has
-//! no time to unload; the planner's has one of 0.
+//! The peers' programs: `gen`, which prints a random sheet of a family, and those that search a sheet. Their forms of a
+//! sheet are those of `form`.
 
+use crate::form::{to_peer, to_planner};
 use crate::front::Front;
 use std::io::Write;
 use std::path::PathBuf;
@@ -68,44 +69,28 @@ impl Folder {
         self.0.join(program).exists()
     }
 
-    /// The text of a sheet of a family; the options change T, the places or the occupancies.
+    /// The text of a sheet of a family; the options change T, the places, the occupancies or the closures. A family with
+    /// a plus has closures and a time to unload.
     pub fn sheet(&self, seed: u32, family: &str, options: &[String]) -> Vec<u8> {
         let mut command = Command::new(self.0.join("gen"));
         let output = output(command.arg(seed.to_string()).arg(family).args(options), b"");
-        with_unloading(&succeeded(output, "gen").stdout)
+        to_planner(&succeeded(output, "gen").stdout)
     }
 
     /// What a peer says of a sheet, searched twice; nothing if it has not ended after twice the limit.
     pub fn first_found(&self, search: Search, text: &[u8]) -> Option<Found> {
         let mut command = Command::new("timeout");
         command.arg((2 * LIMIT).to_string()).arg(self.0.join(search.program));
-        let output = output(arguments(&mut command, search, 1), &without_unloading(text));
+        let output = output(arguments(&mut command, search, 1), &to_peer(text));
         (output.status.code() != ENDED).then(|| found(succeeded(output, search.program)))
     }
 
     /// What a peer says of a sheet, searched once and then so many times.
     pub fn found(&self, search: Search, text: &[u8], repetitions: u32) -> Found {
         let mut command = Command::new(self.0.join(search.program));
-        let output = output(arguments(&mut command, search, repetitions), &without_unloading(text));
+        let output = output(arguments(&mut command, search, repetitions), &to_peer(text));
         found(succeeded(output, search.program))
     }
-}
-
-/// The text of a peers' sheet with a time to unload of 0.
-fn with_unloading(text: &[u8]) -> Vec<u8> {
-    let (head, rest) = text.split_at(end_of_head(text));
-    [head, b",0", rest].concat()
-}
-
-/// The text of a sheet whose time to unload is 0, as the peers read it.
-fn without_unloading(text: &[u8]) -> Vec<u8> {
-    let (head, rest) = text.split_at(end_of_head(text));
-    [head.strip_suffix(b",0").expect("there is no time to unload"), rest].concat()
-}
-
-/// Where the S line's line feed stands.
-fn end_of_head(text: &[u8]) -> usize {
-    text.iter().position(|&byte| byte == b'\n').expect("a sheet has an S line")
 }
 
 /// The command with the arguments of a search.

@@ -1,7 +1,8 @@
-//! Damage that texts and groups share: to the order of lines, and to single numbers.
+//! Damage that texts and groups share: to the order of lines, and to single numbers; and damage to closures.
 
 use crate::random::Random;
 
+pub mod of_closures;
 pub mod of_groups;
 pub mod of_text;
 

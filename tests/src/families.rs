@@ -182,9 +182,9 @@ pub const FAMILIES: [Family; 29] = [
     },
 ];
 
-/// The number of a random family: in three of five cases of one with many ties.
+/// The number of a random family: in two of three cases of one with many ties.
 pub fn random_family(random: &mut Random) -> usize {
-    if random.percent(40) {
+    if random.percent(33) {
         random.below(WITH_FEW_TIES)
     } else {
         WITH_FEW_TIES + random.below(FAMILIES.len() - WITH_FEW_TIES)

@@ -65,7 +65,7 @@ pub enum Ends {
 }
 
 impl Family {
-    /// Random groups of the family that are in order and in range.
+    /// Random groups of the family that are in order and in range, without closures.
     pub fn groups(&self, random: &mut Random) -> Groups {
         let [places, steps] = [self.places, self.steps].map(|[least, most]| random.from_to(least, most));
         let start = random.from_to(0, places - 1);
@@ -76,7 +76,8 @@ impl Family {
         let corridors = self.corridors(places, start, goal, random);
         let mut occupancies = self.occupancies(places, steps, random);
         occupancies.extend(self.ends.occupancies(&head, random));
-        Groups { head, corridors, occupancies: occupancies.into_iter().take(256).flatten().collect() }
+        let occupancies = occupancies.into_iter().take(256).flatten().collect();
+        Groups { head, corridors, closures: vec![], occupancies }
     }
 
     /// The goal of a sheet with so many places.

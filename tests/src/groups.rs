@@ -1,21 +1,38 @@
-//! The three groups of a sheet's numbers: random ones, and the longest ones.
+//! The four groups of a sheet's numbers: random ones, and the longest ones.
 
+use crate::answers::SheetRead;
 use crate::random::Random;
 use std::collections::BTreeSet;
 
 /// The numbers of a sheet's lines, kind by kind.
-#[derive(Clone, Debug, PartialEq, Eq)]
+#[derive(Clone, Debug, Default, PartialEq, Eq)]
 pub struct Groups {
     pub head: Vec<u32>,
     pub corridors: Vec<u32>,
+    pub closures: Vec<u32>,
     pub occupancies: Vec<u32>,
 }
 
+/// The letter of each group's lines, in the order of a sheet, and the count of numbers on a line.
+pub const LINES: [(char, usize); 4] = [('S', 8), ('C', 5), ('X', 3), ('O', 3)];
+
 impl Groups {
+    /// The groups that a reader handed back.
+    pub fn of(read: &SheetRead) -> Groups {
+        let [corridors, closures, occupancies] =
+            [read.corridor_numbers(), read.closure_numbers(), read.occupancy_numbers()].map(<[u32]>::to_vec);
+        Groups { head: read.head.to_vec(), corridors, closures, occupancies }
+    }
+
+    /// The groups, in the order of a sheet.
+    pub fn all(&self) -> [&[u32]; 4] {
+        [&self.head, &self.corridors, &self.closures, &self.occupancies]
+    }
+
     /// The sheet's text, whatever the numbers are.
     pub fn text(&self) -> Vec<u8> {
         let mut text = String::new();
-        for (letter, width, group) in [('S', 8, &self.head), ('C', 5, &self.corridors), ('O', 3, &self.occupancies)] {
+        for ((letter, width), group) in LINES.into_iter().zip(self.all()) {
             for numbers in group.chunks(width) {
                 text.push(letter);
                 numbers.iter().for_each(|number| text.push_str(&format!(",{number}")));
@@ -31,6 +48,12 @@ pub fn ascending_corridors(count: u32) -> Vec<u32> {
     (0..count).flat_map(|i| [i / 63, i % 63 + u32::from(i % 63 >= i / 63), 0, 0, 0]).collect()
 }
 
+/// The first closures of the first of these corridors in ascending order, each corridor closed at steps 0 to 31.
+pub fn ascending_closures(count: u32) -> Vec<u32> {
+    let corridors = ascending_corridors(count.div_ceil(32));
+    (0..count as usize).flat_map(|i| [corridors[i / 32 * 5], corridors[i / 32 * 5 + 1], i as u32 % 32]).collect()
+}
+
 /// Occupancies of up to 64 places in ascending order, which begin at steps 0 to 3.
 pub fn ascending_occupancies(count: u32) -> Vec<u32> {
     (0..count).flat_map(|i| [i / 16, i % 16 / 4, i % 16 + 1]).collect()
@@ -41,11 +64,13 @@ pub fn longest_groups() -> Groups {
     Groups {
         head: vec![64, 255, 63, 62, 60_000, 59_999, 12_345, 99],
         corridors: (0..256).flat_map(|i| [10 + i / 32, 20 + i % 32, 60_000, 10_000 + 7 * i, 54_321]).collect(),
+        closures: (0..256).flat_map(|i| [10 + i / 32, 20 + i % 32, 100 + i % 156]).collect(),
         occupancies: (0..256).flat_map(|i| [10 + i / 8, 100 + i % 8, 255 - i % 8]).collect(),
     }
 }
 
-/// Random groups that are in order and in range, now and then with a 257th line of a kind or with a late occupancy.
+/// Random groups that are in order and in range, now and then with a 257th line of a kind, in order or with any numbers,
+/// with a late occupancy or with a closure of no corridor.
 pub fn random_groups(random: &mut Random) -> Groups {
     if random.percent(3) {
         return longest_groups();
@@ -57,8 +82,24 @@ pub fn random_groups(random: &mut Random) -> Groups {
     };
     let head = random_head(random, places);
     let corridors = random_corridors(random, places);
+    let closures = random_closures(random, &corridors, head[1]);
     let occupancies = random_occupancies(random, places, head[1]);
-    Groups { head, corridors, occupancies }
+    let mut groups = Groups { head, corridors, closures, occupancies };
+    if random.percent(35) {
+        overfill(&mut groups, random);
+    }
+    groups
+}
+
+/// Adds a line with any numbers to each group that has 256 lines.
+fn overfill(groups: &mut Groups, random: &mut Random) {
+    let places = groups.head[0];
+    let any = [0, 1, places - 1, places - 1, places, 255, 256, 60_001];
+    for (group, width) in [(&mut groups.corridors, 5), (&mut groups.closures, 3), (&mut groups.occupancies, 3)] {
+        if group.len() == 256 * width {
+            group.extend((0..width).map(|_| random.pick(&any)));
+        }
+    }
 }
 
 /// A random S line's numbers.
@@ -84,6 +125,36 @@ fn random_corridors(random: &mut Random, places: u32) -> Vec<u32> {
     ends.into_iter()
         .flat_map(|[from, to]| [from, to, random_cost(random), random_cost(random), random_cost(random)])
         .collect()
+}
+
+/// Random closure lines of these corridors in ascending order, often near the last step; now and then one of them names
+/// another corridor: the other way, or the same start with another end.
+fn random_closures(random: &mut Random, corridors: &[u32], steps: u32) -> Vec<u32> {
+    let (corridors, _) = corridors.as_chunks::<5>();
+    if corridors.is_empty() {
+        return vec![];
+    }
+    let count = random_count(random).min(200 * corridors.len());
+    let few = 1 + random.below(corridors.len());
+    let mut closures = BTreeSet::new();
+    while closures.len() < count {
+        let [from, to, ..] = if count <= 200 * few { random.pick(&corridors[..few]) } else { random.pick(corridors) };
+        let near = [steps.saturating_sub(1), steps, (steps + 1).min(255)];
+        closures.insert([from, to, if random.percent(15) { random.pick(&near) } else { random_step(random) }]);
+    }
+    let mut lines: Vec<[u32; 3]> = closures.into_iter().collect();
+    if !lines.is_empty() && random.percent(8) {
+        misname(&mut lines, corridors, random);
+    }
+    lines.concat()
+}
+
+/// Has a closure name another corridor than its own, which the sheet may have or not.
+fn misname(lines: &mut [[u32; 3]], corridors: &[[u32; 5]], random: &mut Random) {
+    let at = random.below(lines.len());
+    let [from, to, step] = lines[at];
+    let [other_from, other_to, ..] = random.pick(corridors);
+    lines[at] = random.pick(&[[to, from, step], [from, other_to, step], [other_from, to, step]]);
 }
 
 /// Random occupancy lines in ascending order, which begin within so many steps, often at the last; now and then one

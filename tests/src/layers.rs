@@ -7,6 +7,7 @@
 
 use crate::groups::Groups;
 use crate::random::Random;
+use std::collections::BTreeSet;
 
 /// The layers of a sheet have so many choices in all, at least and at most: near 200, or near 1,000.
 const CHOICES: [[usize; 2]; 2] = [[100, 300], [700, 1_500]];
@@ -20,7 +21,9 @@ pub fn layered_text(random: &mut Random) -> Vec<u8> {
     let places = widths.iter().sum();
     let unloading = random.pick(&[0, 0, 1, 2]);
     let head = vec![places, widths.len() as u32 - 1 + unloading, 0, places - 1, 1, 1, 1, unloading];
-    Groups { head, corridors: corridors_of(&widths), occupancies: occupancies_of(&widths) }.text()
+    let (corridors, occupancies) = (corridors_of(&widths), occupancies_of(&widths));
+    let closures = closures_of(&corridors, random);
+    Groups { head, corridors, closures, occupancies }.text()
 }
 
 /// The count of places in each layer: one in the first, the start, and one in the last, the goal.
@@ -58,6 +61,16 @@ fn corridors_of(widths: &[u32]) -> Vec<u32> {
         first += width;
     }
     corridors
+}
+
+/// None in half of the cases, else closures of some corridors at an early step, at which one in some of them is crossed.
+fn closures_of(corridors: &[u32], random: &mut Random) -> Vec<u32> {
+    let (corridors, _) = corridors.as_chunks::<5>();
+    let count = random.pick(&[0, 0, 0, 1, 4, 12]);
+    let closure = |[from, to, ..]: [u32; 5], step| [from, to, step];
+    let closures: BTreeSet<[u32; 3]> =
+        (0..count).map(|_| closure(random.pick(corridors), random.from_to(0, 5))).collect();
+    closures.into_iter().flatten().collect()
 }
 
 /// The occupancies that leave each place free at the step of its layer alone, and the goal from that of the last on.

@@ -2,6 +2,8 @@
 //! planner's calls.
 
 pub mod cases;
+pub mod closing;
+pub mod closures;
 pub mod compare;
 pub mod compare_search;
 pub mod damage;

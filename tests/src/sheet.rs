@@ -1,10 +1,10 @@
-// The reference: a reader and a writer of corridor sheets, written from document 01 and document 02's E2 and E6 alone, and the
-// kinds of bytes, with the numbers that E4 keeps and the letters of docs/DECISIONS.md, 6.
+// The reference: a reader and a writer of corridor sheets, written from document 01 and document 02's E2, E5 and E6 alone, and
+// the kinds of bytes, with the numbers that E4 keeps and the letters of docs/DECISIONS.md, 6.
 
 use crate::answers::{SheetRead, SheetWritten};
 
-/// A sheet has at most so many bytes, and so many lines of C and of O.
-const MOST_BYTES: usize = 10_240;
+/// A sheet has at most so many bytes, and so many lines of C, of X and of O.
+const MOST_BYTES: usize = 16_384;
 const MOST_LINES: usize = 256;
 
 /// The greatest numbers in range.
@@ -42,9 +42,15 @@ pub fn read_sheet(text: &[u8]) -> SheetRead {
     }
 }
 
-/// What the writer hands back for three groups; their text stands in the buffer unless they are refused.
-pub fn write_sheet(head: &[u32], corridors: &[u32], occupancies: &[u32], out: &mut [u8]) -> SheetWritten {
-    match text_of(head, corridors, occupancies) {
+/// What the writer hands back for four groups; their text stands in the buffer unless they are refused.
+pub fn write_sheet(
+    head: &[u32],
+    corridors: &[u32],
+    closures: &[u32],
+    occupancies: &[u32],
+    out: &mut [u8],
+) -> SheetWritten {
+    match text_of(head, corridors, closures, occupancies) {
         Err(refusal) => SheetWritten { refusal: refusal.number, line: refusal.line, bytes: 0 },
         Ok(text) if text.len() > out.len() => SheetWritten { refusal: 12, line: 0, bytes: 0 },
         Ok(text) => {
@@ -74,6 +80,7 @@ fn add_line(sheet: &mut SheetRead, letter: u8, cursor: &mut Cursor) -> Result<()
     match letter {
         b'S' => add_head(sheet, cursor.numbers()?),
         b'C' => add_corridor(sheet, cursor.numbers()?),
+        b'X' => add_closure(sheet, cursor.numbers()?),
         b'O' => add_occupancy(sheet, cursor.numbers()?),
         _ => Err(2),
     }
@@ -154,7 +161,7 @@ fn add_corridor(sheet: &mut SheetRead, numbers: [u32; 5]) -> Result<(), u32> {
     let places = sheet.head[0];
     let (corridors, _) = sheet.corridors.as_chunks_mut::<5>();
     let count = sheet.lines[1] as usize;
-    if sheet.lines[0] == 0 || sheet.lines[2] > 0 {
+    if sheet.lines[0] == 0 || sheet.lines[2] > 0 || sheet.lines[3] > 0 {
         return Err(3);
     }
     if count == MOST_LINES {
@@ -174,12 +181,47 @@ fn add_corridor(sheet: &mut SheetRead, numbers: [u32; 5]) -> Result<(), u32> {
     Ok(())
 }
 
+/// Adds an X line to the sheet, or hands back the number of the first test that it fails.
+fn add_closure(sheet: &mut SheetRead, numbers: [u32; 3]) -> Result<(), u32> {
+    let [from, to, step] = numbers;
+    let places = sheet.head[0];
+    let count = sheet.lines[2] as usize;
+    if sheet.lines[0] == 0 || sheet.lines[3] > 0 {
+        return Err(3);
+    }
+    if count == MOST_LINES {
+        return Err(7);
+    }
+    if from >= places || to >= places || step > LAST_STEP {
+        return Err(4);
+    }
+    if from == to {
+        return Err(6);
+    }
+    if !has_corridor(sheet, from, to) {
+        return Err(15);
+    }
+    let (closures, _) = sheet.closures.as_chunks_mut::<3>();
+    if count > 0 && numbers <= closures[count - 1] {
+        return Err(5);
+    }
+    closures[count] = numbers;
+    sheet.lines[2] += 1;
+    Ok(())
+}
+
+/// Whether a corridor of the sheet, whose corridors ascend, leads from a place to another.
+fn has_corridor(sheet: &SheetRead, from: u32, to: u32) -> bool {
+    let (corridors, _) = sheet.corridor_numbers().as_chunks::<5>();
+    corridors.binary_search_by_key(&[from, to], |&[from, to, ..]| [from, to]).is_ok()
+}
+
 /// Adds an O line to the sheet, or hands back the number of the first test that it fails.
 fn add_occupancy(sheet: &mut SheetRead, numbers: [u32; 3]) -> Result<(), u32> {
     let [place, first, last] = numbers;
     let [places, steps, ..] = sheet.head;
     let (occupancies, _) = sheet.occupancies.as_chunks_mut::<3>();
-    let count = sheet.lines[2] as usize;
+    let count = sheet.lines[3] as usize;
     if sheet.lines[0] == 0 {
         return Err(3);
     }
@@ -199,7 +241,7 @@ fn add_occupancy(sheet: &mut SheetRead, numbers: [u32; 3]) -> Result<(), u32> {
         return Err(5);
     }
     occupancies[count] = numbers;
-    sheet.lines[2] += 1;
+    sheet.lines[3] += 1;
     Ok(())
 }
 
@@ -213,12 +255,14 @@ fn at_next_line(sheet: &SheetRead, number: u32) -> Refusal {
     Refusal { number, line: sheet.lines.iter().sum::<u32>() + 1 }
 }
 
-/// The text of three groups, or the first fault in them.
-fn text_of(head: &[u32], corridors: &[u32], occupancies: &[u32]) -> Result<Vec<u8>, Refusal> {
+/// The text of four groups, or the first fault in them.
+fn text_of(head: &[u32], corridors: &[u32], closures: &[u32], occupancies: &[u32]) -> Result<Vec<u8>, Refusal> {
     let (heads, after_heads) = head.as_chunks();
     let (corridors, after_corridors) = corridors.as_chunks();
+    let (closures, after_closures) = closures.as_chunks();
     let (occupancies, after_occupancies) = occupancies.as_chunks();
-    if heads.len() != 1 || !after_heads.is_empty() || !after_corridors.is_empty() || !after_occupancies.is_empty() {
+    let is_left_over = !after_corridors.is_empty() || !after_closures.is_empty() || !after_occupancies.is_empty();
+    if heads.len() != 1 || !after_heads.is_empty() || is_left_over {
         return Err(Refusal { number: 2, line: 0 });
     }
     let mut sheet = SheetRead::refused(0, 0);
@@ -230,6 +274,10 @@ fn text_of(head: &[u32], corridors: &[u32], occupancies: &[u32]) -> Result<Vec<u
     for &numbers in corridors {
         add_corridor(&mut sheet, numbers).map_err(|number| at_next_line(&sheet, number))?;
         append_line(&mut text, b'C', &numbers);
+    }
+    for &numbers in closures {
+        add_closure(&mut sheet, numbers).map_err(|number| at_next_line(&sheet, number))?;
+        append_line(&mut text, b'X', &numbers);
     }
     for &numbers in occupancies {
         add_occupancy(&mut sheet, numbers).map_err(|number| at_next_line(&sheet, number))?;

@@ -1,6 +1,7 @@
 //! Random sheets with few lawful ways, so that all of them can be listed.
 
 use crate::answers::SheetRead;
+use crate::closing::close;
 use crate::damage::of_text::{TextDamage, damage_text};
 use crate::families::FAMILIES;
 use crate::family::Family;
@@ -11,14 +12,15 @@ use crate::sheet::read_sheet;
 /// The lawful ways of a small sheet have at most so many places in all.
 const MOST_CELLS: u64 = 60_000;
 
-/// The text of a random small sheet of a family.
+/// The text of a random small sheet of a family, in most cases with closures, without which it is small too.
 pub fn small_text(family: &Family, random: &mut Random) -> Vec<u8> {
     loop {
-        let text = family.groups(random).text();
-        let read = read_sheet(&text);
+        let mut groups = family.groups(random);
+        let read = read_sheet(&groups.text());
         assert_eq!(read.refusal, 0, "a family's sheets are in order and in range");
         if is_small(&read) {
-            return text;
+            close(&mut groups, random);
+            return groups.text();
         }
     }
 }
@@ -43,7 +45,7 @@ pub fn is_small(read: &SheetRead) -> bool {
     let mut cells = 0;
     for step in 0..=steps {
         if step > 0 {
-            counts = one_step_more(read, &counts);
+            counts = one_step_more(read, step - 1, &counts);
         }
         strike_occupied(read, step, &mut counts);
         cells += counts.iter().sum::<u64>() * u64::from(step + 1);
@@ -54,11 +56,14 @@ pub fn is_small(read: &SheetRead) -> bool {
     true
 }
 
-/// How many ways end at each place after one step more, occupied or not.
-fn one_step_more(read: &SheetRead, counts: &[u64]) -> Vec<u64> {
+/// How many ways end at each place after one step more, from a step on, occupied or not.
+fn one_step_more(read: &SheetRead, step: u32, counts: &[u64]) -> Vec<u64> {
     let mut more = counts.to_vec();
+    let closures = read.closure_numbers().as_chunks::<3>().0;
     for &[from, to, ..] in read.corridor_numbers().as_chunks::<5>().0 {
-        more[to as usize] += counts[from as usize];
+        if !closures.contains(&[from, to, step]) {
+            more[to as usize] += counts[from as usize];
+        }
     }
     more
 }

@@ -32,6 +32,7 @@ struct Sheet {
     waiting: Cost,
     unloading: u32,
     corridors: Vec<[u32; 5]>,
+    closures: Vec<[u32; 3]>,
     occupancies: Vec<[u32; 3]>,
     intervals: Vec<Vec<RangeInclusive<u32>>>,
 }
@@ -41,8 +42,10 @@ impl Sheet {
     fn of(read: &SheetRead) -> Sheet {
         let [places, steps, start, goal, waiting @ .., unloading] = read.head;
         let corridors = read.corridor_numbers().as_chunks().0.to_vec();
+        let closures = read.closure_numbers().as_chunks().0.to_vec();
         let occupancies = read.occupancy_numbers().as_chunks().0.to_vec();
-        let mut sheet = Sheet { steps, start, goal, waiting, unloading, corridors, occupancies, intervals: vec![] };
+        let intervals = vec![];
+        let mut sheet = Sheet { steps, start, goal, waiting, unloading, corridors, closures, occupancies, intervals };
         sheet.intervals = (0..places).map(|place| sheet.safe_intervals(place)).collect();
         sheet
     }
@@ -64,15 +67,22 @@ impl Sheet {
         runs
     }
 
-    /// Where a cart at a place can be one step later, by waiting or by a corridor, and what that costs.
-    fn moves(&self, place: u32) -> Vec<(u32, Cost)> {
+    /// Whether no closure forbids to depart from a place to another at a step.
+    fn is_open(&self, from: u32, to: u32, step: u32) -> bool {
+        !self.closures.contains(&[from, to, step])
+    }
+
+    /// Where a cart at a place at a step can be one step later, by waiting or by a corridor that is not closed, and what
+    /// that costs.
+    fn moves(&self, place: u32, step: u32) -> Vec<(u32, Cost)> {
         let crossings = self.corridors.iter().filter(|&&[from, ..]| from == place);
+        let crossings = crossings.filter(|&&[from, to, ..]| self.is_open(from, to, step));
         once((place, self.waiting)).chain(crossings.map(|&[_, to, a, b, c]| (to, [a, b, c]))).collect()
     }
 
     /// The lawful ways that are a way with one step more.
     fn longer(&self, way: &Way) -> Vec<Way> {
-        let mut moves = self.moves(way.place());
+        let mut moves = self.moves(way.place(), way.step());
         moves.retain(|&(to, _)| self.is_free(to, way.step() + 1));
         moves.into_iter().map(|(to, cost)| way.then(to, cost)).collect()
     }

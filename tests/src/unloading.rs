@@ -37,8 +37,7 @@ impl Fronts {
             return None;
         }
         let head = [&numbers[..], &[0]].concat();
-        let [corridors, occupancies] = [read.corridor_numbers(), read.occupancy_numbers()].map(<[u32]>::to_vec);
-        let without = offered(&Groups { head, corridors, occupancies }.text()).ok()?.shown();
+        let without = offered(&Groups { head, ..Groups::of(&read) }.text()).ok()?.shown();
         Some(Fronts { read, with: offer.shown(), without })
     }
 

@@ -22,15 +22,17 @@ fn main() {
 /// The texts that are read, each with its name.
 fn texts() -> Vec<(&'static str, Vec<u8>)> {
     let longest = longest_groups();
-    let corridors = Groups { occupancies: vec![], ..longest.clone() };
-    let occupancies = Groups { corridors: vec![], ..longest.clone() };
+    let closures = Groups { occupancies: vec![], ..longest.clone() };
+    let corridors = Groups { closures: vec![], ..closures.clone() };
+    let occupancies = Groups { corridors: vec![], closures: vec![], ..longest.clone() };
     vec![
         ("sheet A", sheet_a().text()),
         ("the longest sheet", longest.text()),
         ("its corridors alone", corridors.text()),
+        ("its corridors and closures", closures.text()),
         ("its occupancies alone", occupancies.text()),
         ("its last line twice: 5", longest_with_last_line_twice()),
-        ("10,241 bytes: 1", vec![b'\n'; 10_241]),
+        ("16,385 bytes: 1", vec![b'\n'; 16_385]),
     ]
 }
 
@@ -39,6 +41,7 @@ fn sheet_a() -> Groups {
     Groups {
         head: vec![4, 6, 0, 3, 1, 0, 0, 0],
         corridors: vec![0, 1, 1, 0, 4, 0, 2, 1, 3, 0, 1, 3, 1, 0, 4, 2, 3, 1, 3, 0],
+        closures: vec![],
         occupancies: vec![1, 1, 2],
     }
 }
@@ -61,10 +64,14 @@ fn reading_times(text: &[u8]) -> Times {
 fn writing_times(groups: &Groups) -> Times {
     let text = groups.text();
     let [mut out, mut plain_out] = [vec![0; text.len()], vec![0; text.len()]];
-    let (head, corridors, occupancies) = (&groups.head, &groups.corridors, &groups.occupancies);
-    let mut planner_write = || planner::write(black_box(head), black_box(corridors), black_box(occupancies), &mut out);
-    let mut plain_write =
-        || sheet::write_sheet(black_box(head), black_box(corridors), black_box(occupancies), &mut plain_out);
+    let mut planner_write = || {
+        let [head, corridors, closures, occupancies] = black_box(groups).all();
+        planner::write(head, corridors, closures, occupancies, &mut out)
+    };
+    let mut plain_write = || {
+        let [head, corridors, closures, occupancies] = black_box(groups).all();
+        sheet::write_sheet(head, corridors, closures, occupancies, &mut plain_out)
+    };
     assert_eq!(planner_write(), plain_write(), "the writers differ: run tests/run");
     let times = times(planner_write, plain_write);
     assert!(out == text && plain_out == text, "a writer wrote another text: run tests/run");

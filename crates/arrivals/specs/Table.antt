@@ -4,7 +4,7 @@ use mathlib.Core.List.{List, _∷_}
 use Prim.Native.Nat.{ℕ, _/_}
 use lib.Dec.{ltb}
 use lib.ListN.{length}
-use Rattle.sheet.specs.Lists.{pick, filled, bind}
+use Rattle.sheet.specs.Lists.{filled, bind}
 use Rattle.sheet.specs.Sheet.{Sheet}
 use Rattle.arrivals.specs.Computed.{leading}
 use Rattle.arrivals.specs.Arrivals.{Arrival}

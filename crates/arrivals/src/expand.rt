@@ -26,23 +26,19 @@ ghost use Prim.Native.Nat.{_+_, _*_, _<_, _≤_};
 ghost use lib.ListN.{length};
 ghost use Rattle.arrivals.specs.Rows.{rowAt};
 ghost use Rattle.arrivals.specs.Inner.Rows.{Bounded};
-ghost use Rattle.arrivals.specs.Inner.Network.{netRoom, caseOf, linkAt, countOf};
-ghost use Rattle.arrivals.specs.Inner.Lent.{Given};
+ghost use Rattle.arrivals.specs.Inner.Network.{caseOf, linkOf, linkAt, countOf, dearOf};
+ghost use Rattle.arrivals.specs.Inner.Lent.{Closing, Given};
 ghost use Rattle.arrivals.specs.Inner.Entering.{reach};
 ghost use Rattle.arrivals.specs.Inner.Pruning.{FreshIs, Sourced, Fair};
 ghost use Rattle.arrivals.specs.Inner.Filling.{Reaching};
 ghost use Rattle.arrivals.specs.Inner.Sweeps.{Sweepable, Before, OffersRows, OffersSource, OffersLink, OffersLinks};
 
-// The first step whose rows are to be offered here over corridor j, by the pruning rule: the one after the last open departure that arrives
-// earlier in the same safe interval, where waiting is nowhere dearer.
-pub fn fresh(net: &[u32], j: usize, here: Here) -> Step
-    requires { ⌜ (j < 256) × (netRoom ≤ length (now net)) × (1 ≤ here .step .0) ⌝ }
+// The first step whose rows are to be offered here over corridor j, by the pruning rule, where its departures from step `past` on are closed.
+pub fn fresh_before(net: &[u32], j: usize, here: Here, past: Step) -> Step
+    requires { ⌜ (j < 256) × (linkOf (now net) 1 j < 64) × (Closing (now net)) × (past .0 < here .step .0) × (dearOf (now net) j ≡ 0) ⌝ }
     ensures { λ r. ⌜ FreshIs (now (net .entry)) j here (r .0) ⌝ }
 {
-    if is_dear(net, j) {
-        return Step(0);
-    }
-    let mut a = here.step.0 - 1;
+    let mut a = past.0;
     while 0 < a {
         if a < here.since.0 {
             return Step(0);
@@ -53,6 +49,25 @@ pub fn fresh(net: &[u32], j: usize, here: Here) -> Step
         a -= 1;
     }
     Step(0)
+}
+
+// The first step whose rows are to be offered here over corridor j, by the pruning rule: the one after the last open departure that arrives
+// earlier in the same safe interval, where waiting is nowhere dearer.
+pub fn fresh(net: &[u32], j: usize, here: Here) -> Step
+    requires { ⌜ (j < 256) × (linkOf (now net) 1 j < 64) × (Closing (now net)) × (1 ≤ here .step .0) ⌝ }
+    ensures { λ r. ⌜ FreshIs (now (net .entry)) j here (r .0) ⌝ }
+{
+    if is_dear(net, j) {
+        return Step(0);
+    }
+    let last = here.step.0 - 1;
+    if (last == 0) | (last < here.since.0) {
+        return Step(0);
+    }
+    if is_open(net, j, Step(last - 1)) {
+        return Step(last);
+    }
+    fresh_before(net, j, here, Step(last - 1))
 }
 
 // The later of two steps.
@@ -164,12 +179,12 @@ pub fn from_link(
     if to.0 != here.place.0 {
         return Outcome { ok: true, rows: d };
     }
-    if !is_open(net, j, Step(here.step.0 - 1)) {
-        return Outcome { ok: true, rows: d };
-    }
     let first = fresh(net, j, here);
     let last = newest(ix, link_end(net, j, 0));
     if last.0 <= first.0 {
+        return Outcome { ok: true, rows: d };
+    }
+    if !is_open(net, j, Step(here.step.0 - 1)) {
         return Outcome { ok: true, rows: d };
     }
     from_place(

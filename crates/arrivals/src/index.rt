@@ -10,11 +10,11 @@ ghost use mathlib.Core.Path.{_≡_};
 ghost use mathlib.Core.Logic.{_⊎_};
 ghost use Prim.Native.Nat.{_<_, _≤_};
 ghost use lib.ListN.{length};
-ghost use Rattle.arrivals.specs.Inner.Network.{netRoom, countOf};
+ghost use Rattle.arrivals.specs.Inner.Network.{countOf};
 ghost use Rattle.arrivals.specs.Inner.Index.{indexRoom, lowOf, highOf, newestOf, Older, NotedAs};
 ghost use Rattle.arrivals.specs.Inner.Due.{MarkedOne, Marked, Rests};
-ghost use Rattle.arrivals.specs.Inner.Chains.{Chained};
-ghost use Rattle.arrivals.specs.Inner.Lent.{Linked};
+ghost use Rattle.arrivals.specs.Inner.Chains.{byPlace, Chained};
+ghost use Rattle.arrivals.specs.Inner.Lent.{Closing, Linked};
 
 // The parts of the index: from 0 the first row of each step and place; then the row past the last, with the step before; the step past the rows of each
 // place; the step up to which it may be entered; and its length.
@@ -92,7 +92,7 @@ pub fn note(ix: &mut [u32], span: Span, v: Place, s: Step)
 // Is place v to be passed over at step t: the pruning rule covers every corridor into it, no place before it has rows at step t - 1, and its safe
 // interval began before t?
 pub fn rests(ix: &[u32], net: &[u32], v: Place, t: Step, since: Step) -> bool
-    requires { ⌜ (v .0 < 64) × (indexRoom ≤ length (now ix)) × (netRoom ≤ length (now net)) ⌝ }
+    requires { ⌜ (v .0 < 64) × (indexRoom ≤ length (now ix)) × (Closing (now net)) ⌝ }
     ensures { λ r. ⌜ Rests (now (ix .entry)) (now (net .entry)) (v .0) (t .0) (since .0) r ⌝ }
 {
     if since.0 == t.0 {
@@ -114,7 +114,7 @@ pub fn mark(ix: &mut [u32], v: Place, s: Step)
 
 // The places that corridors lead to from u may be entered at step s.
 pub fn mark_next(ix: &mut [u32], net: &[u32], u: Place, s: Step)
-    requires { ⌜ (u .0 < 64) × (indexRoom ≤ length (now ix)) × (Linked (now net)) × (Chained (now net) 0 (countOf (now net))) ⌝ }
+    requires { ⌜ (u .0 < 64) × (indexRoom ≤ length (now ix)) × (Linked (now net)) × (Chained (byPlace 0) (now net) (countOf (now net))) ⌝ }
     ensures { λ _. ⌜ Marked (now (ix .entry)) (now (ix .exit)) (now (net .entry)) 0 (countOf (now (net .entry))) (u .0) (s .0) ⌝ }
 {
     let mut j = last_link(net, 0, u);

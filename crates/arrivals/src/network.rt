@@ -8,12 +8,16 @@ ghost use Prim.Native.Nat.{_+_, _*_, _<_, _≤_};
 ghost use lib.ListN.{length};
 ghost use Rattle.sheet.specs.Lists.{numbersFrom};
 ghost use Rattle.costs.specs.Costs.{figures};
-ghost use Rattle.arrivals.specs.Inner.Network.{netRoom, waitIn, linkOf, linkAt, openb, countOf, placesOf, startOf, dearOf};
-ghost use Rattle.arrivals.specs.Inner.Chains.{lastOf, Chained, NextLink};
-ghost use Rattle.arrivals.specs.Inner.Pruning.{SteadyIs};
+ghost use Rattle.sheet.specs.Laws.Decided.{Decided};
+ghost use Rattle.arrivals.specs.Inner.Network.{netRoom, waitIn, linkOf, linkAt, openb, openIn, countOf, placesOf, startOf, dearOf};
+ghost use Rattle.arrivals.specs.Inner.Network.{closureOf, closuresOf, shutInto, Closes};
+ghost use Rattle.arrivals.specs.Inner.Chains.{byPlace, byCell, cell, lastOf, Chained, NextOne};
+ghost use Rattle.arrivals.specs.Inner.Lent.{Closing};
+ghost use Rattle.arrivals.specs.Inner.Pruning.{SteadyIs, NoneInto};
 
-// The parts of the array: from 0 the costs of waiting; then two chains of corridors; the corridors; their number, that of places and the start; by
-// place and by corridor, whether waiting is dearer where a corridor leads to; and its length.
+// The parts of the array: from 0 the costs of waiting; then two chains of corridors; the corridors; their number, that of places, the start and the
+// number of closures; by place and by corridor, whether waiting is dearer where a corridor leads to; the chain of closures, by cell and by closure;
+// by place, whether a closure leads to it; the closures; and its length.
 pub const CHAINS: usize = 192;
 
 pub const CHAIN: usize = 320;
@@ -26,11 +30,21 @@ pub const PLACES: usize = 2113;
 
 pub const START: usize = 2114;
 
+pub const SHUT_COUNT: usize = 2115;
+
 pub const DEAR_INTO: usize = 2116;
 
 pub const DEAR: usize = 2180;
 
-pub const NETWORK: usize = 2436;
+pub const SHUT: usize = 2436;
+
+pub const SHUT_NEXT: usize = 3460;
+
+pub const SHUT_INTO: usize = 3716;
+
+pub const CLOSURES: usize = 3780;
+
+pub const NETWORK: usize = 4548;
 
 // Where rows are sought and added: a place and a step, the first step of the safe interval of the place that holds the step, and the cost of
 // waiting there.
@@ -104,12 +118,95 @@ pub fn link_cost(net: &[u32], j: usize) -> [u32; 3]
     cost_from(net, LINKS + j * 5 + 2)
 }
 
-// May corridor j be departed by at step s? The one place that says which crossings are closed.
+// Number q of closure x: where its corridor comes from, where that leads to, and the step.
+pub fn closure_number(net: &[u32], x: usize, q: usize) -> u32
+    requires { ⌜ (x < 256) × (q < 3) × (netRoom ≤ length (now net)) ⌝ }
+    ensures { λ r. ⌜ r ≡ closureOf (now (net .entry)) q x ⌝ }
+{
+    net[CLOSURES + x * 3 + q]
+}
+
+// The cell of place v and step s: sixteen for each place, by the step's remainder.
+pub fn cell_of(v: Place, s: Step) -> usize
+    requires { ⌜ v .0 < 64 ⌝ }
+    ensures { λ r. ⌜ (r ≡ cell (v .0) (s .0)) × (r < 1024) ⌝ }
+{
+    wide(v.0 * 16 + s.0 % 16)
+}
+
+// One more than the last closure of a cell.
+pub fn last_shut(net: &[u32], cell: usize) -> usize
+    requires { ⌜ (cell < 1024) × (netRoom ≤ length (now net)) ⌝ }
+    ensures { λ r. ⌜ r ≡ lastOf byCell (now (net .entry)) cell ⌝ }
+{
+    wide(net[SHUT + cell])
+}
+
+// One more than the last closure before closure x of the same cell, as far as the chain shows.
+pub fn next_shut(net: &[u32], x: usize, cell: usize) -> usize
+    requires { ⌜ (Closing (now net)) × (x < closuresOf (now net)) ⌝ }
+    ensures { λ r. ⌜ NextOne byCell (now (net .entry)) cell x r ⌝ }
+{
+    let own = cell_of(
+        Place(closure_number(net, x, 1)),
+        Step(closure_number(net, x, 2)),
+    );
+    if own == cell {
+        return wide(net[SHUT_NEXT + x]);
+    }
+    x
+}
+
+// Does a closure lead to place v?
+pub fn is_shut(net: &[u32], v: Place) -> bool
+    requires { ⌜ (v .0 < 64) × (netRoom ≤ length (now net)) ⌝ }
+    ensures { λ r. ⌜ (r ≡ false → shutInto (now (net .entry)) (v .0) ≡ 0) ⌝ }
+{
+    net[SHUT_INTO + v.0 as usize] != 0
+}
+
+// Is closure x of the corridor from u to v at step s?
+pub fn closes(net: &[u32], x: usize, u: Place, v: Place, s: Step) -> bool
+    requires { ⌜ (x < 256) × (netRoom ≤ length (now net)) ⌝ }
+    ensures { λ r. ⌜ Decided (Closes (now (net .entry)) (u .0) (v .0) (s .0) x) r ⌝ }
+{
+    let from = closure_number(net, x, 0);
+    let to = closure_number(net, x, 1);
+    let step = closure_number(net, x, 2);
+    (from == u.0) & (to == v.0) & (step == s.0)
+}
+
+// Is the way from u to v open at step s? The last closure of the cell of v and s is the one before closure `last`.
+pub fn none_between(net: &[u32], last: usize, u: Place, v: Place, s: Step) -> bool
+    requires { ⌜ (Closing (now net)) × (v .0 < 64) × (last ≡ lastOf byCell (now net) (cell (v .0) (s .0))) ⌝ }
+    ensures { λ r. ⌜ r ≡ openIn (now (net .entry)) (u .0) (v .0) (s .0) ⌝ }
+{
+    let at = cell_of(v, s);
+    let mut x = last;
+    while 0 < x {
+        x -= 1;
+        if closes(net, x, u, v, s) {
+            return false;
+        }
+        x = next_shut(net, x, at);
+    }
+    true
+}
+
+// May corridor j be departed by at step s?
 pub fn is_open(net: &[u32], j: usize, s: Step) -> bool
-    requires { ⌜ (j < 256) × (netRoom ≤ length (now net)) ⌝ }
+    requires { ⌜ (j < 256) × (linkOf (now net) 1 j < 64) × (Closing (now net)) ⌝ }
     ensures { λ r. ⌜ r ≡ openb (linkAt (now (net .entry)) j) (s .0) ⌝ }
 {
-    true
+    let v = link_end(net, j, 1);
+    if !is_shut(net, v) {
+        return true;
+    }
+    let last = last_shut(net, cell_of(v, s));
+    if last == 0 {
+        return true;
+    }
+    none_between(net, last, link_end(net, j, 0), v, s)
 }
 
 // Is waiting dearer where corridor j leads to than where it comes from?
@@ -120,26 +217,59 @@ pub fn is_dear(net: &[u32], j: usize) -> bool
     net[DEAR + j] != 0
 }
 
-// Does the pruning rule cover every corridor into place v at step t by the departure at t - 2?
+// Is no closure of step s one that leads to place v? The last closure of their cell is the one before closure `last`.
+pub fn none_into(net: &[u32], last: usize, v: Place, s: Step) -> bool
+    requires { ⌜ (Closing (now net)) × (v .0 < 64) × (last ≡ lastOf byCell (now net) (cell (v .0) (s .0))) ⌝ }
+    ensures { λ r. ⌜ NoneInto (now (net .entry)) (v .0) (s .0) r ⌝ }
+{
+    let at = cell_of(v, s);
+    let mut x = last;
+    while 0 < x {
+        x -= 1;
+        let to = closure_number(net, x, 1);
+        let step = closure_number(net, x, 2);
+        if (to == v.0) & (step == s.0) {
+            return false;
+        }
+        x = next_shut(net, x, at);
+    }
+    true
+}
+
+// Does the pruning rule cover every corridor into place v at step t by the departure at t - 2? Where there is none, it does not.
 pub fn is_steady(net: &[u32], v: Place, t: Step) -> bool
-    requires { ⌜ (v .0 < 64) × (netRoom ≤ length (now net)) ⌝ }
+    requires { ⌜ (v .0 < 64) × (Closing (now net)) ⌝ }
     ensures { λ r. ⌜ SteadyIs (now (net .entry)) (v .0) (t .0) r ⌝ }
 {
-    net[DEAR_INTO + v.0 as usize] == 0
+    if net[DEAR_INTO + v.0 as usize] != 0 {
+        return false;
+    }
+    if !is_shut(net, v) {
+        return true;
+    }
+    if t.0 < 2 {
+        return false;
+    }
+    let s = Step(t.0 - 2);
+    let last = last_shut(net, cell_of(v, s));
+    if last == 0 {
+        return true;
+    }
+    none_into(net, last, v, s)
 }
 
 // One more than the last corridor whose place q is v.
 pub fn last_link(net: &[u32], q: usize, v: Place) -> usize
     requires { ⌜ (q < 2) × (v .0 < 64) × (netRoom ≤ length (now net)) ⌝ }
-    ensures { λ r. ⌜ r ≡ lastOf (now (net .entry)) q (v .0) ⌝ }
+    ensures { λ r. ⌜ r ≡ lastOf (byPlace q) (now (net .entry)) (v .0) ⌝ }
 {
     wide(net[CHAINS + q * CHAIN + v.0 as usize])
 }
 
 // One more than the last corridor before corridor j whose place q is v, as far as the chain shows.
 pub fn next_link(net: &[u32], q: usize, j: usize, v: Place) -> usize
-    requires { ⌜ (q < 2) × (j < 256) × (netRoom ≤ length (now net)) × (j < countOf (now net)) × (Chained (now net) q (countOf (now net))) ⌝ }
-    ensures { λ r. ⌜ NextLink (now (net .entry)) q (v .0) j r ⌝ }
+    requires { ⌜ (q < 2) × (j < 256) × (netRoom ≤ length (now net)) × (j < countOf (now net)) × (Chained (byPlace q) (now net) (countOf (now net))) ⌝ }
+    ensures { λ r. ⌜ NextOne (byPlace q) (now (net .entry)) (v .0) j r ⌝ }
 {
     if net[LINKS + j * 5 + q] == v.0 {
         return wide(net[CHAINS + q * CHAIN + 64 + j]);

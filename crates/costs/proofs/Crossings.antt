@@ -1,26 +1,37 @@
--- Corridors and waits in the array: the five numbers at a corridor's line are its ends and its cost, and the cost of a wait stands in the S line.
+-- Corridors, closures and waits in the array: the five numbers at a corridor's line are its ends and its cost, a closure is sought among the lines of
+-- its kind, and the cost of a wait stands in the S line.
 -- Assumes nothing.
-use mathlib.Core.Path.{_≡_, sym, _∙_, ap}
-use mathlib.Core.Bool.{true}
-use mathlib.Core.List.{List, []}
+use mathlib.Core.Path.{_≡_, refl, sym, _∙_, ap, subst}
+use mathlib.Core.Bool.{Bool, true, false, not}
+use mathlib.Core.List.{List, [], _∷_}
 use Prim.Native.Nat.{ℕ, _+_, _*_, _/_, _<_}
 use native.Mathlib.Omega.{arith}
-use lib.ListN.{length, getD}
-use Rattle.sheet.specs.Lists.{number, numbersFrom}
-use Rattle.sheet.specs.Kinds.{width, kindC}
+use lib.ListN.{length, getD, take}
+use lib.Seq.{take-all}
+use borrow.Author.Tests.{not-true}
+use Rattle.sheet.specs.Lists.{_∈_, number, numbersFrom}
+use Rattle.sheet.specs.Kinds.{width, kindC, kindX}
 use Rattle.sheet.specs.Sheet.{from, to}
 use Rattle.sheet.specs.Store.{baseOf, storeRoom, SomeStore, partOf, sheetIn}
-use Rattle.sheet.specs.Laws.Decided.{from-same}
+use Rattle.sheet.specs.Seek.{Seekable, Listed}
+use Rattle.sheet.specs.Laws.Decided.{Decided, holds, fails, no-of, decided-as, from-same}
+use Rattle.sheet.specs.Laws.Keys.{GroupIs}
 use Rattle.sheet.specs.Laws.Rows.{rows-at}
-use Rattle.sheet.specs.Laws.Store.{part-number, store-numbers, store-few, head-number, store-length}
+use Rattle.sheet.specs.Laws.Store.{part-number, store-valid, store-numbers, store-few, head-number, store-length, store-seekable, store-listed, listed-store}
 use Rattle.sheet.specs.declared.Place.{Place}
-use Rattle.costs.specs.Costs.{figures}
-use Rattle.costs.specs.Moves.{waitOf, costOf}
+use Rattle.sheet.specs.declared.seek.Group.{Group}
+use Rattle.costs.specs.Costs.{Cost, figures}
+use Rattle.costs.specs.Moves.{waitOf, costOf, Closed}
 use Rattle.costs.specs.Computed.{waitAt}
-use Rattle.costs.specs.Priced.{CorridorIs}
+use Rattle.costs.specs.Priced.{CrossingBy, CorridorIs}
 use Rattle.costs.specs.Laws.Rows.{row, row-number}
 use Rattle.costs.specs.Laws.Moves.{corridor-count}
 use Rattle.costs.specs.declared.Corridor.{Corridor}
+
+-- what is not, where a claim is decided
+turned : {P : Type 0} {b : Bool} → Decided P b → Decided (P → ⊥) (not b)
+turned (holds p) = fails (λ n. n p)
+turned (fails n) = holds n
 
 -- where line k of the corridors begins in the array
 abbrev lineAt : ℕ → ℕ
@@ -60,13 +71,41 @@ module _ {lines all : List ℕ} (S : SomeStore lines all) where
         from-same figures 2 (lineAt k + 2) line all
         (λ j l. let e : lineAt k + (2 + j) ≡ lineAt k + 2 + j = omega arith in line-number (2 + j) (omega arith) ∙ ap (number all) e)
 
-    pub corridor-is : (t : ℕ) (r : Corridor) → r .open ≡ true → r .from .0 ≡ number all (lineAt k) → r .to .0 ≡ number all (lineAt k + 1)
-        → r .cost ≡ numbersFrom figures (lineAt k + 2) all → CorridorIs (sheetIn lines all) k t r
-    corridor-is t r o f g c =
+    pub end-is : (q : ℕ) → q < 2 → number all (lineAt k + q) ≡ number line q
+    end-is q l = sym (line-number q (omega arith))
+
+    pub corridor-is : (t : ℕ) (r : Corridor) {b : Bool} → r .open ≡ not b → Decided (Closed (sheetIn lines all) (r .from .0) (r .to .0) t) b
+        → r .from .0 ≡ number all (lineAt k) → r .to .0 ≡ number all (lineAt k + 1) → r .cost ≡ numbersFrom figures (lineAt k + 2) all → CorridorIs (sheetIn lines all) k t r
+    corridor-is t r o d f g c =
         record {
-          there = λ p. record { listed = omega (arith, corridor-count S); leaves = line-from ∙ sym f; enters = line-to ∙ sym g; price = c ∙ sym line-cost };
-          is = λ u v d x. (o, f ∙ sym line-from ∙ x .leaves, g ∙ sym line-to ∙ x .enters, c ∙ sym line-cost ∙ sym (x .price));
+          listed = omega (arith, corridor-count S);
+          leaves = f ∙ sym line-from;
+          enters = g ∙ sym line-to;
+          price = c ∙ sym line-cost;
+          opens = subst (Decided (Closed (sheetIn lines all) (r .from .0) (r .to .0) t → ⊥)) (sym o) (turned d);
         }
+
+  -- the closures of the sheet, where they stand in the array
+  abbrev closures : List (List ℕ)
+  closures = sheetIn lines all .closures
+
+  module _ {g : Group} (G : GroupIs lines (kindX .order) g) where
+    pub closures-seekable : Seekable all g
+    closures-seekable = store-seekable (S .store) (kindX .order) (omega arith) G
+
+    pub closed-sought : (v : List ℕ) {u w t : ℕ} → take 3 v ≡ u ∷ w ∷ t ∷ [] → {b : Bool} → Decided (Listed all g v) b → Decided (Closed (sheetIn lines all) u w t) b
+    closed-sought v {u} {w} {t} e d = decided-as there back d
+      where
+        whole : (x : List ℕ) → x ∈ closures → take 3 x ≡ x
+        whole x m = take-all 3 x (omega (arith, store-valid (S .store) .closures x m .wide))
+
+        there : Listed all g v → Closed (sheetIn lines all) u w t
+        there l =
+            let r = store-listed (S .store) (kindX .order) (omega arith) G v l in
+            subst (λ (x : List ℕ). x ∈ closures) (sym (whole (r .0) (r .1)) ∙ r .2 ∙ e) (r .1)
+
+        back : Closed (sheetIn lines all) u w t → Listed all g v
+        back m = listed-store (S .store) (kindX .order) (omega arith) G v (u ∷ w ∷ t ∷ []) m (sym e)
 
   pub wait-cost : (v : Place) → numbersFrom figures 4 all ≡ waitAt (sheetIn lines all) v
   unfolding waitAt waitOf

@@ -5,8 +5,8 @@ use mathlib.Core.List.{List, [], _∷_}
 use Prim.Native.Nat.{ℕ}
 use lib.Dec.{leb, eqb}
 use Rattle.costs.specs.Costs.{Cost}
-use Rattle.sheet.specs.Lists.{filter}
-use Rattle.sheet.specs.Sheet.{Sheet, from}
+use Rattle.sheet.specs.Lists.{filter, any}
+use Rattle.sheet.specs.Sheet.{Sheet, from, to}
 use Rattle.sheet.specs.declared.Place.{Place}
 use Rattle.costs.specs.Moves.{waitOf}
 
@@ -25,9 +25,13 @@ sameb [] (y ∷ b) = false
 sameb (x ∷ a) [] = false
 sameb (x ∷ a) (y ∷ b) = eqb x y && sameb a b
 
+-- an X line forbids departing from u to v at step t
+abbrev pub closedb : Sheet → ℕ → ℕ → ℕ → Bool
+closedb s u v t = any (sameb (u ∷ v ∷ t ∷ [])) (s .closures)
+
 -- the corridors that a cart at u can take at step t
 unfoldable pub leaving : Sheet → ℕ → ℕ → List (List ℕ)
-leaving s u t = filter (λ k. eqb (from k) u) (s .corridors)
+leaving s u t = filter (λ k. eqb (from k) u && not (closedb s u (to k) t)) (s .corridors)
 
 -- the cost that the promise of the code cites
 unfoldable pub waitAt : Sheet → Place → Cost

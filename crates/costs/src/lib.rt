@@ -1,18 +1,26 @@
 // Costs: three figures, added and compared place by place as one value (document 01, "Lawful journeys"); the cost of a wait, and the corridors.
 ghost use mathlib.Core.Path.{_≡_};
+ghost use mathlib.Core.List.{[]};
 ghost use Prim.Native.Nat.{_+_, _≤_, _<_};
-ghost use lib.ListN.{length};
+ghost use lib.ListN.{length, getD};
 ghost use Rattle.sheet.specs.Lists.{number, numbersFrom};
 ghost use Rattle.sheet.specs.Kinds.{kindC};
 ghost use Rattle.sheet.specs.Computed.{lexb};
 ghost use Rattle.sheet.specs.Store.{SomeStore, sheetIn};
+ghost use Rattle.sheet.specs.Laws.Decided.{Decided};
 ghost use Rattle.costs.specs.Costs.{figures, add, times, AtMost};
+ghost use Rattle.costs.specs.Moves.{Closed};
 ghost use Rattle.costs.specs.Priced.{Within, CorridorIs};
 ghost use Rattle.costs.specs.Computed.{atMostb, waitAt};
 use sheet::Place;
 use sheet::Step;
+use sheet::kinds::CLOSURE;
 use sheet::kinds::CORRIDOR;
+use sheet::kinds::FIRST_CLOSURE;
 use sheet::kinds::FIRST_CORRIDOR;
+use sheet::kinds::X_LINE;
+use sheet::seek::Group;
+use sheet::seek::holds;
 
 // A cost, as it is copied into candidates, sums and entries.
 pub type Cost = [u32; 3];
@@ -101,6 +109,28 @@ pub fn wait_at(lines: &[u32], all: &[u32], v: Place) -> [u32; 3]
     cost_from(all, 4)
 }
 
+// Whether the way from u to v is closed for a cart that departs at step t, on the sheet in the array.
+fn is_closed(lines: &[u32], all: &[u32], u: Place, v: Place, t: Step) -> bool
+    requires { ⌜ SomeStore (now lines) (now all) ⌝ }
+    ensures { λ r. ⌜ Decided (Closed (sheetIn (now (lines .entry)) (now (all .entry))) (u .0) (v .0) (t .0)) r ⌝ }
+{
+    let closures = Group {
+        base: FIRST_CLOSURE,
+        width: CLOSURE,
+        count: lines[X_LINE] as usize,
+        key: CLOSURE,
+    };
+    holds(all, closures, [u.0, v.0, t.0, 0, 0, 0, 0, 0])
+}
+
+// Place q of corridor k of the sheet in the array: 0 is where it leads from, 1 where it leads to.
+pub fn end_of(lines: &[u32], all: &[u32], k: usize, q: usize) -> Place
+    requires { ⌜ (SomeStore (now lines) (now all)) × (k < number (now lines) (kindC .order)) × (q < 2) ⌝ }
+    ensures { λ r. ⌜ r .0 ≡ number (getD (sheetIn (now (lines .entry)) (now (all .entry)) .corridors) k []) q ⌝ }
+{
+    Place(all[FIRST_CORRIDOR + k * CORRIDOR + q])
+}
+
 // A corridor: whether a cart can depart by it, the place it leads from, the place it leads to, and its cost.
 pub struct Corridor {
     pub open: bool,
@@ -118,7 +148,7 @@ pub fn corridor_at(lines: &[u32], all: &[u32], k: usize, t: Step) -> Corridor
     let from = all[at];
     let to = all[at + 1];
     Corridor {
-        open: true,
+        open: !is_closed(lines, all, Place(from), Place(to), t),
         from: Place(from),
         to: Place(to),
         cost: cost_from(all, at + 2),

@@ -4,13 +4,13 @@
 use mathlib.Core.Path.{_≡_, refl, sym, _∙_, ap, subst}
 use mathlib.Core.Logic.{⊎-elim}
 use mathlib.Core.Bool.{Bool, true, false, _&&_}
-use mathlib.Core.List.{List}
+use mathlib.Core.List.{List, []}
 use Prim.Native.Nat.{ℕ, _+_, _≤_, _<_}
 use native.Mathlib.Omega.{arith}
 use lib.Dec.{eqb, ltb}
-use lib.ListN.{length}
+use lib.ListN.{length, getD}
 use borrow.Author.Tests.{ltb-true, lt-ltb, eqb-true, eq-eqb}
-use Rattle.sheet.specs.Sheet.{Sheet}
+use Rattle.sheet.specs.Sheet.{Sheet, from}
 use Rattle.sheet.specs.Valid.{Valid}
 use Rattle.sheet.specs.Laws.Decided.{Decided, yes-of, no-of, decided-by, lt-or-le}
 use Rattle.sheet.specs.Laws.Order.{and-true, true-and}
@@ -19,7 +19,7 @@ use Rattle.costs.specs.Moves.{waitOf, Crossing}
 use Rattle.costs.specs.Computed.{waitAt}
 use Rattle.costs.specs.Priced.{Within, CrossingBy, CorridorIs}
 use Rattle.costs.specs.declared.Corridor.{Corridor}
-use Rattle.costs.specs.Laws.Moves.{by-crossing, crossing-by, crossing-bounded}
+use Rattle.costs.specs.Laws.Moves.{by-crossing, crossing-by, crossing-bounded, corridor-crosses, crosses-corridor}
 use Rattle.arrivals.specs.Ways.{Move, waits, crosses}
 use Rattle.arrivals.specs.Arrivals.{Arrival}
 use Rattle.arrivals.specs.Computed.{arrival}
@@ -72,7 +72,7 @@ lower-decided r a b = decided-by ((o && f) && l) yes no
 -- such a corridor of a valid sheet
 module _ {s : Sheet} {k t : ℕ} {r : Corridor} (d : CorridorIs s k t r) {a b : Arrival} (o : Lower r a b) where
   crossed : Crossing s (a .place) (r .to .0) t (r .cost)
-  crossed = subst (λ (u : ℕ). Crossing s u (r .to .0) t (r .cost)) (o .leaves) (by-crossing s k (r .from .0) (r .to .0) t (r .cost) (d .there (o .is-open)))
+  crossed = subst (λ (u : ℕ). Crossing s u (r .to .0) t (r .cost)) (o .leaves) (by-crossing s k (r .from .0) (r .to .0) t (r .cost) (corridor-crosses d (o .is-open)))
 
   pub lower-place : Valid s → r .to .0 < 64
   lower-place h = omega (arith, crossed .enters, h .corridors (crossed .line) (crossed .listed) .to-place, h .most-places)
@@ -119,13 +119,17 @@ module _ {s : Sheet} {n : ℕ} {xs : List ℕ} {a : Arrival} where
             (λ i. let e : k ≡ l = omega arith in f v c (subst (λ (j : ℕ). CrossingBy s j (a .place) v (a .step) c) e y) m)
             (lt-or-le k l)
 
+    -- one that leads away from elsewhere
+    pub over-other : {u : ℕ} → u ≡ from (getD (s .corridors) l []) → (u ≡ a .place → ⊥) → LowestOf s n xs a (l + 1) b
+    over-other e f = one-more b (omega arith) (best .next) (λ v c y m. absurd (f (e ∙ y .leaves)))
+
     module _ {r : Corridor} (d : CorridorIs s l (a .step) r) where
       pub over-not : (Lower r a b → ⊥) → LowestOf s n xs a (l + 1) b
       over-not f = one-more b (omega arith) (best .next) at
         where
           at : (v : ℕ) (c : Cost) → CrossingBy s l (a .place) v (a .step) c → Marked s n xs (after a v c) → b .place ≤ v
           at v c y m =
-              let z = d .is (a .place) v c y in
+              let z = crosses-corridor d (a .place) v c y in
               ⊎-elim (λ i. absurd (f (record { is-open = z .0; leaves = z .1; below = omega (arith, i, z .2) }))) (λ i. i) (lt-or-le v (b .place))
 
       module _ {g : Cost} (e : g ≡ add (a .cost) (r .cost)) {m : Bool} (j : Decided (Marked s n xs (arrival (r .to .0) (a .step + 1) g)) m) where
@@ -133,14 +137,14 @@ module _ {s : Sheet} {n : ℕ} {xs : List ℕ} {a : Arrival} where
         over-marked o f =
             one-more (arrival (r .to .0) (a .step + 1) g) (omega (arith, o .below))
             (λ i. record { price = r .cost; move = crosses (crossed d o); is = stood a (r .to .0) (r .cost) e; marked = yes-of j f })
-            (λ v c y x. omega (arith, d .is (a .place) v c y .2))
+            (λ v c y x. omega (arith, crosses-corridor d (a .place) v c y .2))
 
         pub over-unmarked : m ≡ false → LowestOf s n xs a (l + 1) b
         over-unmarked f = one-more b (omega arith) (best .next) at
           where
             at : (v : ℕ) (c : Cost) → CrossingBy s l (a .place) v (a .step) c → Marked s n xs (after a v c) → b .place ≤ v
             at v c y x =
-                let z = d .is (a .place) v c y in
+                let z = crosses-corridor d (a .place) v c y in
                 let q : arrival (r .to .0) (a .step + 1) g ≡ after a v c = stood a (r .to .0) (r .cost) e ∙ (λ i. after a (z .2 i) (z .3 i)) in
                 absurd (no-of j f (subst (Marked s n xs) (sym q) x))
 

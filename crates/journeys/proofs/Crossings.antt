@@ -3,15 +3,15 @@
 use mathlib.Core.Path.{_≡_, refl, sym, _∙_, ap, subst}
 use mathlib.Core.Logic.{inl, ⊎-elim}
 use mathlib.Core.Bool.{Bool, true, false, _&&_}
-use mathlib.Core.List.{List}
+use mathlib.Core.List.{List, []}
 use Prim.Native.Nat.{ℕ, suc, _+_, _*_, _-_, _≤_, _<_}
 use native.Mathlib.Omega.{arith}
-use lib.ListN.{length}
+use lib.ListN.{length, getD}
 use lib.Dec.{eqb, leb, ltb}
 use borrow.Author.Tests.{eqb-true, eq-eqb, leb-true, le-leb, ltb-true, lt-ltb}
 use Rattle.sheet.specs.Lists.{number, Lex}
 use Rattle.sheet.specs.Kinds.{kindC}
-use Rattle.sheet.specs.Sheet.{Sheet}
+use Rattle.sheet.specs.Sheet.{Sheet, to}
 use Rattle.sheet.specs.Store.{SomeStore, sheetIn}
 use Rattle.sheet.specs.Laws.Decided.{false-not-true, lt-or-le, from-length}
 use Rattle.sheet.specs.Laws.Order.{and-true, true-and}
@@ -22,7 +22,7 @@ use Rattle.costs.specs.Computed.{atMostb}
 use Rattle.costs.specs.Priced.{Within, CrossingBy, CorridorIs}
 use Rattle.costs.specs.declared.Corridor as corridor
 use Rattle.costs.specs.Laws.Figures.{fig-add, length-add, length-times, cancel-right, at-most-antisym, same-figures, atMostb-true, within-more, within-times}
-use Rattle.costs.specs.Laws.Moves.{wait-three, crossing-three, by-crossing, crossing-by, crossing-also, corridor-count}
+use Rattle.costs.specs.Laws.Moves.{wait-three, crossing-three, by-crossing, crossing-by, crossing-also, corridor-count, corridor-crosses, crosses-corridor}
 use Rattle.intervals.specs.Computed.{sinceOf}
 use Rattle.intervals.specs.FirstSteps.{Derived}
 use Rattle.intervals.specs.Laws.Runs.{run-join, since-run}
@@ -50,11 +50,15 @@ kept-three s xs k t =
     let n = t - e .step in
     length-add (e .cost) (times n (waitOf s (e .place))) figures (from-length figures (k * 5 + 2) xs) (length-times n (waitOf s (e .place)) ∙ wait-three s (e .place))
 
+-- by no corridor that leads elsewhere
+pub cross-other : {s : Sheet} (b : Arrival) {l v : ℕ} → v ≡ to (getD (s .corridors) l []) → (v ≡ b .place → ⊥) → (e : Arrival) → CrossesBy s b l e → ⊥
+cross-other b p q e x = q (p ∙ x .cross .enters)
+
 -- by corridor l
 module _ {s : Sheet} (b : Arrival) {l : ℕ} (r : corridor.Corridor) (c : CorridorIs s l (b .step - 1) r) where
   pub cross-off : {p : Bool} → p ≡ atMostb (r .cost) (b .cost) → r .open && eqb (r .to .0) (b .place) && p ≡ false → (e : Arrival) → CrossesBy s b l e → ⊥
   cross-off {p} q d e x =
-      let y = c .is (e .place) (b .place) (x .price) (x .cross) in
+      let y = crosses-corridor c (e .place) (b .place) (x .price) (x .cross) in
       let under : p ≡ true = q ∙ part-under (kept s e (b .step - 1)) (r .cost) (b .cost) (ap (add (kept s e (b .step - 1))) (y .3) ∙ x .sum) in
       false-not-true d (true-and (r .open && eqb (r .to .0) (b .place)) p (true-and (r .open) (eqb (r .to .0) (b .place)) (y .0) (eq-eqb (r .to .0) (b .place) (y .2))) under)
 
@@ -69,7 +73,7 @@ module _ {s : Sheet} (b : Arrival) {l : ℕ} (r : corridor.Corridor) (c : Corrid
     crosses : k < n → CrossesBy s b l (standAt xs k)
     crosses h =
         let x = w .is h in
-        let y : CrossingBy s l (r .from .0) (b .place) (b .step - 1) (r .cost) = subst (λ (v : ℕ). CrossingBy s l (r .from .0) v (b .step - 1) (r .cost)) enters (c .there opens) in
+        let y : CrossingBy s l (r .from .0) (b .place) (b .step - 1) (r .cost) = subst (λ (v : ℕ). CrossingBy s l (r .from .0) v (b .step - 1) (r .cost)) enters (corridor-crosses c opens) in
         record {
           price = r .cost;
           cross = subst (λ (u : ℕ). CrossingBy s l u (b .place) (b .step - 1) (r .cost)) (sym (x .place)) y;
@@ -81,7 +85,7 @@ module _ {s : Sheet} (b : Arrival) {l : ℕ} (r : corridor.Corridor) (c : Corrid
     only j h x =
         let e = standAt xs j in
         let t = b .step - 1 in
-        let y = c .is (e .place) (b .place) (x .price) (x .cross) in
+        let y = crosses-corridor c (e .place) (b .place) (x .price) (x .cross) in
         w .only j h
         (record {
           place = sym (y .1);
@@ -119,7 +123,7 @@ module _ {s : Sheet} (b : Arrival) {l : ℕ} (r : corridor.Corridor) (c : Corrid
         next = omega (arith, moved)
 
         here : CrossesLater s l (e .place) (b .place) (b .step)
-        here = subst (λ (u : ℕ). CrossesLater s l u (b .place) (b .step)) (c .is (e .place) (b .place) (y .price) (y .cross) .1) x
+        here = subst (λ (u : ℕ). CrossesLater s l u (b .place) (b .step)) (crosses-corridor c (e .place) (b .place) (y .price) (y .cross) .1) x
 
         kept-on : kept s e (b .step) ≡ add (kept s e t) (waitOf s (b .place))
         kept-on = ap (kept s e) (sym next) ∙ kept-next s e t (y .stays .soon) ∙ ap (add (kept s e t)) (here .same)
@@ -315,7 +319,7 @@ later-crosses {lines} {all} d {l} {u} {v} {t} r c low day {first} f {a} {b} e g 
     let w = and-true (r .open) (ltb first t) (z .0) in
     let since-is : first ≡ sinceOf s u t = f ∙ d .firsts .of s refl u t low (omega arith) in
     record {
-      crosses = λ m n. crossing-also s l u v (t - 1) m n (r .from .0) (r .to .0) t (r .cost) (c .there (w .0));
+      crosses = λ m n. crossing-also s l u v (t - 1) m n (r .from .0) (r .to .0) t (r .cost) (corridor-crosses c (w .0));
       waits = since-run s u (t - 1) t day (omega arith) .0 (omega (arith, since-is, ltb-true first t (w .1)));
       same =
           sym e

@@ -4,8 +4,9 @@ ghost use mathlib.Core.Path.{_≡_};
 ghost use Prim.Native.Nat.{_+_, _*_, _≤_};
 ghost use lib.ListN.{length};
 ghost use Rattle.sheet.specs.Computed.{lexb};
+ghost use Rattle.sheet.specs.Seek.{Parted};
 ghost use Rattle.arrivals.specs.Arrivals.{keyOf};
-ghost use Rattle.journeys.specs.Inner.Lookup.{standing, standAt, Sorted, Parted, RowIs};
+ghost use Rattle.journeys.specs.Inner.Lookup.{standing, standAt, Sorted, RowIs};
 use arrivals::rows::row_cost;
 use costs::before;
 use sheet::Place;
@@ -48,7 +49,7 @@ fn comes_before(a: Stand, b: Stand) -> bool
 // How many of the first n rows come before a.
 fn rows_before(table: &[u32], n: usize, a: Stand) -> usize
     requires { ⌜ Sorted n (now table) ⌝ }
-    ensures { λ r. ⌜ Parted n (now (table .entry)) (standing a) r r ⌝ }
+    ensures { λ r. ⌜ Parted n (λ k. keyOf (standAt (now (table .entry)) k)) (keyOf (standing a)) r r ⌝ }
 {
     let mut low = 0;
     let mut high = n;

@@ -19,6 +19,7 @@ use crate::lookup::row_of;
 use crate::waits::waiting_row;
 use costs::at_most;
 use costs::corridor_at;
+use costs::end_of;
 use costs::less;
 use costs::multiple;
 use costs::sum;
@@ -88,6 +89,10 @@ fn mark_over(
     ensures { λ _. ⌜ Raised n (now (table .entry)) (now (table .exit)) (b .step .0)
         (λ k. CrossesBy (sheetIn (now (lines .entry)) (now (all .entry))) (standing b) l (standAt (now (table .entry)) k)) ⌝ }
 {
+    let to = end_of(lines, all, l, 1);
+    if to.0 != b.place.0 {
+        return;
+    }
     let step = Step(b.step.0 - 1);
     let c = corridor_at(lines, all, l, step);
     let price = c.cost;

@@ -17,6 +17,7 @@ use crate::marks::mark_of;
 use crate::marks::mark_ways;
 use crate::waits::waiting_row;
 use costs::corridor_at;
+use costs::end_of;
 use costs::sum;
 use costs::wait_at;
 use sheet::Place;
@@ -70,6 +71,10 @@ fn next_over(
         × (LowestOf (sheetIn (now lines) (now all)) n (now table) (standing at) l (standing best)) ⌝ }
     ensures { λ r. ⌜ LowestOf (sheetIn (now (lines .entry)) (now (all .entry))) n (now (table .entry)) (standing at) (l + 1) (standing r) ⌝ }
 {
+    let from = end_of(lines, all, l, 0);
+    if from.0 != at.place.0 {
+        return best;
+    }
     let c = corridor_at(lines, all, l, at.step);
     if !(c.open & (c.from.0 == at.place.0) & (c.to.0 < best.place.0)) {
         return best;

@@ -1,7 +1,8 @@
--- Tests that pass along two lists, position by position: the order of two rows, numbers outside their limits, and counts that are not 0.
+-- Tests that pass along two lists, position by position: the order of two rows, whether they are the same, numbers outside their limits, and counts
+-- that are not 0.
 -- What is left from a position on decides the same as the whole, as long as every position before it decided nothing.
 -- Assumes nothing.
-use mathlib.Core.Path.{_≡_, _∙_}
+use mathlib.Core.Path.{_≡_, sym, _∙_, ap}
 use mathlib.Core.Bool.{Bool, true, false, not, _||_}
 use mathlib.Core.List.{List, map}
 use Prim.Native.Nat.{ℕ, _+_, _≤_, _<_}
@@ -9,7 +10,7 @@ use native.Mathlib.Omega.{arith}
 use native.Mathlib.Numerals.{add-one}
 use lib.Dec.{ltb, eqb}
 use lib.ListN.{length, getD, take, drop, length-drop, drop-of-length-le}
-use lib.Seq.{drop-cons, getD-take, getD-drop, length-take-le}
+use lib.Seq.{drop-cons, getD-take, getD-drop, take-suc, length-take-le}
 use borrow.Author.Tests.{lt-ltb, le-ltb, eq-eqb, ne-eqb}
 use Rattle.sheet.specs.Lists.{any}
 use Rattle.sheet.specs.Computed.{lexb, after}
@@ -44,6 +45,18 @@ module _ (n : ℕ) (a : List ℕ) (at : ℕ) (b : List ℕ) (p : at + n ≤ leng
       let x : length (take n (drop at a)) ≤ i = omega (arith, row-length) in
       let y : length (take n b) ≤ i = omega (arith, length-take-le n b q) in
       rw (drop-of-length-le (take n (drop at a)) x, drop-of-length-le (take n b) y)
+
+-- the first numbers of a from `at` on and the first of b: number i of both
+module _ (a : List ℕ) (at : ℕ) (b : List ℕ) (i : ℕ) where
+  pub same-more : at + i < length a → i < length b → getD a (at + i) 0 ≡ getD b i 0 → take i (drop at a) ≡ take i b
+      → take (i + 1) (drop at a) ≡ take (i + 1) b
+  same-more p q e f =
+      let x : i < length (drop at a) = omega (arith, length-drop at a) in
+      rw (add-one, take-suc (drop at a) i 0 x, take-suc b i 0 q, getD-drop at a i 0, e, f)
+
+  pub same-not : (n : ℕ) → i < n → (getD a (at + i) 0 ≡ getD b i 0 → ⊥) → take n (drop at a) ≡ take n b → ⊥
+  same-not n h f e =
+      f (sym (getD-take n (drop at a) i 0 h ∙ getD-drop at a i 0) ∙ ap (λ (l : List ℕ). getD l i 0) e ∙ getD-take n b i 0 h)
 
 -- the first w limits and numbers, from position i on
 abbrev pub outsideFrom : ℕ → List ℕ → ℕ → List ℕ → ℕ → Bool

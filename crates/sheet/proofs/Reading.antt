@@ -12,7 +12,7 @@ use borrow.Author.Tests.{lt-ltb}
 use Rattle.sheet.specs.Decimal.{mostDigits}
 use Rattle.sheet.specs.Kinds.{Kind, kinds}
 use Rattle.sheet.specs.Lines.{Line, line}
-use Rattle.sheet.specs.Sheet.{sheetOf, groupsOf, linesFrom, lacking, Outcome, refused, loaded, judge, mostBytes, readOf}
+use Rattle.sheet.specs.Sheet.{Sheet, sheetOf, groupsOf, linesFrom, lacking, Outcome, refused, loaded, judge, mostBytes, readOf}
 use Rattle.sheet.specs.Calls.{readAnswer, readCall}
 use Rattle.sheet.specs.Store.{spread, StoreOf, VerdictIs, Blank}
 use Rattle.sheet.specs.Inner.{lineAt, Stored, Reached, Takes, LacksIs, Forms, LineIs, asParsed}
@@ -32,11 +32,11 @@ abbrev mostLines : List Kind → ℕ
 mostLines [] = 0
 mostLines (k ∷ ks) = k .most + mostLines ks
 
-runs-count : (p : List ℕ) (ks : List Kind) (gs : List (List (List ℕ))) → AllRuns p ks gs → length (linesFrom ks gs) ≤ mostLines ks
-runs-count p [] gs r = omega arith
-runs-count p (k ∷ ks) [] r = omega arith
-runs-count p (k ∷ ks) (g ∷ gs) r =
-    omega (arith, length-append (map (line k) g) (linesFrom ks gs), length-map g (line k), r .0 .few, runs-count p ks gs (r .1))
+runs-count : (s : Sheet) (ks : List Kind) (gs : List (List (List ℕ))) → AllRuns s ks gs → length (linesFrom ks gs) ≤ mostLines ks
+runs-count s [] gs r = omega arith
+runs-count s (k ∷ ks) [] r = omega arith
+runs-count s (k ∷ ks) (g ∷ gs) r =
+    omega (arith, length-append (map (line k) g) (linesFrom ks gs), length-map g (line k), r .0 .few, runs-count s ks gs (r .1))
 
 pub stored-few : (before : List Line) (lines all : List ℕ) → Stored before lines all → length before ≤ 1000
 stored-few [] lines all s = omega arith
@@ -44,7 +44,7 @@ stored-few (l ∷ ls) lines all s =
     let h = sheetOf (l ∷ ls) in
     omega (
       arith,
-      runs-count (h .head) kinds (groupsOf h) (lines-runs (l ∷ ls) (s .shaped) (s .passes) (omega arith)),
+      runs-count h kinds (groupsOf h) (lines-runs (l ∷ ls) (s .shaped) (s .passes) (omega arith)),
       ap length (lines-sheet (l ∷ ls) (s .shaped) (s .passes) (omega arith)),
     )
 

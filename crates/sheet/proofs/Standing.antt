@@ -12,9 +12,9 @@ use lib.ListN.{length, getD, take, drop}
 use lib.Seq.{take-at, drop-append-add, drop-drop}
 use borrow.Author.Tests.{eq-eqb}
 use Rattle.sheet.specs.Lists.{number, _∈_, filter, flat}
-use Rattle.sheet.specs.Kinds.{Kind, width, kindS, kinds}
+use Rattle.sheet.specs.Kinds.{Kind, width, kindS, kindC, kinds}
 use Rattle.sheet.specs.Lines.{Line}
-use Rattle.sheet.specs.Sheet.{group, linesFrom, headIn, latest, lacking}
+use Rattle.sheet.specs.Sheet.{Sheet, group, linesFrom, headIn, latest, lacking}
 use Rattle.sheet.specs.Laws.Groups.{isKind, groupsIn, head-group, passes-sorted, lines-groups}
 use Rattle.sheet.specs.Store.{kindCount, kindAt, baseOf, storeRoom}
 use Rattle.sheet.specs.Inner.{Stored, RowIs, RowFits}
@@ -23,7 +23,7 @@ use Rattle.sheet.specs.Laws.Rows.{Wide}
 use Rattle.sheet.specs.Laws.Judge.{Passes}
 use Rattle.sheet.specs.Laws.Shape.{AllShaped}
 use Rattle.sheet.specs.Laws.Kinds.{width-small, most-small, key-inside, kinds-ascend}
-use Rattle.sheet.specs.Laws.Runs.{AllRuns, passes-runs}
+use Rattle.sheet.specs.Laws.Runs.{passes-runs}
 use Rattle.sheet.specs.Laws.Cells.{Held, held-run, held-count, held-length, held-few, held-part}
 use Rattle.sheet.specs.declared.kinds.Row.{Row}
 
@@ -54,15 +54,19 @@ group-at before [] k h = absurd (omega arith)
 group-at before (j ∷ ks) zero h = refl
 group-at before (j ∷ ks) (suc k) h = group-at before ks k (omega arith)
 
+-- a sheet with the S line and the corridors of the lines so far
+abbrev soFar : List Line → Sheet
+soFar ls = record { head = headIn ls; corridors = group kindC ls; closures = []; occupancies = [] }
+
 module _ {before : List Line} {lines all : List ℕ} (S : Stored before lines all) where
-  pub stored-held : Held (headIn before) (groupsIn kinds before) lines all
+  pub stored-held : Held (soFar before) (groupsIn kinds before) lines all
   stored-held =
       let e : linesFrom kinds (groupsIn kinds before) ≡ before =
       lines-groups kinds before kinds-ascend (passes-sorted before (S .passes)) (λ l i. S .shaped l i .known) in
       record {
         each = refl;
-        runs = subst (λ (ls : List Line). AllRuns (headIn ls) kinds (groupsIn kinds before)) e
-            (passes-runs kinds (groupsIn kinds before) kinds-ascend (subst AllShaped (sym e) (S .shaped)) (subst (Passes []) (sym e) (S .passes)));
+        runs = passes-runs (soFar before) kinds (groupsIn kinds before) kinds-ascend (subst AllShaped (sym e) (S .shaped)) (subst (Passes []) (sym e) (S .passes))
+            (record { head-is = ap headIn e; corridors-are = ap (group kindC) e });
         counts = S .counts;
         cells = S .cells;
       }

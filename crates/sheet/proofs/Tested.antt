@@ -13,17 +13,23 @@ use lib.Seq.{getD-take, getD-drop, take-take}
 use borrow.Author.Tests.{ltb-true, ltb-false, eq-eqb, ne-eqb, eqb-true, eqb-false, not-false}
 use Rattle.sheet.specs.Lists.{pick, number, any, flat}
 use Rattle.sheet.specs.Computed.{lexb}
-use Rattle.sheet.specs.Kinds.{width, kindS, kindO}
+use Rattle.sheet.specs.Kinds.{width, kindS, kindC, kindX, kindO}
 use Rattle.sheet.specs.Lines.{Line}
-use Rattle.sheet.specs.Sheet.{first, group, misplaced, tooMany, outside, headIn, unpaired, late, latest, notAbove}
+use Rattle.sheet.specs.Sheet.{from, to, first, group, misplaced, tooMany, outside, headIn, unpaired, unknown, late, latest, notAbove}
 use Rattle.sheet.specs.Store.{kindCount, kindAt}
+use Rattle.sheet.specs.Seek.{Listed}
 use Rattle.sheet.specs.Inner.{limitAt, pairAt, lineAt, misplacedBy, lateBy, notAboveBy, RowIs, Stored}
+use Rattle.sheet.specs.Laws.Order.{and-true, true-and, bool-same}
+use Rattle.sheet.specs.Laws.Decided.{Decided, yes-of, is-yes}
+use Rattle.sheet.specs.Laws.Members.{any-mem, mem-any}
+use Rattle.sheet.specs.Laws.Keys.{GroupIs, listed-in, in-listed}
 use Rattle.sheet.specs.Laws.Passed.{or-false, any-false, false-any}
 use Rattle.sheet.specs.Laws.Kinds.{order-at, kind-at, order-below, key-inside}
 use Rattle.sheet.specs.Laws.Groups.{group-none, first-head, head-group}
 use Rattle.sheet.specs.declared.kinds.Row.{Row}
+use Rattle.sheet.specs.declared.seek.Group.{Group}
 use Rattle.sheet.proofs.Passing.{counted}
-use Rattle.sheet.proofs.Standing.{group-some, count-is, lines-length, last-is, part-is, head-count}
+use Rattle.sheet.proofs.Standing.{group-some, stored-held, group-wide, count-is, lines-length, last-is, part-is, head-count}
 
 -- two tests that fail alike
 same-fails : (a b : Bool) → (a ≡ false → b ≡ false) → (b ≡ false → a ≡ false) → a ≡ b
@@ -159,3 +165,51 @@ late-is {before = before} {all = all} S {k = k} h v m =
         let z : k ≡ kindO .order = eqb-true k (kindO .order) q in
         let w : 1 < width (kindAt k) = omega (arith, ap (λ (j : ℕ). width (kindAt j)) z) in
         rw (head-is S h v 1 (omega arith) m, ne-eqb k 0 (λ e. omega arith), getD-take (width (kindAt k)) v 1 0 w)
+
+-- the first two numbers of lines are their ends
+ends-same : (n v : List ℕ) → take 2 n ≡ take 2 v → (from n ≡ from v) × (to n ≡ to v)
+ends-same n v e =
+    let at : (i : ℕ) → i < 2 → number n i ≡ number v i = λ i l. sym (getD-take 2 n i 0 l) ∙ ap (λ (x : List ℕ). number x i) e ∙ getD-take 2 v i 0 l in
+    (at 0 (omega arith), at 1 (omega arith))
+
+same-ends : (n v : List ℕ) → 2 ≤ length n → 2 ≤ length v → from n ≡ from v → to n ≡ to v → take 2 n ≡ take 2 v
+same-ends [] v a b p q = absurd (omega arith)
+same-ends (x ∷ []) v a b p q = absurd (omega arith)
+same-ends (x ∷ y ∷ n) [] a b p q = absurd (omega arith)
+same-ends (x ∷ y ∷ n) (z ∷ []) a b p q = absurd (omega arith)
+same-ends (x ∷ y ∷ n) (z ∷ w ∷ v) a b p q = cc
+
+-- test 15: a line that is no closure passes; a closure fails where no corridor in the array has its ends
+module _ {before : List Line} {lines all : List ℕ} (S : Stored before lines all) {k : ℕ} (h : k < kindCount) (v : List ℕ) where
+  abbrev names : List ℕ → Bool
+  names c = eqb (from c) (from (take (width (kindAt k)) v)) && eqb (to c) (to (take (width (kindAt k)) v))
+
+  unknown-of : unknown (group kindC before) (lineAt k v) ≡ eqb k (kindX .order) && not (any names (group kindC before))
+  unknown-of = ap (λ (o : ℕ). eqb o (kindX .order) && not (any names (group kindC before))) (order-at k h)
+
+  pub unknown-other : (k ≡ kindX .order → ⊥) → false ≡ unknown (group kindC before) (lineAt k v)
+  unknown-other n = sym (unknown-of ∙ rw (ne-eqb k (kindX .order) n))
+
+  module _ (e : k ≡ kindX .order) (l : length v ≡ 8) {g : Group} (G : GroupIs lines (kindC .order) g) where
+    number-is : (i : ℕ) → i < 2 → number (take (width (kindAt k)) v) i ≡ number v i
+    number-is i b = getD-take (width (kindAt k)) v i 0 (omega (arith, ap (λ (j : ℕ). width (kindAt j)) e))
+
+    listed-named : Listed all g v → any names (group kindC before) ≡ true
+    listed-named x =
+        let r = listed-in (stored-held S) (kindC .order) (omega arith) G v x in
+        let q = ends-same (r .0) v (r .2) in
+        mem-any names (group kindC before) (r .0) (r .1)
+        (true-and (eqb (from (r .0)) (from (take (width (kindAt k)) v))) (eqb (to (r .0)) (to (take (width (kindAt k)) v)))
+        (eq-eqb _ _ (q .0 ∙ sym (number-is 0 (omega arith)))) (eq-eqb _ _ (q .1 ∙ sym (number-is 1 (omega arith)))))
+
+    named-listed : any names (group kindC before) ≡ true → Listed all g v
+    named-listed x =
+        let r = any-mem names (group kindC before) x in
+        let q = and-true (eqb (from (r .0)) (from (take (width (kindAt k)) v))) (eqb (to (r .0)) (to (take (width (kindAt k)) v))) (r .2) in
+        in-listed (stored-held S) (kindC .order) (omega arith) G v (r .0) (r .1)
+        (same-ends (r .0) v (omega (arith, group-wide S {k = kindC .order} (omega arith) (r .0) (r .1))) (omega arith)
+        (eqb-true _ _ (q .0) ∙ number-is 0 (omega arith)) (eqb-true _ _ (q .1) ∙ number-is 1 (omega arith)))
+
+    pub unknown-sought : {b : Bool} → Decided (Listed all g v) b → not b ≡ unknown (group kindC before) (lineAt k v)
+    unknown-sought {b} d =
+        sym (unknown-of ∙ rw (eq-eqb k (kindX .order) e) (ap not (bool-same (any names (group kindC before)) b (λ t. is-yes d (named-listed t)) (λ t. listed-named (yes-of d t)))))

@@ -116,19 +116,23 @@ module _ (g : Groups) (e : length (g .head) ≡ width kindS) where
   abbrev pub cs : List Line
   cs = groupLines 1 (g .corridors)
 
-  abbrev pub os : List Line
-  os = groupLines 2 (g .occupancies)
+  abbrev pub xs : List Line
+  xs = groupLines 2 (g .closures)
 
-  lines-of : map some (sheetLines (sheetOfGroups g)) ≡ map some (groupLines 0 (g .head)) ++ (map some cs ++ (map some os ++ []))
+  abbrev pub os : List Line
+  os = groupLines 3 (g .occupancies)
+
+  lines-of : map some (sheetLines (sheetOfGroups g)) ≡ map some (groupLines 0 (g .head)) ++ (map some cs ++ (map some xs ++ (map some os ++ [])))
   lines-of =
-      ap (λ (ls : List Line). map some (ls ++ (cs ++ (os ++ [])))) (sym head-lines)
-      ∙ sym (append-nil (map some (groupLines 0 (g .head) ++ (cs ++ (os ++ [])))))
-      ∙ map-append (groupLines 0 (g .head)) (cs ++ (os ++ [])) []
-      ∙ ap (λ (ls : List (Option Line)). map some (groupLines 0 (g .head)) ++ ls)
-      (map-append cs (os ++ []) [] ∙ ap (λ (ls : List (Option Line)). map some cs ++ ls) (ap (λ (ls : List Line). map some ls ++ []) (append-nil os)))
+      ap (λ (ls : List Line). map some (ls ++ (cs ++ (xs ++ (os ++ []))))) (sym head-lines)
+      ∙ sym (append-nil (map some (groupLines 0 (g .head) ++ (cs ++ (xs ++ (os ++ []))))))
+      ∙ map-append (groupLines 0 (g .head)) (cs ++ (xs ++ (os ++ []))) []
+      ∙ ap (λ (ls : List (Option Line)). map some (groupLines 0 (g .head)) ++ ls) (map-append cs (xs ++ (os ++ [])) []
+      ∙ ap (λ (ls : List (Option Line)). map some cs ++ ls) (map-append xs (os ++ []) []
+      ∙ ap (λ (ls : List (Option Line)). map some xs ++ ls) (ap (λ (ls : List Line). map some ls ++ []) (append-nil os))))
 
   pub groups-start : {lines all : List ℕ} {v : Verdict} → Blank lines all → NoneSoFar v 1
-      → SoFar (judgedGroups g) (map some (groupLines 0 (g .head)) ++ (map some cs ++ (map some os ++ []))) lines all v
+      → SoFar (judgedGroups g) (map some (groupLines 0 (g .head)) ++ (map some cs ++ (map some xs ++ (map some os ++ [])))) lines all v
   unfolding judgedGroups
   groups-start {lines} {all} {v} b e =
       subst (λ (t : List (Option Line)). SoFar (judgedGroups g) t lines all v) lines-of (so-far (reached-start b (map some (sheetLines (sheetOfGroups g)))) e)

@@ -11,9 +11,9 @@ use Rattle.sheet.specs.Lists.{pick, number, any, rows, bind}
 use Rattle.sheet.specs.Computed.{lexb}
 use Rattle.sheet.specs.Bytes.{kindOf, comma, split}
 use Rattle.sheet.specs.Decimal.{digitsFrom, numberOf, mostDigits}
-use Rattle.sheet.specs.Kinds.{Limit, between, place, cost, Pair, alone, different, ordered, Kind, width, kindS, kindO, kinds}
+use Rattle.sheet.specs.Kinds.{Limit, between, place, cost, Pair, alone, different, ordered, Kind, width, kindS, kindC, kindO, kinds}
 use Rattle.sheet.specs.Lines.{Line, line, lineOf}
-use Rattle.sheet.specs.Sheet.{Sheet, group, fault, lacking, Outcome, refused, loaded, judge}
+use Rattle.sheet.specs.Sheet.{Sheet, group, unknown, fault, lacking, Outcome, refused, loaded, judge}
 use Rattle.sheet.specs.Text.{lineText, sheetText}
 use Rattle.sheet.specs.Calls.{readAnswer, groupRows}
 use Rattle.sheet.specs.Store.{kindAt, baseOf, spread, StoreOf, VerdictIs}
@@ -84,6 +84,10 @@ pub record Kept (lines all : List ℕ) : Type 0 where
 -- n is the fault of the line l after the lines in the array
 pub record FaultIs (lines all : List ℕ) (l : Line) (n : ℕ) : Type 0 where
   pub of : (before : List Line) → Stored before lines all → n ≡ fault before l
+
+-- b tells whether the line of kind number k names no corridor in the array (test 15)
+pub record UnknownIs (lines all : List ℕ) (k : ℕ) (v : List ℕ) (b : Bool) : Type 0 where
+  pub of : (before : List Line) → Stored before lines all → b ≡ unknown (group kindC before) (lineAt k v)
 
 -- b tells whether something is missing where the input ends
 pub record LacksIs (lines : List ℕ) (b : Bool) : Type 0 where

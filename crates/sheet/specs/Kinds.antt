@@ -1,6 +1,7 @@
--- The kinds of lines, one row each, as document 01, "The sheet", lists them, with u by document 02, E2:
+-- The kinds of lines, one row each, as document 01, "The sheet", lists them, with u by document 02, E2, and X lines by E5:
 --   `S,places,steps,start,goal,w1,w2,w3,u`   once, first
 --   `C,from,to,c1,c2,c3`                     up to 256, strictly ascending by (from, to)
+--   `X,from,to,step`                         up to 256, strictly ascending by (from, to, step), between C and O
 --   `O,place,first,last`                     up to 256, strictly ascending by (place, first, last)
 use mathlib.Core.List.{List, [], _∷_}
 use Prim.Native.Nat.{ℕ, _*_}
@@ -53,8 +54,11 @@ kindS = record { letter = 83; limits = between 1 64 ∷ step ∷ place ∷ place
 abbrev pub kindC : Kind
 kindC = record { letter = 67; limits = place ∷ place ∷ cost ∷ cost ∷ cost ∷ []; most = 256; pair = different 0 1; key = 2; order = 1 }
 
+abbrev pub kindX : Kind
+kindX = record { letter = 88; limits = place ∷ place ∷ step ∷ []; most = 256; pair = different 0 1; key = 3; order = 2 }
+
 abbrev pub kindO : Kind
-kindO = record { letter = 79; limits = place ∷ step ∷ step ∷ []; most = 256; pair = ordered 1 2; key = 3; order = 2 }
+kindO = record { letter = 79; limits = place ∷ step ∷ step ∷ []; most = 256; pair = ordered 1 2; key = 3; order = 3 }
 
 abbrev pub kinds : List Kind
-kinds = kindS ∷ kindC ∷ kindO ∷ []
+kinds = kindS ∷ kindC ∷ kindX ∷ kindO ∷ []

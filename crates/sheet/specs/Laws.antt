@@ -18,7 +18,9 @@ pub mod Runs
 pub mod Groups
 pub mod Valid
 pub mod Cells
+pub mod Keys
 pub mod Store
+pub mod Seek
 pub mod TextBound
 pub mod RoundTrip
 pub mod Ascii

@@ -11,6 +11,7 @@ pub mod Text
 pub mod Valid
 pub mod Calls
 pub mod Store
+pub mod Seek
 pub mod Inner
 pub mod LineEnds
 pub mod Laws

@@ -1,4 +1,4 @@
--- The sheet: its groups, the tests of a line, and what bytes read as (document 01, "The sheet" and "Who causes which refusal"; document 02, E2 and E6).
+-- The sheet: its groups, the tests of a line, and what bytes read as (document 01, "The sheet" and "Who causes which refusal"; document 02, E2, E5 and E6).
 -- The lines before a line are given whole, in the order of the sheet.
 use mathlib.Core.Bool.{Bool, true, false, not, _&&_, _||_}
 use mathlib.Core.List.{List, [], _∷_, _++_, map}
@@ -9,13 +9,14 @@ use lib.ListN.{length, take}
 use Rattle.sheet.specs.Lists.{pick, number, filter, any, flat}
 use Rattle.sheet.specs.Computed.{lexb}
 use Rattle.sheet.specs.Decimal.{mostDigits}
-use Rattle.sheet.specs.Kinds.{Limit, between, place, Pair, alone, different, ordered, Kind, kindS, kindC, kindO, kinds}
+use Rattle.sheet.specs.Kinds.{Limit, between, place, Pair, alone, different, ordered, Kind, kindS, kindC, kindX, kindO, kinds}
 use Rattle.sheet.specs.Lines.{Line, line, textLines}
 
--- the three groups: the numbers of the S line, of each C line and of each O line
+-- the four groups: the numbers of the S line, of each C line, of each X line and of each O line
 pub record Sheet : Type 0 where
   pub head : List ℕ
   pub corridors : List (List ℕ)
+  pub closures : List (List ℕ)
   pub occupancies : List (List ℕ)
 
 -- `S,places,steps,start,goal,w1,w2,w3,u`
@@ -34,12 +35,15 @@ goal s = number (s .head) 3
 abbrev pub unload : Sheet → ℕ
 unload s = number (s .head) 7
 
--- `C,from,to,c1,c2,c3`
+-- `C,from,to,c1,c2,c3`, and `X,from,to,step`
 abbrev pub from : List ℕ → ℕ
 from k = number k 0
 
 abbrev pub to : List ℕ → ℕ
 to k = number k 1
+
+abbrev pub departure : List ℕ → ℕ
+departure x = number x 2
 
 -- `O,place,first,last`
 abbrev pub placeOf : List ℕ → ℕ
@@ -57,11 +61,11 @@ group k ls = map (λ l. l .numbers) (filter (λ l. eqb (l .kind .order) (k .orde
 
 -- the sheet with these lines
 abbrev pub sheetOf : List Line → Sheet
-sheetOf ls = record { head = flat (group kindS ls); corridors = group kindC ls; occupancies = group kindO ls }
+sheetOf ls = record { head = flat (group kindS ls); corridors = group kindC ls; closures = group kindX ls; occupancies = group kindO ls }
 
 -- the groups of a sheet, in the order of kinds
 abbrev pub groupsOf : Sheet → List (List (List ℕ))
-groupsOf s = (s .head ∷ []) ∷ s .corridors ∷ s .occupancies ∷ []
+groupsOf s = (s .head ∷ []) ∷ s .corridors ∷ s .closures ∷ s .occupancies ∷ []
 
 -- the lines of groups, one group for each kind
 abbrev pub linesFrom : List Kind → List (List (List ℕ)) → List Line
@@ -69,7 +73,7 @@ linesFrom [] gs = []
 linesFrom (k ∷ ks) [] = []
 linesFrom (k ∷ ks) (g ∷ gs) = map (line k) g ++ linesFrom ks gs
 
--- the lines of a sheet: S, then the C lines, then the O lines
+-- the lines of a sheet: S, then the C lines, then the X lines, then the O lines
 abbrev pub sheetLines : Sheet → List Line
 sheetLines s = linesFrom kinds (groupsOf s)
 
@@ -98,11 +102,16 @@ abbrev pub headIn : List Line → List ℕ
 headIn [] = []
 headIn (l ∷ ls) = l .numbers
 
--- test 6: a corridor from a place to itself, or last below first
+-- test 6: a corridor or a closure from a place to itself, or last below first
 abbrev pub unpaired : Pair → List ℕ → Bool
 unpaired alone ns = false
 unpaired (different i j) ns = eqb (number ns i) (number ns j)
 unpaired (ordered i j) ns = ltb (number ns j) (number ns i)
+
+-- test 15 (document 02, E5): a closure that names none of these corridors
+abbrev pub unknown : List (List ℕ) → Line → Bool
+unknown cs l =
+    eqb (l .kind .order) (kindX .order) && not (any (λ k. eqb (from k) (from (l .numbers)) && eqb (to k) (to (l .numbers))) cs)
 
 -- test 16 (document 02, E6): an occupancy whose first step lies past the last step t
 abbrev pub late : ℕ → Line → Bool
@@ -126,6 +135,7 @@ tests before l =
     ∷ (7, tooMany before l)
     ∷ (4, outside (number (headIn (before ++ (l ∷ []))) 0) (l .kind .limits) (l .numbers))
     ∷ (6, unpaired (l .kind .pair) (l .numbers))
+    ∷ (15, unknown (group kindC before) l)
     ∷ (16, late (number (headIn (before ++ (l ∷ []))) 1) l)
     ∷ (5, notAbove (l .kind .key) (latest (group (l .kind) before)) (l .numbers))
     ∷ []
@@ -165,7 +175,7 @@ judge before (some l ∷ ls) =
 
 -- the most bytes of a sheet (refusal 1)
 abbrev pub mostBytes : ℕ
-mostBytes = 10240
+mostBytes = 16384
 
 -- what bytes read as
 unfoldable pub readOf : List ℕ → Outcome

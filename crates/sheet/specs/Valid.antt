@@ -1,4 +1,4 @@
--- A valid sheet: what document 01, "The sheet", and document 02, E2 and E6, ask of its numbers. Every sheet that is read is one (Laws.Valid).
+-- A valid sheet: what document 01, "The sheet", and document 02, E2, E5 and E6, ask of its numbers. Every sheet that is read is one (Laws.Valid).
 use mathlib.Core.Path.{_≡_}
 use mathlib.Core.Logic.{_≢_}
 use mathlib.Core.List.{List}
@@ -6,8 +6,8 @@ use Prim.Native.Nat.{ℕ, _≤_, _<_}
 use lib.ListN.{length, take}
 use Rattle.sheet.specs.Lists.{number, _∈_}
 use Rattle.sheet.specs.Sorting.{Ascending}
-use Rattle.sheet.specs.Kinds.{width, kindS, kindC, kindO}
-use Rattle.sheet.specs.Sheet.{Sheet, places, steps, start, goal, unload, from, to, placeOf, first, last}
+use Rattle.sheet.specs.Kinds.{width, kindS, kindC, kindX, kindO}
+use Rattle.sheet.specs.Sheet.{Sheet, places, steps, start, goal, unload, from, to, departure, placeOf, first, last}
 
 -- a corridor between two places, no figure above 60,000
 pub record ValidCorridor (s : Sheet) (k : List ℕ) : Type 0 where
@@ -16,6 +16,15 @@ pub record ValidCorridor (s : Sheet) (k : List ℕ) : Type 0 where
   pub to-place : to k < places s
   pub cost : (i : ℕ) → 2 ≤ i → number k i ≤ 60000
   pub apart : from k ≢ to k
+
+-- a closure of a corridor of the sheet, at a step of the day
+pub record ValidClosure (s : Sheet) (x : List ℕ) : Type 0 where
+  pub wide : length x ≡ width kindX
+  pub corridor : List ℕ
+  pub listed : corridor ∈ s .corridors
+  pub leaves : from corridor ≡ from x
+  pub enters : to corridor ≡ to x
+  pub in-day : departure x ≤ 255
 
 -- an occupancy of a place, from its first step, which is not past the last step of the sheet, to its last
 pub record ValidOccupancy (s : Sheet) (o : List ℕ) : Type 0 where
@@ -37,6 +46,9 @@ pub record Valid (s : Sheet) : Type 0 where
   pub corridors : (k : List ℕ) → k ∈ s .corridors → ValidCorridor s k
   pub most-corridors : length (s .corridors) ≤ kindC .most
   pub corridors-ascend : Ascending (take (kindC .key)) (s .corridors)
+  pub closures : (x : List ℕ) → x ∈ s .closures → ValidClosure s x
+  pub most-closures : length (s .closures) ≤ kindX .most
+  pub closures-ascend : Ascending (take (kindX .key)) (s .closures)
   pub occupancies : (o : List ℕ) → o ∈ s .occupancies → ValidOccupancy s o
   pub most-occupancies : length (s .occupancies) ≤ kindO .most
   pub occupancies-ascend : Ascending (take (kindO .key)) (s .occupancies)

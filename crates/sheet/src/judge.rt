@@ -1,4 +1,4 @@
-// The tests of a line after the lines before it (document 01, "Who causes which refusal"; document 02, E6): 3, 7, 4, 6, 16, 5. The lines before
+// The tests of a line after the lines before it (document 01, "Who causes which refusal"; document 02, E5 and E6): 3, 7, 4, 6, 15, 16, 5. The lines before
 // stand in the array of all groups, so that a test may look at each of them.
 ghost use mathlib.Core.Path.{_≡_};
 ghost use mathlib.Core.List.{map};
@@ -6,20 +6,26 @@ ghost use Prim.Native.Nat.{_+_, _≤_, _<_};
 ghost use lib.Dec.{eqb};
 ghost use lib.ListN.{length, getD, take, drop};
 ghost use Rattle.sheet.specs.Lists.{pick};
-ghost use Rattle.sheet.specs.Computed.{lexb};
 ghost use Rattle.sheet.specs.Sheet.{beyond, outside, unpaired};
 ghost use Rattle.sheet.specs.Store.{kindCount};
-ghost use Rattle.sheet.specs.Inner.{limitAt, pairAt, lineAt, misplacedBy, lateBy, notAboveBy, RowFits, Kept, LacksIs, FaultIs};
+ghost use Rattle.sheet.specs.Inner.{limitAt, pairAt, lineAt, misplacedBy, UnknownIs, lateBy, notAboveBy, RowFits, Kept, LacksIs, FaultIs};
 use crate::kinds::ALONE;
+use crate::kinds::C_LINE;
+use crate::kinds::CORRIDOR;
 use crate::kinds::COST;
 use crate::kinds::COUNT;
 use crate::kinds::DIFFERENT;
+use crate::kinds::FIRST_CORRIDOR;
 use crate::kinds::KINDS;
 use crate::kinds::O_LINE;
 use crate::kinds::PLACE;
 use crate::kinds::Row;
 use crate::kinds::S_LINE;
+use crate::kinds::X_LINE;
 use crate::kinds::row_of;
+use crate::seek::Group;
+use crate::seek::holds;
+use crate::seek::is_before;
 
 // Test 3: no S line first, a second S, or a line after one of a later kind.
 fn is_misplaced(lines: &[u32], kind: usize) -> bool
@@ -84,7 +90,7 @@ fn places_with(all: &[u32], kind: usize, values: [u32; 8]) -> u32
     all[0]
 }
 
-// Test 6: a corridor from a place to itself, or last below first.
+// Test 6: a corridor or a closure from a place to itself, or last below first.
 fn is_unpaired(pair: u8, one: usize, other: usize, values: [u32; 8]) -> bool
     requires { ⌜ (one < 8) × (other < 8) ⌝ }
     ensures { λ r. ⌜ r ≡ unpaired (pairAt pair one other) values ⌝ }
@@ -98,30 +104,29 @@ fn is_unpaired(pair: u8, one: usize, other: usize, values: [u32; 8]) -> bool
     values[other] < values[one]
 }
 
+// Test 15: a closure that names no corridor in the array.
+fn is_unknown(lines: &[u32], all: &[u32], kind: usize, values: [u32; 8]) -> bool
+    requires { ⌜ (kind < kindCount) × (Kept (now lines) (now all)) ⌝ }
+    ensures { λ r. ⌜ UnknownIs (now (lines .entry)) (now (all .entry)) kind values r ⌝ }
+{
+    if kind != X_LINE {
+        return false;
+    }
+    let corridors = Group {
+        base: FIRST_CORRIDOR,
+        width: CORRIDOR,
+        count: lines[C_LINE] as usize,
+        key: 2,
+    };
+    !holds(all, corridors, values)
+}
+
 // Test 16: an occupancy that begins after the last step, the second number of the S line.
 fn is_late(all: &[u32], kind: usize, values: [u32; 8]) -> bool
     requires { ⌜ 2 ≤ length (now all) ⌝ }
     ensures { λ r. ⌜ r ≡ lateBy (now (all .entry)) kind values ⌝ }
 {
     (kind == O_LINE) & (all[1] < values[1])
-}
-
-// Whether the n numbers of a from `at` on stand before the first n of b.
-fn is_before(a: &[u32], at: usize, b: [u32; 8], n: usize) -> bool
-    requires { ⌜ (n ≤ 8) × (at + n ≤ length (now a)) ⌝ }
-    ensures { λ r. ⌜ r ≡ lexb (take n (drop at (now (a .entry)))) (take n b) ⌝ }
-{
-    let mut i = 0;
-    while i < n {
-        if a[at + i] < b[i] {
-            return true;
-        }
-        if b[i] < a[at + i] {
-            return false;
-        }
-        i += 1;
-    }
-    false
 }
 
 // Test 5: not above the last of the n lines of its kind.
@@ -155,6 +160,9 @@ pub fn fault_of(lines: &[u32], all: &[u32], kind: usize, values: [u32; 8]) -> u3
     }
     if is_unpaired(row.pair, row.one, row.other, values) {
         return 6;
+    }
+    if is_unknown(lines, all, kind, values) {
+        return 15;
     }
     if is_late(all, kind, values) {
         return 16;

@@ -9,30 +9,38 @@ pub const S_LINE: usize = 0;
 
 pub const C_LINE: usize = 1;
 
-pub const O_LINE: usize = 2;
+pub const X_LINE: usize = 2;
 
-pub const KINDS: usize = 3;
+pub const O_LINE: usize = 3;
+
+pub const KINDS: usize = 4;
 
 // The numbers of a line of each kind, and of the most lines of it.
 pub const HEAD: usize = 8;
 
 pub const CORRIDOR: usize = 5;
 
+pub const CLOSURE: usize = 3;
+
 pub const OCCUPANCY: usize = 3;
 
 pub const CORRIDORS: usize = 256 * CORRIDOR;
 
+pub const CLOSURES: usize = 256 * CLOSURE;
+
 pub const OCCUPANCIES: usize = 256 * OCCUPANCY;
 
-// Where the groups of C and O lines begin in the array of all groups, and its length.
+// Where the groups of C, X and O lines begin in the array of all groups, and its length.
 pub const FIRST_CORRIDOR: usize = HEAD;
 
-pub const FIRST_OCCUPANCY: usize = FIRST_CORRIDOR + CORRIDORS;
+pub const FIRST_CLOSURE: usize = FIRST_CORRIDOR + CORRIDORS;
+
+pub const FIRST_OCCUPANCY: usize = FIRST_CLOSURE + CLOSURES;
 
 pub const STORE: usize = FIRST_OCCUPANCY + OCCUPANCIES;
 
 // The most bytes of a sheet: `mostBytes` of specs/Sheet.antt.
-pub const MOST_BYTES: usize = 10240;
+pub const MOST_BYTES: usize = 16384;
 
 // The most digits of a number.
 pub const DIGITS: usize = 5;
@@ -104,9 +112,26 @@ fn corridor_row() -> Row
     }
 }
 
+// The row of X lines.
+fn closure_row() -> Row
+    ensures { λ r. ⌜ RowIs 2 r ⌝ }
+{
+    Row {
+        letter: b'X',
+        width: CLOSURE,
+        limits: [PLACE, PLACE, STEP, 0, 0, 0, 0, 0],
+        most: 256,
+        pair: DIFFERENT,
+        one: 0,
+        other: 1,
+        key: 3,
+        base: FIRST_CLOSURE,
+    }
+}
+
 // The row of O lines.
 fn occupancy_row() -> Row
-    ensures { λ r. ⌜ RowIs 2 r ⌝ }
+    ensures { λ r. ⌜ RowIs 3 r ⌝ }
 {
     Row {
         letter: b'O',
@@ -131,6 +156,9 @@ pub fn row_of(k: usize) -> Row
     }
     if k == C_LINE {
         return corridor_row();
+    }
+    if k == X_LINE {
+        return closure_row();
     }
     occupancy_row()
 }

@@ -3,6 +3,7 @@
 pub mod bytes; // bytes.rt: the kinds of bytes
 pub mod kinds; // kinds.rt: the kinds of lines, by their numbers
 pub mod lines; // lines.rt: what the bytes of a line stand for
+pub mod seek; // seek.rt: a line sought by its first numbers
 pub mod judge; // judge.rt: the tests of a line
 pub mod store; // store.rt: the lines so far, in one array
 pub mod text; // text.rt: what is written of numbers and lines
@@ -10,6 +11,7 @@ pub mod line_reader; // line_reader.rt: a sheet's bytes and a position in them
 pub mod reader; // reader.rt: from bytes to the groups
 pub mod writer; // writer.rt: from the groups to bytes
 
+use crate::kinds::CLOSURES;
 use crate::kinds::CORRIDORS;
 use crate::kinds::HEAD;
 use crate::kinds::KINDS;
@@ -29,6 +31,7 @@ pub struct SheetRead {
     pub lines: [u32; KINDS],
     pub head: [u32; HEAD],
     pub corridors: [u32; CORRIDORS],
+    pub closures: [u32; CLOSURES],
     pub occupancies: [u32; OCCUPANCIES],
 }
 

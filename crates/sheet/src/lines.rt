@@ -126,18 +126,20 @@ fn bad_line() -> Parsed
     }
 }
 
-// The position of the letter c, or the count of letters where it is none of them.
+// The position of the letter c, or the count of letters where it is none of them. All letters are looked at, from the last: with a way out at the
+// first that is c, the compiler makes a table of constants for four letters.
 fn position(letters: &[u8], c: u8) -> usize
     ensures { λ r. ⌜ r ≡ positionOf c (now (letters .entry)) ⌝ }
 {
-    let mut k = 0;
-    while k < letters.len() {
+    let mut found = letters.len();
+    let mut k = letters.len();
+    while 0 < k {
+        k -= 1;
         if letters[k] == c {
-            return k;
+            found = k;
         }
-        k += 1;
     }
-    k
+    found
 }
 
 // The line that the bytes of l are, without a line feed, among lines with these letters and counts of numbers of at most `most` digits.

@@ -9,8 +9,10 @@ ghost use Rattle.sheet.specs.Inner.{Forms, AnswerIs, NoneSoFar, EndedIs}
 ghost use Rattle.sheet.specs.LineEnds.{EndIs, ReadUpTo, stopped, TurnIs, OverIs};
 use crate::SheetRead;
 use crate::judge::lacks;
+use crate::kinds::CLOSURES;
 use crate::kinds::CORRIDORS;
 use crate::kinds::DIGITS;
+use crate::kinds::FIRST_CLOSURE;
 use crate::kinds::FIRST_CORRIDOR;
 use crate::kinds::FIRST_OCCUPANCY;
 use crate::kinds::HEAD;
@@ -196,6 +198,7 @@ fn refuse(number: u32, line: u32) -> SheetRead
         lines: [0u32; KINDS],
         head: [0u32; HEAD],
         corridors: [0u32; CORRIDORS],
+        closures: [0u32; CLOSURES],
         occupancies: [0u32; OCCUPANCIES],
     }
 }
@@ -219,9 +222,11 @@ fn handed_back(lines: [u32; KINDS], all: &[u32]) -> SheetRead
 {
     let mut head = [0u32; HEAD];
     let mut corridors = [0u32; CORRIDORS];
+    let mut closures = [0u32; CLOSURES];
     let mut occupancies = [0u32; OCCUPANCIES];
     copy(&all[..FIRST_CORRIDOR], &mut head);
-    copy(&all[FIRST_CORRIDOR..FIRST_OCCUPANCY], &mut corridors);
+    copy(&all[FIRST_CORRIDOR..FIRST_CLOSURE], &mut corridors);
+    copy(&all[FIRST_CLOSURE..FIRST_OCCUPANCY], &mut closures);
     copy(&all[FIRST_OCCUPANCY..STORE], &mut occupancies);
     SheetRead {
         refusal: 0,
@@ -229,6 +234,7 @@ fn handed_back(lines: [u32; KINDS], all: &[u32]) -> SheetRead
         lines,
         head,
         corridors,
+        closures,
         occupancies,
     }
 }

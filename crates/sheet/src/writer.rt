@@ -9,6 +9,7 @@ ghost use Rattle.sheet.specs.Store.{kindCount, Blank, SomeStore, Verdict
 ghost use Rattle.sheet.specs.Inner.{Ready, GroupTaken};
 use crate::SheetWritten;
 use crate::kinds::C_LINE;
+use crate::kinds::CLOSURE;
 use crate::kinds::CORRIDOR;
 use crate::kinds::HEAD;
 use crate::kinds::KINDS;
@@ -16,6 +17,7 @@ use crate::kinds::O_LINE;
 use crate::kinds::OCCUPANCY;
 use crate::kinds::S_LINE;
 use crate::kinds::STORE;
+use crate::kinds::X_LINE;
 use crate::kinds::row_of;
 use crate::reader::Verdict;
 use crate::reader::ended;
@@ -71,17 +73,19 @@ fn take_group(lines: &mut [u32], all: &mut [u32], k: usize, g: &[u32], judged: V
 fn take_groups(
     head: &[u32],
     corridors: &[u32],
+    closures: &[u32],
     occupancies: &[u32],
     lines: &mut [u32],
     all: &mut [u32],
 ) -> Verdict
     requires { ⌜ (length (now head) ≡ width kindS) × (Blank (now lines) (now all)) ⌝ }
-    ensures { λ r. ⌜ VerdictIs (judgedGroups (groups (now (head .entry)) (now (corridors .entry)) (now (occupancies .entry))))
+    ensures { λ r. ⌜ VerdictIs (judgedGroups (groups (now (head .entry)) (now (corridors .entry)) (now (closures .entry)) (now (occupancies .entry))))
         (now (lines .exit)) (now (all .exit)) r ⌝ }
 {
     let s = take_group(lines, all, S_LINE, head, passed(1));
     let c = take_group(lines, all, C_LINE, corridors, s);
-    let o = take_group(lines, all, O_LINE, occupancies, c);
+    let x = take_group(lines, all, X_LINE, closures, c);
+    let o = take_group(lines, all, O_LINE, occupancies, x);
     ended(lines, o)
 }
 
@@ -112,20 +116,28 @@ pub fn write_stored(lines: &[u32], all: &[u32], out: &mut [u8]) -> SheetWritten
     }
 }
 
-// Writes the sheet of the groups: the S line's numbers, and those of each corridor and of each occupancy. Hands back the count of bytes, or one
+// Writes the sheet of the groups: the S line's numbers, and those of each corridor, of each closure and of each occupancy. Hands back the count of bytes, or one
 // numbered refusal with the line at fault; the buffer past the bytes is kept, and a refusal writes nothing.
-pub fn write(head: &[u32], corridors: &[u32], occupancies: &[u32], out: &mut [u8]) -> SheetWritten
-    ensures { λ r. ⌜ writeEnd r (now (out .exit)) ≡ writeCall (now (head .entry)) (now (corridors .entry)) (now (occupancies .entry)) (now (out .entry)) ⌝ }
+pub fn write(
+    head: &[u32],
+    corridors: &[u32],
+    closures: &[u32],
+    occupancies: &[u32],
+    out: &mut [u8],
+) -> SheetWritten
+    ensures { λ r. ⌜ writeEnd r (now (out .exit))
+        ≡ writeCall (now (head .entry)) (now (corridors .entry)) (now (closures .entry)) (now (occupancies .entry)) (now (out .entry)) ⌝ }
 {
     if (head.len() != HEAD)
         | (corridors.len() % CORRIDOR != 0)
+        | (closures.len() % CLOSURE != 0)
         | (occupancies.len() % OCCUPANCY != 0)
     {
         return refuse(2, 0);
     }
     let mut lines = [0u32; KINDS];
     let mut all = [0u32; STORE];
-    let v = take_groups(head, corridors, occupancies, &mut lines, &mut all);
+    let v = take_groups(head, corridors, closures, occupancies, &mut lines, &mut all);
     if v.refusal != 0 {
         return refuse(v.refusal, v.line);
     }

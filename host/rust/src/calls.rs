@@ -9,12 +9,14 @@ pub struct SheetRead {
     pub refusal: u32,
     /// The line at fault, from 1; 0 where no line is at fault.
     pub line: u32,
-    /// The count of S, C and O lines.
-    pub lines: [u32; 3],
+    /// The count of S, C, X and O lines.
+    pub lines: [u32; 4],
     /// The numbers of the S line.
     pub head: [u32; 8],
     /// The numbers of the C lines, five for each.
     pub corridors: [u32; 1280],
+    /// The numbers of the X lines, three for each.
+    pub closures: [u32; 768],
     /// The numbers of the O lines, three for each.
     pub occupancies: [u32; 768],
 }
@@ -22,7 +24,15 @@ pub struct SheetRead {
 impl SheetRead {
     /// The answer with this number and line, and zero for all else.
     pub fn refused(refusal: u32, line: u32) -> SheetRead {
-        SheetRead { refusal, line, lines: [0; 3], head: [0; 8], corridors: [0; 1280], occupancies: [0; 768] }
+        SheetRead {
+            refusal,
+            line,
+            lines: [0; 4],
+            head: [0; 8],
+            corridors: [0; 1280],
+            closures: [0; 768],
+            occupancies: [0; 768],
+        }
     }
 
     /// The numbers of the corridor lines.
@@ -30,9 +40,14 @@ impl SheetRead {
         &self.corridors[..5 * self.lines[1] as usize]
     }
 
+    /// The numbers of the closure lines.
+    pub fn closure_numbers(&self) -> &[u32] {
+        &self.closures[..3 * self.lines[2] as usize]
+    }
+
     /// The numbers of the occupancy lines.
     pub fn occupancy_numbers(&self) -> &[u32] {
-        &self.occupancies[..3 * self.lines[2] as usize]
+        &self.occupancies[..3 * self.lines[3] as usize]
     }
 }
 
@@ -98,6 +113,8 @@ unsafe extern "C" {
         head_len: usize,
         corridors: *const u32,
         corridors_len: usize,
+        closures: *const u32,
+        closures_len: usize,
         occupancies: *const u32,
         occupancies_len: usize,
         out: *mut u8,
@@ -132,9 +149,9 @@ pub fn read(sheet: &[u8]) -> SheetRead {
     unsafe { planner_read(sheet.as_ptr(), sheet.len()) }
 }
 
-/// Writes the sheet of three groups into the buffer, which is kept past the bytes written. Refuses with 2, 4 to 7, 12
-/// and 16; the buffer is kept then.
-pub fn write(head: &[u32], corridors: &[u32], occupancies: &[u32], out: &mut [u8]) -> SheetWritten {
+/// Writes the sheet of four groups into the buffer, which is kept past the bytes written. Refuses with 2, 4 to 7, 12,
+/// 15 and 16; the buffer is kept then.
+pub fn write(head: &[u32], corridors: &[u32], closures: &[u32], occupancies: &[u32], out: &mut [u8]) -> SheetWritten {
     // Safety: as for the reader; the buffer is borrowed for this call alone, so it overlaps nothing.
     unsafe {
         planner_write(
@@ -142,6 +159,8 @@ pub fn write(head: &[u32], corridors: &[u32], occupancies: &[u32], out: &mut [u8
             head.len(),
             corridors.as_ptr(),
             corridors.len(),
+            closures.as_ptr(),
+            closures.len(),
             occupancies.as_ptr(),
             occupancies.len(),
             out.as_mut_ptr(),
@@ -191,10 +210,11 @@ mod tests {
     /// The numbers that tests/header.c holds the C structs against.
     #[test]
     fn the_structs_are_laid_out_as_in_c() {
-        assert_eq!((size_of::<SheetRead>(), align_of::<SheetRead>()), (8244, 4));
+        assert_eq!((size_of::<SheetRead>(), align_of::<SheetRead>()), (11320, 4));
         assert_eq!([offset_of!(SheetRead, refusal), offset_of!(SheetRead, line)], [0, 4]);
-        assert_eq!([offset_of!(SheetRead, lines), offset_of!(SheetRead, head)], [8, 20]);
-        assert_eq!([offset_of!(SheetRead, corridors), offset_of!(SheetRead, occupancies)], [52, 5172]);
+        assert_eq!([offset_of!(SheetRead, lines), offset_of!(SheetRead, head)], [8, 24]);
+        assert_eq!([offset_of!(SheetRead, corridors), offset_of!(SheetRead, closures)], [56, 5176]);
+        assert_eq!(offset_of!(SheetRead, occupancies), 8248);
 
         assert_eq!((size_of::<SheetWritten>(), align_of::<SheetWritten>()), (12, 4));
         assert_eq!([offset_of!(SheetWritten, refusal), offset_of!(SheetWritten, line)], [0, 4]);

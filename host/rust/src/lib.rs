@@ -1,10 +1,10 @@
 //! The planner of journeys for supply carts, from Rust: a safe wrapper of the calls in host/planner.h.
 //!
 //! A corridor sheet is a text in the format of document 01, "The corridor sheet and the journeys it offers", with the
-//! time to unload of document 02 ([`Sheet::unloading`]). [`front`] hands back every cost of a lawful journey that nothing
-//! beats, [`journey`] the journey of one such cost, [`read()`] the sheet's values and [`write()`](fn@write) the text of a
-//! sheet. Each gives a result or one numbered [`Refusal`]. [`calls`] has the calls themselves, on buffers that the caller
-//! lends.
+//! time to unload ([`Sheet::unloading`]) and the closures ([`Sheet::closures`]) of document 02. [`front`] hands back every
+//! cost of a lawful journey that nothing beats, [`journey`] the journey of one such cost, [`read()`] the sheet's values and
+//! [`write()`](fn@write) the text of a sheet. Each gives a result or one numbered [`Refusal`]. [`calls`] has the calls
+//! themselves, on buffers that the caller lends.
 //!
 //! The functions keep nothing between calls and may run on several threads at once. Each uses up to 200,000 bytes of
 //! stack in the planner (measured; docs/DECISIONS.md, "Stack"); the arrivals table and the front list are on the heap.
@@ -23,7 +23,7 @@ mod tests;
 
 pub use offers::{Arrival, Front, Journey, Offer, Room, front, journey};
 pub use refusal::Refusal;
-pub use sheet::{Corridor, Occupancy, Sheet, read, write};
+pub use sheet::{Closure, Corridor, Occupancy, Sheet, read, write};
 
 use std::fmt;
 
@@ -34,7 +34,7 @@ pub type Cost = [u32; 3];
 #[derive(Clone, Copy, Debug, PartialEq, Eq, PartialOrd, Ord, Hash)]
 pub struct Place(pub u32);
 
-/// A step, from 0 to the sheet's last; that of an occupancy's end may lie after it.
+/// A step, from 0 to the sheet's last; that of an occupancy's end or of a closure may lie after it.
 #[derive(Clone, Copy, Debug, PartialEq, Eq, PartialOrd, Ord, Hash)]
 pub struct Step(pub u32);
 

@@ -7,7 +7,7 @@ use std::fmt;
 /// words.
 #[derive(Clone, Copy, Debug, PartialEq, Eq, Hash)]
 pub struct Refusal {
-    /// 1 to 7 and 16 are the sheet's refusals, 8 to 12 the caller's.
+    /// 1 to 7, 15 and 16 are the sheet's refusals, 8 to 12 the caller's.
     pub number: u32,
     /// The line at fault.
     pub line: u32,
@@ -22,18 +22,19 @@ impl Refusal {
     /// What the number means, in the words of host/refusals.txt.
     pub fn meaning(&self) -> &'static str {
         match self.number {
-            1 => "the sheet has more than 10,240 bytes",
+            1 => "the sheet has more than 16,384 bytes",
             2 => "the line is malformed: its letter, its count of fields, a number or its line feed",
-            3 => "the line is out of order: S comes first and once, then C, then O",
+            3 => "the line is out of order: S comes first and once, then C, then X, then O",
             4 => "a number is outside its range",
             5 => "the line is not above the line before",
-            6 => "a corridor leads from a place to itself, or an occupancy ends before it begins",
+            6 => "a corridor or a closure leads from a place to itself, or an occupancy ends before it begins",
             7 => "the sheet has more than 256 lines of this kind",
             8 => "there are more leading arrivals than room",
             9 => "there are more front costs than room",
             10 => "no journey on the front has this number",
             11 => "the path buffer is shorter than the journey",
             12 => "the buffer is shorter than the sheet",
+            15 => "the closure names no corridor of the sheet",
             16 => "the occupancy begins after the last step",
             _ => "the planner gives no such number",
         }

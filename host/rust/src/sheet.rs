@@ -3,7 +3,7 @@
 use crate::{Cost, Place, Refusal, Step, calls};
 
 /// No sheet that can be written is longer.
-const MOST_BYTES: usize = 10_240;
+const MOST_BYTES: usize = 16_384;
 
 /// The values of a sheet.
 #[derive(Clone, Debug, PartialEq, Eq)]
@@ -23,6 +23,8 @@ pub struct Sheet {
     pub unloading: u32,
     /// Up to 256, strictly ascending by (from, to).
     pub corridors: Vec<Corridor>,
+    /// Up to 256, strictly ascending by (from, to, step).
+    pub closures: Vec<Closure>,
     /// Up to 256, strictly ascending by (place, first, last).
     pub occupancies: Vec<Occupancy>,
 }
@@ -36,6 +38,17 @@ pub struct Corridor {
     pub to: Place,
     /// The cost of crossing it.
     pub cost: Cost,
+}
+
+/// A corridor that is closed to a cart that would depart by it at one step. The other direction is not closed by it.
+#[derive(Clone, Copy, Debug, PartialEq, Eq)]
+pub struct Closure {
+    /// Where the corridor begins.
+    pub from: Place,
+    /// Where it ends; the sheet has a corridor from the one to the other.
+    pub to: Place,
+    /// The step of departure, up to 255; it may lie after the sheet's last step.
+    pub step: Step,
 }
 
 /// A place that is occupied from the first step to the last, both included.
@@ -53,7 +66,7 @@ pub struct Occupancy {
 pub fn read(text: &[u8]) -> Result<Sheet, Refusal> {
     let answer = calls::read(text);
     Refusal::check(answer.refusal, answer.line)?;
-    let [_, corridors, occupancies] = answer.lines.map(|count| count as usize);
+    let [_, corridors, closures, occupancies] = answer.lines.map(|count| count as usize);
     let [places, steps, start, goal, waiting @ .., unloading] = answer.head;
     Ok(Sheet {
         places,
@@ -63,19 +76,21 @@ pub fn read(text: &[u8]) -> Result<Sheet, Refusal> {
         waiting,
         unloading,
         corridors: rows(&answer.corridors, corridors).map(corridor).collect(),
+        closures: rows(&answer.closures, closures).map(closure).collect(),
         occupancies: rows(&answer.occupancies, occupancies).map(occupancy).collect(),
     })
 }
 
-/// The text of a sheet, which reads back as the same values. Refuses with 4 to 7 and 16; the line is the one that the
-/// text would have.
+/// The text of a sheet, which reads back as the same values. Refuses with 4 to 7, 15 and 16; the line is the one that
+/// the text would have.
 pub fn write(sheet: &Sheet) -> Result<Vec<u8>, Refusal> {
     let [w1, w2, w3] = sheet.waiting;
     let head = [sheet.places, sheet.steps.0, sheet.start.0, sheet.goal.0, w1, w2, w3, sheet.unloading];
     let corridors: Vec<u32> = sheet.corridors.iter().flat_map(corridor_numbers).collect();
+    let closures: Vec<u32> = sheet.closures.iter().flat_map(closure_numbers).collect();
     let occupancies: Vec<u32> = sheet.occupancies.iter().flat_map(occupancy_numbers).collect();
     let mut text = vec![0; MOST_BYTES];
-    let answer = calls::write(&head, &corridors, &occupancies, &mut text);
+    let answer = calls::write(&head, &corridors, &closures, &occupancies, &mut text);
     Refusal::check(answer.refusal, answer.line)?;
     text.truncate(answer.bytes as usize);
     Ok(text)
@@ -93,6 +108,14 @@ fn corridor([from, to, cost @ ..]: [u32; 5]) -> Corridor {
 fn corridor_numbers(corridor: &Corridor) -> [u32; 5] {
     let [c1, c2, c3] = corridor.cost;
     [corridor.from.0, corridor.to.0, c1, c2, c3]
+}
+
+fn closure([from, to, step]: [u32; 3]) -> Closure {
+    Closure { from: Place(from), to: Place(to), step: Step(step) }
+}
+
+fn closure_numbers(closure: &Closure) -> [u32; 3] {
+    [closure.from.0, closure.to.0, closure.step.0]
 }
 
 fn occupancy([place, first, last]: [u32; 3]) -> Occupancy {

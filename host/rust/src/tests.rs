@@ -1,11 +1,14 @@
-//! Document 01's "Sheets to try", sheet D with the journey of document 02, times to unload, and each refusal of a sheet,
-//! through the wrapper.
+//! Document 01's "Sheets to try", sheet D with the journey of document 02, times to unload, closures, and each refusal of a
+//! sheet, through the wrapper.
 
-use crate::{Cost, Place, Refusal, Room, Step, front, journey, read, write};
+use crate::{Closure, Cost, Place, Refusal, Room, Step, front, journey, read, write};
 
 const A: &str = "S,4,6,0,3,1,0,0,0\nC,0,1,1,0,4\nC,0,2,1,3,0\nC,1,3,1,0,4\nC,2,3,1,3,0\nO,1,1,2\n";
 const B: &str = "S,5,4,0,4,1,0,0,0\nC,0,1,1,0,0\nC,0,3,1,0,0\nC,1,2,1,0,0\nC,2,3,0,0,0\nC,3,4,0,0,0\nO,4,0,3\n";
 const D: &str = "S,6,3,0,5,0,0,0,0\nC,0,1,1,0,0\nC,0,2,1,0,0\nC,1,4,1,0,0\nC,2,3,1,0,0\nC,3,5,1,0,0\nC,4,5,1,0,0\n";
+
+/// The bed of document 02, E5, stands at 2 at step 0 and at 1 at step 1; the cart goes from 1 to 2.
+const BED: &str = "S,3,4,1,2,1,0,0,0\nC,0,1,1,0,0\nC,1,0,1,0,0\nC,1,2,1,0,0\nC,2,1,1,0,0\nO,1,1,1\nO,2,0,0\n";
 
 /// A journey's cost, arrival step and places.
 type Told<'a> = (Cost, u32, &'a [u32]);
@@ -119,8 +122,29 @@ fn a_with_the_goal_occupied_before_the_first_arrival_has_unloaded() {
 }
 
 #[test]
+fn a_bed_that_is_met_in_the_corridor() {
+    assert_offers(BED, 4, &[([1, 0, 0], 1, &[1, 2])]);
+    let closed = |closures: &str| BED.replace("O,1,", &format!("{closures}O,1,"));
+    assert_offers(&closed("X,1,2,0\n"), 4, &[([3, 0, 0], 3, &[1, 0, 1, 2])]);
+    assert_offers(&closed("X,2,1,0\n"), 4, &[([1, 0, 0], 1, &[1, 2])]);
+}
+
+#[test]
+fn a_with_a_corridor_that_opens_at_step_1() {
+    let text = a_with("O,1,1,2", "X,0,2,0\nO,1,1,2");
+    assert_offers(&text, 5, &[([3, 6, 0], 3, &[0, 0, 2, 3]), ([4, 0, 8], 4, &[0, 0, 0, 1, 3])]);
+}
+
+#[test]
+fn a_with_closures_after_its_last_step() {
+    let text = a_with("O,1,1,2", "X,0,2,6\nX,0,2,7\nX,0,2,255\nO,1,1,2");
+    assert_offers(&text, 5, &[([2, 6, 0], 2, &[0, 2, 3]), ([4, 0, 8], 4, &[0, 0, 0, 1, 3])]);
+}
+
+#[test]
 fn a_sheet_read_and_written_gives_its_own_bytes() {
-    for text in [A, B, D, &a_with("1,0,0,0", "1,0,0,99")] {
+    let closed = a_with("O,1,1,2", "X,0,2,0\nX,0,2,255\nX,2,3,1\nO,1,1,2");
+    for text in [A, B, D, &a_with("1,0,0,0", "1,0,0,99"), &closed] {
         let sheet = read(text.as_bytes()).expect("the sheet is served");
         assert_eq!(write(&sheet), Ok(text.as_bytes().to_vec()));
     }
@@ -135,6 +159,23 @@ fn the_values_of_b() {
     let (corridor, occupancy) = (sheet.corridors[2], sheet.occupancies[0]);
     assert_eq!((corridor.from, corridor.to, corridor.cost), (Place(1), Place(2), [1, 0, 0]));
     assert_eq!((occupancy.place, occupancy.first, occupancy.last), (Place(4), Step(0), Step(3)));
+}
+
+#[test]
+fn the_values_of_closures() {
+    let sheet = read(a_with("O,1,1,2", "X,0,2,0\nX,2,3,255\nO,1,1,2").as_bytes()).expect("the sheet is served");
+    let closures: Vec<_> = sheet.closures.iter().map(|closure| (closure.from, closure.to, closure.step)).collect();
+    assert_eq!(closures, [(Place(0), Place(2), Step(0)), (Place(2), Place(3), Step(255))]);
+    assert_eq!((sheet.corridors.len(), sheet.occupancies.len()), (4, 1));
+}
+
+#[test]
+fn a_closure_of_no_corridor_is_told_when_written() {
+    let mut sheet = read(A.as_bytes()).expect("the sheet is served");
+    sheet.closures.push(Closure { from: Place(0), to: Place(2), step: Step(7) });
+    assert_eq!(write(&sheet), Ok(a_with("O,1,1,2", "X,0,2,7\nO,1,1,2").into_bytes()));
+    sheet.closures[0].to = Place(3);
+    assert_eq!(write(&sheet), Err(Refusal { number: 15, line: 6 }));
 }
 
 #[test]
@@ -166,7 +207,8 @@ fn a_horizon_typed_too_short_is_told_when_written() {
 #[test]
 fn the_refusals_of_a_sheet() {
     let refused = |text: &str| refused(text, Room::default());
-    assert_eq!(refused(&"\n".repeat(10_241)), (1, 0));
+    assert_eq!(refused(&"\n".repeat(16_385)), (1, 0));
+    assert_eq!(refused(&"\n".repeat(16_384)), (2, 1));
     assert_eq!(refused(&a_with("O,1,1,2", "O,1,007,2")), (2, 6));
     assert_eq!(refused(&a_with("1,0,0,0", "1,0,0")), (2, 1));
     assert_eq!(refused(&a_with("1,0,0,0", "1,0,0,0,0")), (2, 1));
@@ -178,6 +220,21 @@ fn the_refusals_of_a_sheet() {
     let occupied: String = (0..257).map(|n| format!("O,{},0,{}\n", n / 100, n % 100)).collect();
     assert_eq!(refused(&format!("S,4,6,0,3,1,0,0,0\n{occupied}")), (7, 258));
     assert_eq!(refused(&a_with("O,1,1,2", "O,1,7,7")), (16, 6));
+}
+
+#[test]
+fn the_refusals_of_a_closure() {
+    let refused = |closures: &str| refused(&a_with("O,1,1,2", &format!("{closures}\nO,1,1,2")), Room::default());
+    assert_eq!(refused("X,0,2"), (2, 6));
+    assert_eq!(refused("X,0,2,0\nC,3,0,1,0,0"), (3, 7));
+    assert_eq!(refused("O,1,0,0\nX,0,2,0"), (3, 7));
+    assert_eq!(refused("X,0,2,256"), (4, 6));
+    assert_eq!(refused("X,0,2,0\nX,0,2,0"), (5, 7));
+    assert_eq!(refused("X,2,2,0"), (6, 6));
+    let closed: Vec<String> = (0..257).map(|n| format!("X,0,{},{}", 1 + n / 256, n % 256)).collect();
+    assert_eq!(refused(&closed.join("\n")), (7, 262));
+    assert_eq!(refused("X,2,0,0"), (15, 6));
+    assert_eq!(refused("X,0,3,0"), (15, 6));
 }
 
 #[test]
@@ -196,5 +253,6 @@ fn a_refusal_in_words() {
     let words = |number, line| Refusal { number, line }.to_string();
     assert_eq!(words(4, 3), "refusal 4 at line 3: a number is outside its range");
     assert_eq!(words(8, 0), "refusal 8: there are more leading arrivals than room");
+    assert_eq!(words(15, 6), "refusal 15 at line 6: the closure names no corridor of the sheet");
     assert_eq!(words(16, 6), "refusal 16 at line 6: the occupancy begins after the last step");
 }

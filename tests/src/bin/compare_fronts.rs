@@ -4,10 +4,11 @@
 //! `compare_fronts [--seed N] [--runs N]`: each run is one small sheet, with several calls, among them one for each of
 //! its journeys with room, and five damaged texts, with one call of the front and one of a journey each. The exit status
 //! is 0 if all answers and all cells of all lent arrays agree, a third of the small sheets have a tie, the time to unload
-//! changes the front of a sixth of them, and each refusal number, family, size, way in which the tie rule decides, change
-//! by unloading, room and kind of damage came up often.
+//! changes the front of a sixth of them and the closures that of a fifth, and each refusal number, family, size, way in
+//! which the tie rule decides, change by unloading or by closures, room and kind of damage came up often.
 
 use planner_tests::cases::{Asked, FrontCase, front_cases};
+use planner_tests::closures;
 use planner_tests::compare_search::{Filled, Tried};
 use planner_tests::damage::of_text::TEXT_DAMAGES;
 use planner_tests::families::{FAMILIES, random_family};
@@ -17,13 +18,17 @@ use planner_tests::random::Random;
 use planner_tests::small::{damaged_text, small_text};
 use planner_tests::step_by_step::Offer;
 use planner_tests::ties::{Choice, DECIDED};
-use planner_tests::unloading::{CHANGES, Fronts};
+use planner_tests::unloading;
 use std::process::ExitCode;
 
 const FRONT_CASES: &str = include_str!("../../cases/fronts.txt");
 
 /// So many texts are damaged in each run.
 const DAMAGED: usize = 5;
+
+/// The refusals of a call of the front and of a journey; 0 is a call that is served.
+const FRONT_REFUSALS: &[usize] = &[0, 1, 2, 3, 4, 5, 6, 7, 8, 9, 15, 16];
+const JOURNEY_REFUSALS: &[usize] = &[0, 1, 2, 3, 4, 5, 6, 7, 8, 10, 11, 15, 16];
 
 /// The sizes of fronts that must come up.
 const SIZES: [&str; 5] = ["empty", "one cost", "two costs", "three costs", "more"];
@@ -32,7 +37,10 @@ const SIZES: [&str; 5] = ["empty", "one cost", "two costs", "three costs", "more
 const TIES: u64 = 3;
 
 /// A sheet whose front is another one without the time to unload must come up once in so many sheets.
-const CHANGED: u64 = 6;
+const BY_UNLOADING: u64 = 6;
+
+/// A sheet whose front is another one without the closures must come up once in so many sheets.
+const BY_CLOSURES: u64 = 5;
 
 /// The lengths of lent arrays that must come up, and the number of a journey.
 const ROOMS: [&str; 7] = [
@@ -45,7 +53,8 @@ const ROOMS: [&str; 7] = [
     "the number after the last",
 ];
 
-/// How many calls or sheets met each refusal number, family, size, tie, change by unloading, room and kind of damage.
+/// How many calls or sheets met each refusal number, family, size, tie, change by unloading or by closures, room and kind
+/// of damage.
 #[derive(Default)]
 struct Tally {
     front: ByRefusal,
@@ -54,10 +63,32 @@ struct Tally {
     sizes: [u64; SIZES.len()],
     tied: u64,
     decided: [u64; DECIDED.len()],
-    changed: u64,
-    changes: [u64; CHANGES.len()],
+    by_unloading: Changed<{ unloading::CHANGES.len() }>,
+    by_closures: Changed<{ closures::CHANGES.len() }>,
     rooms: [u64; ROOMS.len()],
     damages: [u64; TEXT_DAMAGES.len()],
+}
+
+/// How many sheets have another front without some of their lines or numbers, and how many meet each of some changes.
+struct Changed<const N: usize> {
+    fronts: u64,
+    changes: [u64; N],
+}
+
+impl<const N: usize> Default for Changed<N> {
+    fn default() -> Changed<N> {
+        Changed { fronts: 0, changes: [0; N] }
+    }
+}
+
+impl<const N: usize> Changed<N> {
+    /// Counts a sheet by whether its front differs and by the changes that it meets.
+    fn count(&mut self, differs: bool, changes: [bool; N]) {
+        self.fronts += u64::from(differs);
+        for (count, is_met) in self.changes.iter_mut().zip(changes) {
+            *count += u64::from(is_met);
+        }
+    }
 }
 
 fn main() -> ExitCode {
@@ -75,19 +106,18 @@ fn compared(options: &Options) -> Result<Vec<Counts>, String> {
 
 /// How often each thing that must come up did.
 fn counts(tally: &Tally) -> Vec<Counts> {
+    let Tally { by_unloading, by_closures, .. } = tally;
     vec![
-        Counts::of_refusals("calls of the front, by refusal number", &[0, 1, 2, 3, 4, 5, 6, 7, 8, 9, 16], &tally.front),
-        Counts::of_refusals(
-            "calls of a journey, by refusal number",
-            &[0, 1, 2, 3, 4, 5, 6, 7, 8, 10, 11, 16],
-            &tally.journey,
-        ),
+        Counts::of_refusals("calls of the front, by refusal number", FRONT_REFUSALS, &tally.front),
+        Counts::of_refusals("calls of a journey, by refusal number", JOURNEY_REFUSALS, &tally.journey),
         Counts::of("families of small sheets", &FAMILIES.map(|family| family.name), &tally.families),
         Counts::of("fronts of small sheets", &SIZES, &tally.sizes),
         Counts::of("small sheets", &["with a tie"], &[tally.tied]).once_in(TIES),
         Counts::of("small sheets on which the tie rule decides", &DECIDED, &tally.decided),
-        Counts::of("small sheets", &["whose front unloading changes"], &[tally.changed]).once_in(CHANGED),
-        Counts::of("small sheets on which unloading has a bearing", &CHANGES, &tally.changes),
+        Counts::of("small sheets", &["whose front unloading changes"], &[by_unloading.fronts]).once_in(BY_UNLOADING),
+        Counts::of("small sheets and unloading", &unloading::CHANGES, &by_unloading.changes),
+        Counts::of("small sheets", &["whose front closures change"], &[by_closures.fronts]).once_in(BY_CLOSURES),
+        Counts::of("small sheets and closures", &closures::CHANGES, &by_closures.changes),
         Counts::of("rooms of calls", &ROOMS, &tally.rooms),
         Counts::of("damage to texts", &TEXT_DAMAGES, &tally.damages),
     ]
@@ -135,13 +165,13 @@ fn count_ties(offer: &Offer, tally: &mut Tally) {
     }
 }
 
-/// Counts a sheet by what its time to unload changes.
+/// Counts a sheet by what its time to unload and its closures change.
 fn count_changes(text: &[u8], offer: &Offer, tally: &mut Tally) {
-    if let Some(fronts) = Fronts::of(text, offer) {
-        tally.changed += u64::from(fronts.differ());
-        for (count, is_met) in tally.changes.iter_mut().zip(fronts.changes()) {
-            *count += u64::from(is_met);
-        }
+    if let Some(fronts) = unloading::Fronts::of(text, offer) {
+        tally.by_unloading.count(fronts.differ(), fronts.changes());
+    }
+    if let Some(fronts) = closures::Fronts::of(text, offer) {
+        tally.by_closures.count(fronts.differ(), fronts.changes());
     }
 }
 

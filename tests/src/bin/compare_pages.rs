@@ -58,7 +58,7 @@ fn compared(options: &Options) -> Result<Vec<Counts>, String> {
 /// How often each thing that must come up did.
 fn counts(tally: &Tally) -> Vec<Counts> {
     vec![
-        Counts::of_refusals("pages by refusal number", &[0, 1, 2, 3, 4, 5, 6, 7, 8, 9, 16], &tally.refusals),
+        Counts::of_refusals("pages by refusal number", &[0, 1, 2, 3, 4, 5, 6, 7, 8, 9, 15, 16], &tally.refusals),
         Counts::of("pages that are served", &SIZES, &tally.sizes),
         Counts::of("families of small sheets", &FAMILIES.map(|family| family.name), &tally.families),
         Counts::of("damage to texts", &TEXT_DAMAGES, &tally.damages),

@@ -1,7 +1,7 @@
 //! Compares planner_read and planner_write with the reference, on the stored cases and on random inputs, and
 //! planner_kind on all 256 bytes; planner_read also on a sheet with each byte at each position.
 //!
-//! `compare_sheets [--seed N] [--runs N]`: each run is one text for the reader and three groups for the
+//! `compare_sheets [--seed N] [--runs N]`: each run is one text for the reader and four groups for the
 //! writer. The exit status is 0 if all answers agree and each refusal number, size and kind of damage came up often.
 
 use planner_tests::cases::{groups_cases, kinds, sheet_cases};
@@ -18,19 +18,21 @@ const GROUPS_CASES: &str = include_str!("../../cases/groups.txt");
 const KINDS: &str = include_str!("../../cases/kinds.txt");
 
 /// A sheet with a line of each kind, in which each byte is tried at each position.
-const SHORT_SHEET: &[u8] = b"S,12,9,0,11,1,0,5,14\nC,0,10,1,2,3\nO,1,2,30\n";
+const SHORT_SHEET: &[u8] = b"S,12,9,0,11,1,0,5,14\nC,0,10,1,2,3\nX,0,10,4\nO,1,2,30\n";
 
 /// The count of bytes of the longest sheet that is served.
-const LONGEST: usize = 10_020;
+const LONGEST: usize = 13_092;
 
 /// The sizes of texts that must come up.
 const SIZES: [&str; 3] = ["empty", "served with 256 lines of a kind", "served and longest"];
 
-/// How many inputs met each refusal number, each size and each kind of damage.
+/// How many inputs met each refusal number, also at a closure alone, each size and each kind of damage.
 #[derive(Default)]
 struct Tally {
     read: ByRefusal,
     written: ByRefusal,
+    closures_read: ByRefusal,
+    closures_written: ByRefusal,
     sizes: [u64; SIZES.len()],
     text_damages: [u64; TEXT_DAMAGES.len()],
     group_damages: [u64; GROUP_DAMAGES.len()],
@@ -61,6 +63,7 @@ fn compare_random_text(random: &mut Random, tally: &mut Tally) -> Result<(), Str
     let text = if random.percent(5) { random_bytes(random) } else { random_text(random, tally) };
     let answer = compare_reading(&text, random)?;
     tally.read[answer.refusal as usize] += 1;
+    tally.closures_read[answer.refusal as usize] += u64::from(has_closure_at(&text, answer.line));
     tally.sizes[0] += u64::from(text.is_empty());
     tally.sizes[1] += u64::from(answer.lines[1..].contains(&256));
     tally.sizes[2] += u64::from(answer.refusal == 0 && text.len() == LONGEST);
@@ -85,7 +88,15 @@ fn compare_random_groups(random: &mut Random, tally: &mut Tally) -> Result<(), S
     let len = random_buffer_len(&groups, random);
     let answer = compare_writing(&groups, len, random)?;
     tally.written[answer.refusal as usize] += 1;
+    tally.closures_written[answer.refusal as usize] += u64::from(has_closure_at(&groups.text(), answer.line));
     Ok(())
+}
+
+/// Whether the line with a number, from 1, is one of a closure; 0 is no line.
+fn has_closure_at(text: &[u8], line: u32) -> bool {
+    let before = (line as usize).checked_sub(1);
+    let line = before.and_then(|before| text.split(|&byte| byte == b'\n').nth(before));
+    line.is_some_and(|line| line.starts_with(b"X"))
 }
 
 /// The length of a buffer for groups: exactly their text's, one less, one more, or another.
@@ -97,7 +108,7 @@ fn random_buffer_len(groups: &Groups, random: &mut Random) -> usize {
         4 => exact + 1,
         5 => random.below(exact + 1),
         6 => exact + random.below(100),
-        _ => random.pick(&[0, 10_240]),
+        _ => random.pick(&[0, 16_384]),
     }
 }
 
@@ -155,8 +166,10 @@ fn expect_answer(remark: &str, answer: (u32, u32), expected: (u32, u32)) -> Resu
 /// How many inputs met each thing that must come up.
 fn counts(tally: &Tally) -> Vec<Counts> {
     vec![
-        Counts::of_refusals("read, by refusal number", &[0, 1, 2, 3, 4, 5, 6, 7, 16], &tally.read),
-        Counts::of_refusals("written, by refusal number", &[0, 2, 4, 5, 6, 7, 12, 16], &tally.written),
+        Counts::of_refusals("read, by refusal number", &[0, 1, 2, 3, 4, 5, 6, 7, 15, 16], &tally.read),
+        Counts::of_refusals("written, by refusal number", &[0, 2, 4, 5, 6, 7, 12, 15, 16], &tally.written),
+        Counts::of_refusals("read, at a closure", &[2, 3, 4, 5, 6, 7, 15], &tally.closures_read),
+        Counts::of_refusals("written, at a closure", &[4, 5, 6, 7, 15], &tally.closures_written),
         Counts::of("texts", &SIZES, &tally.sizes),
         Counts::of("damage to texts", &TEXT_DAMAGES, &tally.text_damages),
         Counts::of("damage to groups", &GROUP_DAMAGES, &tally.group_damages),

@@ -1,14 +1,15 @@
 //! Damage to the text of a sheet.
 
+use super::of_closures::{ClosureDamage, damage_closure};
 use super::{NumberDamage, OrderDamage, damage_order, damaged_number, random_line};
 use crate::random::Random;
 use std::ops::Range;
 
 /// The bytes of sheets, and some that are near to them.
-pub const ALPHABET: &[u8] = b"0123456789,\nSCO0123456789,\n,1 -+.\r\0xXWsco/:@\x80\xff";
+pub const ALPHABET: &[u8] = b"0123456789,\nSCXO0123456789,\n,1 -+.\r\0xXWscxo/:@\x80\xff";
 
 /// What is inserted into a line, often before its line feed.
-const PIECES: [&str; 8] = [",", ",0", ",1", "S,", "O,", " ", "\r", "\0"];
+const PIECES: [&str; 9] = [",", ",0", ",1", "S,", "X,", "O,", " ", "\r", "\0"];
 
 /// What is put in the place of a line's last field, or after it: no field, one at an end of a range, one with a zero
 /// too many.
@@ -22,6 +23,7 @@ pub enum TextDamage {
     ByteRemoved,
     Order(OrderDamage),
     Number(NumberDamage),
+    Closure(ClosureDamage),
     DigitsAdded,
     LeadingZeros,
     LetterChanged,
@@ -34,8 +36,9 @@ pub enum TextDamage {
     Extended,
 }
 
-/// Every kind of damage to a text: first to numbers, then to the order of lines, then all that makes a line ill-formed.
-pub const TEXT_DAMAGES: [TextDamage; 21] = [
+/// Every kind of damage to a text: first to numbers, then to the order of lines, then to closures, then all that makes a
+/// line ill-formed.
+pub const TEXT_DAMAGES: [TextDamage; 31] = [
     TextDamage::Number(NumberDamage::AtBoundary),
     TextDamage::Number(NumberDamage::Nudged),
     TextDamage::Number(NumberDamage::Copied),
@@ -44,6 +47,16 @@ pub const TEXT_DAMAGES: [TextDamage; 21] = [
     TextDamage::Order(OrderDamage::LinesSwapped),
     TextDamage::Order(OrderDamage::LineMoved),
     TextDamage::Order(OrderDamage::LineAppended),
+    TextDamage::Closure(ClosureDamage::Turned),
+    TextDamage::Closure(ClosureDamage::OtherEnd),
+    TextDamage::Closure(ClosureDamage::ToItself),
+    TextDamage::Closure(ClosureDamage::StepBeyond),
+    TextDamage::Closure(ClosureDamage::NotAbove),
+    TextDamage::Closure(ClosureDamage::BeforeCorridors),
+    TextDamage::Closure(ClosureDamage::AfterOccupancy),
+    TextDamage::Closure(ClosureDamage::OneTooMany),
+    TextDamage::Closure(ClosureDamage::NumberMissing),
+    TextDamage::Closure(ClosureDamage::NumberMore),
     TextDamage::ByteFlipped,
     TextDamage::ByteInserted,
     TextDamage::ByteRemoved,
@@ -59,9 +72,9 @@ pub const TEXT_DAMAGES: [TextDamage; 21] = [
     TextDamage::Extended,
 ];
 
-/// So many kinds are drawn from: to numbers alone, to well-formed lines alone, or all. The tests after 2, and the
-/// order among them, show only on well-formed lines.
-const KINDS: [usize; 4] = [3, 8, 21, 21];
+/// So many kinds are drawn from: to numbers alone, to well-formed lines alone, without closures and with, or all. The tests
+/// after 2, and the order among them, show only on well-formed lines.
+const KINDS: [usize; 5] = [3, 8, 16, 31, 31];
 
 /// A text of up to 40 random bytes, often the empty one.
 pub fn random_bytes(random: &mut Random) -> Vec<u8> {
@@ -102,12 +115,13 @@ fn damage_line(text: &mut Vec<u8>, at: usize, damage: TextDamage, random: &mut R
         TextDamage::Number(damage) => replace_number(text, line, random, |number, beside, random| {
             damaged_number(number, beside, damage, random).to_string()
         }),
+        TextDamage::Closure(damage) => damage_closure(text, damage, random),
         TextDamage::DigitsAdded => replace_number(text, line, random, with_digits),
         TextDamage::LeadingZeros => replace_number(text, line, random, |number, _, random| {
             format!("{}{number}", random.pick(&["0", "00", "0000"]))
         }),
         TextDamage::LetterChanged if random.percent(30) => text[line.start] ^= 0x20,
-        TextDamage::LetterChanged => text[line.start] = random.pick(b"SSCCOOXWAZsco0,"),
+        TextDamage::LetterChanged => text[line.start] = random.pick(b"SSCCXXXOOWAZscxo0,"),
         TextDamage::PieceInserted => {
             let at = if random.percent(50) { line.end - 1 } else { byte };
             text.splice(at..at, random.pick(&PIECES).bytes());
@@ -203,9 +217,9 @@ fn change_last_field(text: &mut Vec<u8>, line: Range<usize>, random: &mut Random
     text.splice(kept..line.end - 1, random.pick(&LAST_FIELDS).bytes());
 }
 
-/// Repeats a part of the text up to 10,240 bytes, one more or many more.
+/// Repeats a part of the text up to 16,384 bytes, one more or many more, or up to the limit that document 01 has.
 fn extend(text: &mut Vec<u8>, random: &mut Random) {
-    let len = random.pick(&[10_240, 10_241, 10_242, 10_400, 20_000]);
+    let len = random.pick(&[16_384, 16_384, 16_385, 16_385, 16_386, 16_500, 30_000, 10_241]);
     let part = if random.percent(50) { text.clone() } else { random_bytes(random) };
     if !part.is_empty() && text.len() < len {
         text.extend(part.iter().cycle().take(len - text.len()));

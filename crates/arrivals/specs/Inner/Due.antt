@@ -12,7 +12,7 @@ use lib.Seq.{getD-set-same, getD-set-other}
 use Rattle.sheet.specs.Laws.Decided.{lt-or-le}
 use Rattle.arrivals.specs.Inner.Rows.{zeros-at}
 use Rattle.arrivals.specs.Inner.Network.{linkOf, countOf, caseOf, Vacant}
-use Rattle.arrivals.specs.Inner.Chains.{NextLink}
+use Rattle.arrivals.specs.Inner.Chains.{byPlace, NextOne}
 use Rattle.arrivals.specs.Inner.Pruning.{SteadyIs}
 use Rattle.arrivals.specs.Inner.Filling.{Result, Visiting}
 use Rattle.arrivals.specs.Inner.Index.{Indexed, newestOf, dueOf, NotedAs}
@@ -44,7 +44,7 @@ pub record Marked (ix iy net : List ℕ) (j m u s : ℕ) : Type 0 where
 pub marked-none : (ix net : List ℕ) (j m u s : ℕ) → ((i : ℕ) → j ≤ i → i < m → linkOf net 0 i ≡ u → ⊥) → Marked ix ix net j m u s
 marked-none ix net j m u s n = record { size = refl; index = λ i l. refl; dues = λ v. inr refl; marked = λ i l b e. absurd (n i l b e) }
 
-pub marked-more : (ix iy iz net : List ℕ) (j r m u s p : ℕ) → 0 < j → NextLink net 0 u (j - 1) r → p ≡ linkOf net 1 (j - 1) → MarkedOne iy iz p s → Marked ix iy net j m u s → Marked ix iz net r m u s
+pub marked-more : (ix iy iz net : List ℕ) (j r m u s p : ℕ) → 0 < j → NextOne (byPlace 0) net u (j - 1) r → p ≡ linkOf net 1 (j - 1) → MarkedOne iy iz p s → Marked ix iy net j m u s → Marked ix iz net r m u s
 marked-more ix iy iz net j r m u s p o n to b w =
     record {
       size = a .size ∙ w .size;

@@ -1,7 +1,7 @@
 -- The rows of a search are leading arrivals of the sheet that it searches: every arrival is led by a row, each row arrives, and no row leads
 -- another; so the rows of a finished search are exactly the leading arrivals, and those of one that is under way are leading arrivals.
 use mathlib.Core.Path.{_≡_, refl, sym, ap, _∙_, subst}
-use mathlib.Core.Bool.{true}
+use mathlib.Core.Bool.{Bool, true}
 use mathlib.Core.List.{List, [], _∷_}
 use mathlib.Core.Logic.{inl, inr, ⊎-elim}
 use Prim.Native.Nat.{ℕ, zero, suc, _+_, _*_, _-_, _≤_, _<_}
@@ -26,6 +26,12 @@ use Rattle.arrivals.specs.Inner.Network.{Link, openb, Case, since, Vacan
 use Rattle.arrivals.specs.Inner.Entering.{reach, Joins, Enters, RowLeads, Cand, Lead, Less, Complete, lead-of, lead-weaken, self-leads}
 use Rattle.arrivals.specs.Inner.Filling.{RowBefore, Falling, more-falling, Sound, empty, first, entered, Filled, Filling, startRow}
 
+-- a corridor of the case leads from u to v at cost c and is open at step t
+pub record Listed (k : Case) (u v t : ℕ) (c : Cost) : Type 0 where
+  pub opens : ℕ → Bool
+  pub open-then : opens t ≡ true
+  pub has : In (record { from = u; to = v; cost = c; opens = opens }) (k .links)
+
 -- the case is that of the sheet: its free runs within the horizon, its corridors, its waiting cost, its places and its start
 pub record Fits (s : Sheet) (k : Case) : Type 0 where
   pub free : (v t : ℕ) → v < k .places → t ≤ steps s → Vacant k v t → Free s v t
@@ -33,7 +39,7 @@ pub record Fits (s : Sheet) (k : Case) : Type 0 where
   pub runs : (v u t : ℕ) → v < k .places → t ≤ steps s → since k v t ≤ u → u ≤ t → since k v u ≡ since k v t
   pub soonest : (v u t : ℕ) → v < k .places → t ≤ steps s → u ≤ t → Run s v u t → since k v t ≤ u
   pub crossing : (l : Link) → In l (k .links) → (t : ℕ) → openb l t ≡ true → Crossing s (l .from) (l .to) t (l .cost)
-  pub listed : (u v t : ℕ) (c : Cost) → Crossing s u v t c → In (record { from = u; to = v; cost = c }) (k .links) × (openb (record { from = u; to = v; cost = c }) t ≡ true)
+  pub listed : (u v t : ℕ) (c : Cost) → Crossing s u v t c → Listed k u v t c
   pub from : (l : Link) → In l (k .links) → l .from < k .places
   pub into : (l : Link) → In l (k .links) → l .to < k .places
   pub wait : (v : ℕ) → v < k .places → waitOf s v ≡ k .wait v
@@ -146,7 +152,7 @@ module _ (s : Sheet) (k : Case) (fit : Fits s k) where
     where
       go : {u : ℕ} {c : Cost} → Move s u v t c → u < k .places → v < k .places
       go (waits p q) i = omega arith
-      go {u} {c} (crosses x) i = fit .into (record { from = u; to = v; cost = c }) (fit .listed u v t c x .0)
+      go {u} {c} (crosses x) i = fit .into _ (fit .listed u v t c x .has)
 
   -- every arrival before place W at step T is led by a row
   covered : (rs : List Row) (T W : ℕ) → Complete k rs T W → (Vacant k (k .start) 0 → In (startRow k) rs) → (t v : ℕ) (g : Cost) → Arrives s (arrival v t g) → Less t v T W → Lead k rs v t g
@@ -169,9 +175,9 @@ module _ (s : Sheet) (k : Case) (fit : Fits s k) where
           (subst (λ (x : Cost). Lead k rs v (t + 1) (add h x)) (sym e) (lead-wait rs v t h (omega arith) (omega (arith, a .in-time)) w (subst (λ (n : ℕ). Lead k rs n t h) p l)))
       go {u} {h} {c} (crosses x) i l fr =
           let m = fit .listed u v t c x in
-          let link : Link = record { from = u; to = v; cost = c } in
-          let w : Vacant k v (t + 1) = fit .vacant v (t + 1) (fit .into link (m .0)) (omega (arith, a .in-time)) (subst (Free s v) (sym up) fr) in
-          subst (λ (n : ℕ). Lead k rs v n (add h c)) up (lead-cross rs t h link (m .0) (m .1) (λ y b z. f (t + 1) v y le′ (omega arith) (fit .into link (m .0)) w z) l)
+          let link : Link = record { from = u; to = v; cost = c; opens = m .opens } in
+          let w : Vacant k v (t + 1) = fit .vacant v (t + 1) (fit .into link (m .has)) (omega (arith, a .in-time)) (subst (Free s v) (sym up) fr) in
+          subst (λ (n : ℕ). Lead k rs v n (add h c)) up (lead-cross rs t h link (m .has) (m .open-then) (λ y b z. f (t + 1) v y le′ (omega arith) (fit .into link (m .has)) w z) l)
 
   -- every row within the horizon arrives
   reached : (l : Link) (r : Row) (t : ℕ) (g : Cost) → In l (k .links) → openb l (t - 1) ≡ true → Arrives s r → t ≤ steps s → Vacant k (l .to) t → Joins k l t g r → Arrives s (arrival (l .to) t g)
@@ -314,10 +320,10 @@ module _ (s : Sheet) (k : Case) (fit : Fits s k) (rs : List Row) (t v : ℕ) (f 
           (subst (λ (x : Cost). Lead k rs v (n + 1) (add g x)) (sym ec) (lead-wait s k fit rs v n g (omega arith) (omega arith) w (subst (λ (j : ℕ). Lead k rs j n g) p l)))
       go {u} {g} {c} (crosses x) i l fr sum =
           let m = fit .listed u v n c x in
-          let link : Link = record { from = u; to = v; cost = c } in
-          let w : Vacant k v (n + 1) = fit .vacant v (n + 1) (fit .into link (m .0)) (omega arith) (subst (Free s v) (sym (add-one n)) fr) in
+          let link : Link = record { from = u; to = v; cost = c; opens = m .opens } in
+          let w : Vacant k v (n + 1) = fit .vacant v (n + 1) (fit .into link (m .has)) (omega arith) (subst (Free s v) (sym (add-one n)) fr) in
           subst (λ (j : ℕ). Lead k rs v j (add g c)) up
-          (lead-cross s k fit rs n g link (m .0) (m .1)
+          (lead-cross s k fit rs n g link (m .has) (m .open-then)
           (λ y b z. subst (λ (j : ℕ). Lead k rs v j y) (sym up)
           (led-now r mem rt rv y (at-most-trans y h (r .cost) (subst (AtMost y) (sym sum) b) below) (subst (Vacant k v) up w) (subst (λ (j : ℕ). Cand k rs v j y) up z)))
           l)

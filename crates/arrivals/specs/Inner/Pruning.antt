@@ -1,18 +1,19 @@
 -- The pruning rule (001, section IV: the earliest arrival in a safe interval). A row that has waited need not be offered again over a corridor
 -- if it could have departed earlier, arriving in the same safe interval, and waiting there is nowhere dearer: that earlier arrival leads.
 use mathlib.Core.Path.{_≡_, refl, sym, ap, ap₂, _∙_, subst}
-use mathlib.Core.Bool.{Bool, true}
+use mathlib.Core.Bool.{Bool, true, false}
 use mathlib.Core.List.{List}
 use mathlib.Core.Logic.{_⊎_, inl, inr, ⊎-elim}
 use Prim.Native.Nat.{ℕ, _+_, _*_, _-_, _≤_, _<_}
 use native.Mathlib.Omega.{arith}
 use native.Mathlib.Nat.{add-mul, mul-le-mul-left}
-use Rattle.sheet.specs.Laws.Decided.{lt-or-le, Any, In, any-map, any-find, in-all}
+use Rattle.sheet.specs.Laws.Decided.{false-not-true, lt-or-le, Any, In, any-map, any-find, in-all}
 use Rattle.costs.specs.Costs.{Cost, fig, add, times}
 use Rattle.costs.specs.Priced.{Within}
 use Rattle.costs.specs.Laws.Figures.{fig-add, fig-times}
 use Rattle.arrivals.specs.Rows.{Row}
-use Rattle.arrivals.specs.Inner.Network.{Link, openb, always-open, Case, caseOf, since, sinceIn, waitIn, linkOf, linkAt, linksOf, links-find, links-any, countOf, dearOf, dearInto, Cheap, Lawful, Legal}
+use Rattle.arrivals.specs.Inner.Network.{Link, openb, Case, caseOf, since, sinceIn, waitIn, linkOf, linkAt, linksOf, countOf, dearOf, dearInto, Cheap}
+use Rattle.arrivals.specs.Inner.Network.{links-find, links-any, closureOf, closuresOf, open-of, Lawful, Legal}
 use Rattle.arrivals.specs.Inner.Lent.{Given, link-lawful}
 use Rattle.arrivals.specs.Inner.Filling.{Reaching}
 use Rattle.arrivals.specs.Inner.Rows.{rowsOf}
@@ -112,16 +113,25 @@ pub record Steady (k : Case) (v t : ℕ) : Type 0 where
 pub record SteadyIs (net : List ℕ) (v t : ℕ) (r : Bool) : Type 0 where
   pub of : (free : List ℕ) → Given free net → r ≡ true → Steady (caseOf free net) v t
 
-pub steady-of : (net : List ℕ) (v t : ℕ) (r : Bool) → (r ≡ true → dearInto net v ≡ 0) → SteadyIs net v t r
-steady-of net v t r none =
+-- no closure of step s leads to v where r is true
+pub record NoneInto (net : List ℕ) (v s : ℕ) (r : Bool) : Type 0 where
+  pub of : r ≡ true → (x : ℕ) → x < closuresOf net → closureOf net 2 x ≡ s → closureOf net 1 x ≡ v → ⊥
+
+pub steady-of : (net : List ℕ) (v t : ℕ) (r : Bool) → dearInto net v ≡ 0 → NoneInto net v (t - 2) r → SteadyIs net v t r
+steady-of net v t r cheap none =
     record {
       of = λ free given e. record {
         every = λ l m into.
             let q = links-find net (countOf net) m in
-            let z = subst (λ (u : ℕ). dearInto net u ≡ 0) (sym (ap (λ (x : Link). x .to) (q .fits) ∙ into)) (none e) in
-            (subst (Cheap (waitIn net)) (q .fits) (given .steady (q .at) (q .upto) z), always-open l (t - 2));
+            let to : linkOf net 1 (q .at) ≡ v = ap (λ (x : Link). x .to) (q .fits) ∙ into in
+            let z = subst (λ (u : ℕ). dearInto net u ≡ 0) (sym to) cheap in
+            let o = open-of net (linkOf net 0 (q .at)) (linkOf net 1 (q .at)) (t - 2) (λ x b c. none .of e x b (c .step) (c .to ∙ to)) in
+            (subst (Cheap (waitIn net)) (q .fits) (given .steady (q .at) (q .upto) z), subst (λ (x : Link). openb x (t - 2) ≡ true) (q .fits) o);
       };
     }
+
+pub steady-not : (net : List ℕ) (v t : ℕ) → SteadyIs net v t false
+steady-not net v t = record { of = λ free given e. absurd (false-not-true refl e) }
 
 pub record FreshIs (net : List ℕ) (j : ℕ) (h : Here) (f : ℕ) : Type 0 where
   pub of : (free : List ℕ) → Given free net → j < countOf net → h .since .0 ≡ sinceIn free (linkOf net 1 j) (h .step .0) → Fresh (caseOf free net) (linkAt net j) (h .step .0) f

@@ -12,7 +12,7 @@ use Rattle.arrivals.specs.Rows.{Row, rowAt}
 use Rattle.arrivals.specs.Laws.Rows.{row-kept}
 use Rattle.arrivals.specs.Inner.Rows.{rowsOf, rows-kept, rows-find, any-at, Bounded}
 use Rattle.arrivals.specs.Inner.Network.{Case, caseOf, Link, linkOf, linkAt, linksOf, links-find, links-any, countOf}
-use Rattle.arrivals.specs.Inner.Chains.{NextLink}
+use Rattle.arrivals.specs.Inner.Chains.{byPlace, NextOne}
 use Rattle.arrivals.specs.Inner.Entering.{reach, Enters, Entry, LedAt, Ready, Complete}
 use Rattle.arrivals.specs.Inner.Filling.{Reaching}
 use Rattle.arrivals.specs.Inner.Pruning.{Tried}
@@ -168,7 +168,7 @@ module _ (h : Here) (a : ℕ) where
   pub over-none : (k : Case) (xs net : List ℕ) (j m : ℕ) (g : Cost) → ((i : ℕ) → j ≤ i → i < m → linkOf net 1 i ≡ h .place .0 → ⊥) → Over (Entry h a k xs g) net j m → LedAt (rowsOf xs a) h g
   over-none k xs net j m g n o = absurd (n (o .at) (o .from) (o .upto) (o .fits .into))
 
-  pub over-step : (k : Case) (xs ys zs net : List ℕ) (j r m d e : ℕ) (ok : Bool) (f : ℕ) → 0 < j → j ≤ m → NextLink net 1 (h .place .0) (j - 1) r
+  pub over-step : (k : Case) (xs ys zs net : List ℕ) (j r m d e : ℕ) (ok : Bool) (f : ℕ) → 0 < j → j ≤ m → NextOne (byPlace 1) net (h .place .0) (j - 1) r
       → SweptAt (λ g. Over (Entry h a k xs g) net j m) h a xs ys d true e → SweptAt (λ g. Entry h a k ys g (linkAt net (j - 1))) h a ys zs e ok f → SweptAt (λ g. Over (Entry h a k xs g) net r m) h a xs zs d ok f
   over-step k xs ys zs net j r m d e ok f l u n x y =
       swept-then

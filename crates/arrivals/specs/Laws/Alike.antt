@@ -1,16 +1,20 @@
--- What the leading arrivals depend on: the start, the horizon, the waiting costs, the crossings, and which places are free at which steps within
--- the horizon. So neither the goal nor the time to unload there plays a part, and a step past T has no effect.
+-- What the leading arrivals depend on: the start, the horizon, the waiting costs, and within the horizon the crossings and which places are free at which
+-- steps. So neither the goal nor the time to unload there plays a part, and a step past T has no effect.
 use mathlib.Core.Path.{_≡_, refl, sym, _∙_, subst}
-use mathlib.Core.List.{List}
+use mathlib.Core.Bool.{Bool}
+use mathlib.Core.List.{List, [], _∷_}
 use Prim.Native.Nat.{ℕ, suc, _-_, _≤_, _<_}
 use native.Mathlib.Omega.{arith}
+use lib.Dec.{ltb}
 use lib.ListN.{set}
 use lib.Seq.{getD-set-other}
+use borrow.Author.Tests.{lt-ltb}
 use Rattle.sheet.specs.Lists.{_∈_, number}
-use Rattle.sheet.specs.Sheet.{Sheet, steps, start}
+use Rattle.sheet.specs.Sheet.{Sheet, steps, start, departure}
+use Rattle.sheet.specs.Laws.Members.{filter-mem, mem-filter}
 use Rattle.sheet.specs.Laws.Ascending.{ascending-unique}
 use Rattle.costs.specs.Costs.{Cost, add, times, AtMost}
-use Rattle.costs.specs.Moves.{waitOf, Crossing}
+use Rattle.costs.specs.Moves.{waitOf, Closed, Crossing}
 use Rattle.intervals.specs.Intervals.{freeb, Together}
 use Rattle.intervals.specs.Laws.Horizon.{SameWithin, same-back, same-interval, withinHorizon, past-horizon}
 use Rattle.arrivals.specs.Ways.{Move, waits, crosses, Way}
@@ -23,15 +27,15 @@ pub record Alike (s r : Sheet) : Type 0 where
   pub starts : start s ≡ start r
   pub within : SameWithin s r
   pub wait : (v : ℕ) → waitOf s v ≡ waitOf r v
-  pub forth : (u v t : ℕ) (c : Cost) → Crossing s u v t c → Crossing r u v t c
-  pub back : (u v t : ℕ) (c : Cost) → Crossing r u v t c → Crossing s u v t c
+  pub forth : (u v t : ℕ) (c : Cost) → t < steps s → Crossing s u v t c → Crossing r u v t c
+  pub back : (u v t : ℕ) (c : Cost) → t < steps r → Crossing r u v t c → Crossing s u v t c
 
 pub alike-back : (s r : Sheet) → Alike s r → Alike r s
 alike-back s r h = record { starts = sym (h .starts); within = same-back s r (h .within); wait = λ v. sym (h .wait v); forth = h .back; back = h .forth }
 
-alike-move : (s r : Sheet) → Alike s r → (u v t : ℕ) (c : Cost) → Move s u v t c → Move r u v t c
-alike-move s r h u v t c (waits p q) = waits p (q ∙ h .wait u)
-alike-move s r h u v t c (crosses x) = crosses (h .forth u v t c x)
+alike-move : (s r : Sheet) → Alike s r → (u v t : ℕ) (c : Cost) → t < steps s → Move s u v t c → Move r u v t c
+alike-move s r h u v t c l (waits p q) = waits p (q ∙ h .wait u)
+alike-move s r h u v t c l (crosses x) = crosses (h .forth u v t c l x)
 
 pub alike-way : (s r : Sheet) → Alike s r → (A : ℕ) (p : List ℕ) (g : Cost) → A ≤ steps s → Way s A p g → Way r A p g
 alike-way s r h A p g l w =
@@ -40,7 +44,7 @@ alike-way s r h A p g l w =
       starts = w .starts ∙ h .starts;
       free = λ t k. sym (h .within .free (number p t) t (omega arith)) ∙ w .free t k;
       price = w .price;
-      moves = λ t k. alike-move s r h (number p t) (number p (suc t)) t (w .price t) (w .moves t k);
+      moves = λ t k. alike-move s r h (number p t) (number p (suc t)) t (w .price t) (omega arith) (w .moves t k);
       sum = w .sum;
     }
 
@@ -73,10 +77,19 @@ leading-alike s r h =
 
 -- the sheet with another goal and another time to unload there
 unfoldable pub withGoal : Sheet → ℕ → ℕ → Sheet
-withGoal s g u = record { head = set (set (s .head) 3 g) 7 u; corridors = s .corridors; occupancies = s .occupancies }
+withGoal s g u = record { head = set (set (s .head) 3 g) 7 u; corridors = s .corridors; closures = s .closures; occupancies = s .occupancies }
 
-same-crossing : (s r : Sheet) → s .corridors ≡ r .corridors → (u v t : ℕ) (c : Cost) → Crossing s u v t c → Crossing r u v t c
-same-crossing s r e u v t c x = record { line = x .line; listed = subst (λ (l : List (List ℕ)). x .line ∈ l) e (x .listed); leaves = x .leaves; enters = x .enters; price = x .price }
+-- a crossing on a sheet with the same corridors, where it is not closed
+same-crossing : (s r : Sheet) → s .corridors ≡ r .corridors → (u v t : ℕ) (c : Cost) → (Closed r u v t → Closed s u v t) → Crossing s u v t c → Crossing r u v t c
+same-crossing s r e u v t c f x =
+    record {
+      line = x .line;
+      listed = subst (λ (l : List (List ℕ)). x .line ∈ l) e (x .listed);
+      leaves = x .leaves;
+      enters = x .enters;
+      price = x .price;
+      opens = λ m. x .opens (f m);
+    }
 
 goal-alike : (s : Sheet) (g u : ℕ) → Alike (withGoal s g u) s
 unfolding withGoal waitOf freeb
@@ -85,8 +98,8 @@ goal-alike s g u =
       starts = other 2 (λ e. omega arith) (omega arith);
       within = record { horizon = other 1 (λ e. omega arith) (omega arith); free = λ v t l. refl };
       wait = λ v. (let a = w 4 (omega arith) (omega arith) in let b = w 5 (omega arith) (omega arith) in let c = w 6 (omega arith) (omega arith) in cc);
-      forth = same-crossing (withGoal s g u) s refl;
-      back = same-crossing s (withGoal s g u) refl;
+      forth = λ p q t c l. same-crossing (withGoal s g u) s refl p q t c (λ m. m);
+      back = λ p q t c l. same-crossing s (withGoal s g u) refl p q t c (λ m. m);
     }
   where
     other : (i : ℕ) → (i ≡ 3 → ⊥) → i < 7 → number (set (set (s .head) 3 g) 7 u) i ≡ number (s .head) i
@@ -107,9 +120,12 @@ horizon-alike s =
       starts = refl;
       within = past-horizon s;
       wait = λ v. refl;
-      forth = same-crossing (withinHorizon s) s refl;
-      back = same-crossing s (withinHorizon s) refl;
+      forth = λ u v t c l. same-crossing (withinHorizon s) s refl u v t c (λ m. mem-filter soon (u ∷ v ∷ t ∷ []) (s .closures) m (lt-ltb t (steps s) l));
+      back = λ u v t c l. same-crossing s (withinHorizon s) refl u v t c (λ m. filter-mem soon (u ∷ v ∷ t ∷ []) (s .closures) m .0);
     }
+  where
+    soon : List ℕ → Bool
+    soon x = ltb (departure x) (steps s)
 
 pub leading-within-horizon : (s : Sheet) → leading (withinHorizon s) ≡ leading s
 leading-within-horizon s = leading-alike (withinHorizon s) s (horizon-alike s)

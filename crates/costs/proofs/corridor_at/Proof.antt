@@ -1,4 +1,5 @@
--- `costs::corridor_at` meets its contract: the five numbers of line k are the corridor's ends and its cost.
+-- `costs::corridor_at` meets its contract: the five numbers of line k are the corridor's ends and its cost, and it is
+-- open where it is not closed.
 -- Assumes nothing.
 use mathlib.Core.Path.{_≡_, refl}
 use mathlib.Core.List.{List}
@@ -37,16 +38,17 @@ mul-to c = omega (arith, room (c .before .before .before .pre))
 shared-slice-read-to : tie.Need-shared-slice-read-to
 shared-slice-read-to c = omega (arith, room (c .before .before .before .before .pre))
 
+is-closed-requires : tie.Need-is-closed-requires
+is-closed-requires c κs = (c .before .before .before .before .pre) .0
+
 add-cost-from : tie.Need-add-cost-from
-add-cost-from c = omega (arith, room (c .before .before .before .before .pre))
+add-cost-from c = omega (arith, room (c .before .before .before .before .before .pre))
 
 cost-from-requires : tie.Need-cost-from-requires
-cost-from-requires c κs = omega (arith, room (c .before .before .before .before .pre))
+cost-from-requires c κs = omega (arith, room (c .before .before .before .before .before .pre))
 
 returns : tie.Need-returns
-returns c =
-    let z = c .before .before .before .before .before in
-    corridor-is (z .pre .0) (z .args .k) (z .pre .1) (z .args .t .0) _ refl refl refl (c .cost-from .ensures)
+returns c = corridor-is ((c .before .before .before .before .before .before .pre) .0) ((c .before .before .before .before .before .before .args) .k) ((c .before .before .before .before .before .before .pre) .1) ((c .before .before .before .before .before .before .args) .t .0) _ refl ((c .before .is-closed) .ensures) refl refl ((c .cost-from) .ensures)
 
 pub corridor-at-spec : {M : Type 1} → statement M
 corridor-at-spec =
@@ -59,6 +61,7 @@ corridor-at-spec =
     add-to
     mul-to
     shared-slice-read-to
+    is-closed-requires
     add-cost-from
     cost-from-requires
     returns)

@@ -1,27 +1,30 @@
 -- Laws of waits and crossings: all that the crates above know of the definitions. A cost has three figures; what leaves a place crosses;
 -- on a valid sheet a crossing has one cost, and no figure is above 60,000; a crossing is by one of the corridors, which the array counts.
-use mathlib.Core.Path.{_≡_, refl, sym, _∙_, ap}
-use mathlib.Core.Logic.{inl, inr}
+use mathlib.Core.Path.{_≡_, refl, sym, _∙_, ap, subst}
+use mathlib.Core.Bool.{Bool, true, false, not, _&&_, true≢false}
 use mathlib.Core.List.{List, [], _∷_}
 use Prim.Native.Nat.{ℕ, zero, suc, _/_, _+_, _≤_, _<_}
 use native.Mathlib.Omega.{arith}
 use lib.Dec.{eqb}
 use lib.ListN.{length, getD, take}
-use borrow.Author.Tests.{eqb-true, eq-eqb}
+use borrow.Author.Tests.{eqb-true, eq-eqb, not-true}
 use Rattle.sheet.specs.Lists.{_∈_, number, numbersFrom}
 use Rattle.sheet.specs.Kinds.{width, kindC}
 use Rattle.sheet.specs.Sheet.{Sheet, from, to}
 use Rattle.sheet.specs.Valid.{Valid}
 use Rattle.sheet.specs.Store.{SomeStore, partOf, sheetIn}
-use Rattle.sheet.specs.Laws.Members.{filter-mem, mem-filter, mem-at}
+use Rattle.sheet.specs.Laws.Order.{and-true, true-and}
+use Rattle.sheet.specs.Laws.Members.{filter-mem, mem-filter, any-mem, mem-any, mem-at, position-of}
 use Rattle.sheet.specs.Laws.Ascending.{ascending-once}
-use Rattle.sheet.specs.Laws.Decided.{from-length}
+use Rattle.sheet.specs.Laws.Decided.{yes-of, is-yes, from-length}
 use Rattle.sheet.specs.Laws.Rows.{rows-count}
 use Rattle.sheet.specs.Laws.Store.{store-numbers}
 use Rattle.costs.specs.Costs.{Cost, figures, fig}
-use Rattle.costs.specs.Moves.{waitOf, costOf, Crossing}
-use Rattle.costs.specs.Computed.{leaving}
-use Rattle.costs.specs.Priced.{CrossingBy}
+use Rattle.costs.specs.Moves.{waitOf, costOf, Closed, Crossing}
+use Rattle.costs.specs.Computed.{sameb, closedb, leaving}
+use Rattle.costs.specs.Priced.{CrossingBy, CorridorIs}
+use Rattle.costs.specs.Laws.Figures.{sameb-true, sameb-refl}
+use Rattle.costs.specs.declared.Corridor.{Corridor}
 
 pub wait-three : (s : Sheet) (v : ℕ) → length (waitOf s v) ≡ figures
 unfolding waitOf
@@ -34,15 +37,32 @@ cost-three k = from-length figures 2 k
 pub crossing-three : {s : Sheet} {u v t : ℕ} {c : Cost} → Crossing s u v t c → length c ≡ figures
 crossing-three k = ap length (k .price) ∙ cost-three (k .line)
 
+-- closures, computed
+never-true : (b : Bool) → (b ≡ true → ⊥) → not b ≡ true
+never-true true n = absurd (n refl)
+never-true false n = refl
+
+pub closed-closedb : (s : Sheet) (u v t : ℕ) → Closed s u v t → closedb s u v t ≡ true
+closed-closedb s u v t m = mem-any (sameb (u ∷ v ∷ t ∷ [])) (s .closures) (u ∷ v ∷ t ∷ []) m (sameb-refl (u ∷ v ∷ t ∷ []))
+
+pub closedb-closed : (s : Sheet) (u v t : ℕ) → closedb s u v t ≡ true → Closed s u v t
+closedb-closed s u v t e =
+    let r = any-mem (sameb (u ∷ v ∷ t ∷ [])) (s .closures) e in
+    subst (λ (x : List ℕ). x ∈ s .closures) (sym (sameb-true (u ∷ v ∷ t ∷ []) (r .0) (r .2))) (r .1)
+
 pub leaving-crossing : (s : Sheet) (u t : ℕ) (k : List ℕ) → k ∈ leaving s u t → Crossing s u (to k) t (costOf k)
 unfolding leaving
 leaving-crossing s u t k m =
-    let q = filter-mem (λ (k : List ℕ). eqb (from k) u) k (s .corridors) m in
-    record { line = k; listed = q .0; leaves = eqb-true _ _ (q .1); enters = refl; price = refl }
+    let q = filter-mem (λ (k : List ℕ). eqb (from k) u && not (closedb s u (to k) t)) k (s .corridors) m in
+    let r = and-true (eqb (from k) u) (not (closedb s u (to k) t)) (q .1) in
+    record { line = k; listed = q .0; leaves = eqb-true _ _ (r .0); enters = refl; price = refl; opens = λ x. true≢false (sym (closed-closedb s u (to k) t x) ∙ not-true (closedb s u (to k) t) (r .1)) }
 
 pub crossing-leaving : (s : Sheet) (u v t : ℕ) (c : Cost) (x : Crossing s u v t c) → x .line ∈ leaving s u t
 unfolding leaving
-crossing-leaving s u v t c x = mem-filter (λ (k : List ℕ). eqb (from k) u) (x .line) (s .corridors) (x .listed) (eq-eqb _ _ (x .leaves))
+crossing-leaving s u v t c x =
+    mem-filter (λ (k : List ℕ). eqb (from k) u && not (closedb s u (to k) t)) (x .line) (s .corridors) (x .listed)
+    (true-and (eqb (from (x .line)) u) (not (closedb s u (to (x .line)) t)) (eq-eqb _ _ (x .leaves))
+    (never-true (closedb s u (to (x .line)) t) (λ e. x .opens (closedb-closed s u v t (sym (ap (λ (w : ℕ). closedb s u w t) (x .enters)) ∙ e)))))
 
 -- a figure of n numbers that stand from position i on is one of them, or past the end
 from-within : (n i m : ℕ) (l : List ℕ) → ((j : ℕ) → i ≤ j → j < i + n → number l j ≤ m) → (j : ℕ) → fig (numbersFrom n i l) j ≤ m
@@ -80,23 +100,40 @@ crossing-apart s h u v t c x e = h .corridors (x .line) (x .listed) .apart (x .l
 -- a crossing is by one of the corridors
 pub by-crossing : (s : Sheet) (k u v t : ℕ) (c : Cost) → CrossingBy s k u v t c → Crossing s u v t c
 by-crossing s k u v t c x =
-    record { line = getD (s .corridors) k []; listed = mem-at [] (s .corridors) k (x .listed); leaves = x .leaves; enters = x .enters; price = x .price }
-
-number-of : (x : List ℕ) (l : List (List ℕ)) → x ∈ l → (k : ℕ) × (k < length l) × (getD l k [] ≡ x)
-number-of x [] m = absurd m
-number-of x (y ∷ l) (inl e) = (0, omega arith, sym e)
-number-of x (y ∷ l) (inr m) = let r = number-of x l m in (suc (r .0), omega (arith, r .1), r .2)
+    record { line = getD (s .corridors) k []; listed = mem-at [] (s .corridors) k (x .listed); leaves = x .leaves; enters = x .enters; price = x .price; opens = x .opens }
 
 pub crossing-by : (s : Sheet) (u v t : ℕ) (c : Cost) → Crossing s u v t c → (k : ℕ) × CrossingBy s k u v t c
 crossing-by s u v t c x =
-    let r = number-of (x .line) (s .corridors) (x .listed) in
-    (r .0, record { listed = r .1; leaves = ap from (r .2) ∙ x .leaves; enters = ap to (r .2) ∙ x .enters; price = x .price ∙ ap costOf (sym (r .2)) })
+    let r = position-of [] (x .line) (s .corridors) (x .listed) in
+    (r .0, record { listed = r .1; leaves = ap from (r .2) ∙ x .leaves; enters = ap to (r .2) ∙ x .enters; price = x .price ∙ ap costOf (sym (r .2)); opens = x .opens })
 
--- how many corridors the sheet in the array has
 -- a corridor that can be departed by at another step too has the same ends and the same cost then
 pub crossing-also : (s : Sheet) (k u v t : ℕ) (c : Cost) → CrossingBy s k u v t c → (u′ v′ t′ : ℕ) (c′ : Cost) → CrossingBy s k u′ v′ t′ c′ → CrossingBy s k u v t′ c
-crossing-also s k u v t c x u′ v′ t′ c′ y = record { listed = x .listed; leaves = x .leaves; enters = x .enters; price = x .price }
+crossing-also s k u v t c x u′ v′ t′ c′ y =
+    record {
+      listed = x .listed;
+      leaves = x .leaves;
+      enters = x .enters;
+      price = x .price;
+      opens = λ m. y .opens (subst (λ (w : ℕ). Closed s w v′ t′) (sym (x .leaves) ∙ y .leaves) (subst (λ (w : ℕ). Closed s u w t′) (sym (x .enters) ∙ y .enters) m));
+    }
 
+-- a corridor that is open is crossed, and what crosses by it is the corridor
+module _ {s : Sheet} {k t : ℕ} {r : Corridor} (d : CorridorIs s k t r) where
+  pub corridor-crosses : r .open ≡ true → CrossingBy s k (r .from .0) (r .to .0) t (r .cost)
+  corridor-crosses e = record { listed = d .listed; leaves = sym (d .leaves); enters = sym (d .enters); price = d .price; opens = yes-of (d .opens) e }
+
+  pub crosses-corridor : (u v : ℕ) (c : Cost) → CrossingBy s k u v t c → (r .open ≡ true) × (r .from .0 ≡ u) × (r .to .0 ≡ v) × (r .cost ≡ c)
+  crosses-corridor u v c x =
+      let f = d .leaves ∙ x .leaves in
+      let g = d .enters ∙ x .enters in (
+        is-yes (d .opens) (λ m. x .opens (subst (λ (w : ℕ). Closed s w v t) f (subst (λ (w : ℕ). Closed s (r .from .0) w t) g m))),
+        f,
+        g,
+        d .price ∙ sym (x .price),
+      )
+
+-- how many corridors the sheet in the array has
 pub corridor-count : {lines all : List ℕ} → SomeStore lines all → number lines (kindC .order) ≡ length (sheetIn lines all .corridors)
 corridor-count {lines} {all} S =
     let cs = partOf lines all (kindC .order) in

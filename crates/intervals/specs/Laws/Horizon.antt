@@ -6,10 +6,10 @@ use mathlib.Core.Bool.{Bool, true, false, not}
 use mathlib.Core.List.{List, [], _∷_, map}
 use Prim.Native.Nat.{ℕ, _+_, _-_, _≤_}
 use native.Mathlib.Omega.{arith}
-use lib.Dec.{leb}
+use lib.Dec.{ltb, leb}
 use borrow.Author.Tests.{leb-true, leb-false}
-use Rattle.sheet.specs.Lists.{pick, all}
-use Rattle.sheet.specs.Sheet.{Sheet, steps, placeOf, first, last}
+use Rattle.sheet.specs.Lists.{pick, filter, all}
+use Rattle.sheet.specs.Sheet.{Sheet, steps, departure, placeOf, first, last}
 use Rattle.sheet.specs.Laws.Order.{bool-same}
 use Rattle.intervals.specs.Intervals.{occupiesb, freeb, Interval}
 use Rattle.intervals.specs.Laws.Free.{occupiesb-true, occupies-occupiesb}
@@ -48,10 +48,16 @@ same-interval s r h v a b i =
 abbrev pub cutOff : ℕ → List ℕ → List ℕ
 cutOff T o = placeOf o ∷ first o ∷ pick (leb (last o) T) (last o) T ∷ []
 
--- the sheet with its occupancies cut off at its horizon; on a sheet that is read each begins within it (document 02, E6)
+-- the sheet with its occupancies cut off at its horizon, within which each begins on a sheet that is read (document 02, E6), and with the closures that
+-- forbid a departure before it
 unfoldable pub withinHorizon : Sheet → Sheet
 withinHorizon s =
-    record { head = s .head; corridors = s .corridors; occupancies = map (cutOff (steps s)) (s .occupancies) }
+    record {
+      head = s .head;
+      corridors = s .corridors;
+      closures = filter (λ x. ltb (departure x) (steps s)) (s .closures);
+      occupancies = map (cutOff (steps s)) (s .occupancies);
+    }
 
 cut-same : (T v t : ℕ) (o : List ℕ) → t ≤ T → occupiesb v t o ≡ occupiesb v t (cutOff T o)
 cut-same T v t o h =

@@ -29,13 +29,6 @@ pub record Sorted (n : ℕ) (xs : List ℕ) : Type 0 where
   pub room : n * 5 ≤ length xs
   pub ascends : (i j : ℕ) → i < j → j < n → Lex (keyOf (standAt xs i)) (keyOf (standAt xs j))
 
--- of the first n rows, those below number `low` come before a, and those from number `high` on do not
-pub record Parted (n : ℕ) (xs : List ℕ) (a : Arrival) (low high : ℕ) : Type 0 where
-  pub order : low ≤ high
-  pub most : high ≤ n
-  pub before : (k : ℕ) → k < low → Lex (keyOf (standAt xs k)) (keyOf a)
-  pub rest : (k : ℕ) → high ≤ k → k < n → Lex (keyOf (standAt xs k)) (keyOf a) → ⊥
-
 -- of the first n rows the one with number r is a, and no other is; r is n where none is
 pub record RowIs (n : ℕ) (xs : List ℕ) (a : Arrival) (r : ℕ) : Type 0 where
   pub most : r ≤ n

@@ -50,10 +50,14 @@ pub journey-rooms : (journeyA 1 25 6 ∷ journeyA 1 25 4 ∷ journeyA 2 25 1 ∷
 unfolding journeyCall
 journey-rooms = refl
 
--- 256 corridors and 256 occupancies, each number with the most digits that its limit allows
+-- 256 corridors, 256 closures and 256 occupancies, each number with the most digits that its limit allows
 abbrev pub corridorsLongest : ℕ → List ℕ
 corridorsLongest zero = []
 corridorsLongest (suc n) = corridorsLongest n ++ ((10 + n / 48) ∷ (16 + n % 48) ∷ 60000 ∷ 60000 ∷ 60000 ∷ [])
+
+abbrev pub closuresLongest : ℕ → List ℕ
+closuresLongest zero = []
+closuresLongest (suc n) = closuresLongest n ++ (10 ∷ (16 + n / 128) ∷ (128 + n % 128) ∷ [])
 
 abbrev pub occupanciesLongest : ℕ → List ℕ
 occupanciesLongest zero = []
@@ -63,6 +67,7 @@ abbrev pub headLongest : List ℕ
 headLongest = 64 ∷ 255 ∷ 10 ∷ 10 ∷ 60000 ∷ 60000 ∷ 60000 ∷ 99 ∷ []
 
 -- the longest sheet is written, and no sheet is longer
-pub longest-written : writeCall headLongest (corridorsLongest 256) (occupanciesLongest 256) (replicate longest 7) .answer ≡ record { refusal = 0; line = 0; bytes = longest }
+pub longest-written : writeCall headLongest (corridorsLongest 256) (closuresLongest 256) (occupanciesLongest 256) (replicate longest 7) .answer
+    ≡ record { refusal = 0; line = 0; bytes = longest }
 unfolding writeGroups
 longest-written = refl

@@ -1,5 +1,5 @@
--- The sheets to try of document 01 that are marked with *, and sheet A with time to unload (document 02, E2): from the bytes on standard input to the
--- bytes printed, one table, one theorem.
+-- The sheets to try of document 01 that are marked with *, sheet A with time to unload (document 02, E2), and the bed of document 02, E5, with sheet A's
+-- corridors closed: from the bytes on standard input to the bytes printed, one table, one theorem.
 use mathlib.Core.Path.{_≡_, refl}
 use mathlib.Core.List.{List, [], _∷_, map}
 use Prim.Native.String.{String, _++_}
@@ -19,6 +19,10 @@ corridorsA = "C,0,1,1,0,4\nC,0,2,1,3,0\nC,1,3,1,0,4\nC,2,3,1,3,0\n"
 
 abbrev pub sheetA : String
 sheetA = "S,4,6,0,3,1,0,0,0\n" ++ corridorsA ++ "O,1,1,2\n"
+
+-- a bed stands at 2 until step 1 and at 1 at step 2; a cart goes from 0 by 1 to 2, with these closures
+abbrev pub bed : String → String
+bed x = "S,3,6,0,2,1,0,0,0\nC,0,1,1,0,0\nC,1,2,1,0,0\nC,2,1,1,0,0\n" ++ x ++ "O,1,2,2\nO,2,0,1\n"
 
 abbrev pub table : List Printed
 table =
@@ -47,6 +51,14 @@ table =
     -- the goal free at one step: a journey, and none where unloading takes a step
     ∷ shows ("S,4,6,0,3,1,0,0,0\n" ++ corridorsA ++ "O,1,1,2\nO,3,0,1\nO,3,3,6\n") "F,1,4\nJ,2,6,0,2\nP,0,2,3\n"
     ∷ shows ("S,4,6,0,3,1,0,0,1\n" ++ corridorsA ++ "O,1,1,2\nO,3,0,1\nO,3,3,6\n") "F,0,4\n"
+    -- E5: the cart meets the bed in the corridor; with its direction closed it waits at 0 until the bed has passed; the other direction is not its own
+    ∷ shows (bed "") "F,1,4\nJ,2,0,0,2\nP,0,1,2\n"
+    ∷ shows (bed "X,1,2,1\n") "F,1,4\nJ,4,0,0,4\nP,0,0,0,1,2\n"
+    ∷ shows (bed "X,2,1,1\n") "F,1,4\nJ,2,0,0,2\nP,0,1,2\n"
+    -- A, its corridor from 0 to 2 closed: at step 0, so that a cart waits until it opens; until the last departure; at the last step, where none departs
+    ∷ shows ("S,4,6,0,3,1,0,0,0\n" ++ corridorsA ++ "X,0,2,0\nO,1,1,2\n") "F,2,5\nJ,3,6,0,3\nP,0,0,2,3\nJ,4,0,8,4\nP,0,0,0,1,3\n"
+    ∷ shows ("S,4,2,0,2,1,0,0,0\n" ++ corridorsA ++ "X,0,2,0\nX,0,2,1\nO,1,1,2\n") "F,0,1\n"
+    ∷ shows ("S,4,2,0,2,1,0,0,0\n" ++ corridorsA ++ "X,0,2,0\nX,0,2,2\nO,1,1,2\n") "F,1,2\nJ,2,3,0,2\nP,0,0,2\n"
     ∷ []
 
 pub marked : map (λ e. page (bytes (e .input))) table ≡ map (λ e. bytes (e .output)) table

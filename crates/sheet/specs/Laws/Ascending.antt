@@ -4,10 +4,13 @@ use mathlib.Core.Path.{_≡_, refl, sym, _∙_, ap, subst}
 use mathlib.Core.Logic.{_⊎_, inl, inr}
 use mathlib.Core.Bool.{Bool, true, false, true≢false}
 use mathlib.Core.List.{List, [], _∷_, _++_}
-use Prim.Native.Nat.{ℕ}
+use Prim.Native.Nat.{ℕ, zero, suc, _<_}
+use native.Mathlib.Omega.{arith}
+use lib.ListN.{length, getD}
 use Rattle.sheet.specs.Lists.{_∈_, keep, filter, Lex}
 use Rattle.sheet.specs.Computed.{lexb}
 use Rattle.sheet.specs.Sorting.{Before, Ascending, put, insert, sortUnique}
+use Rattle.sheet.specs.Laws.Members.{mem-at}
 use Rattle.sheet.specs.Laws.Order.{Lex-irrefl, Lex-trans, lexb-true, lexb-false, Lex-lexb}
 
 -- no two things have one key
@@ -129,6 +132,13 @@ module _ {A : Type 0} (key : A → List ℕ) where
   ascending-once (x ∷ l) s a b (inl p) (inr n) e = absurd (Lex-irrefl (key b) (subst (λ (z : List ℕ). Lex z (key b)) (ap key (sym p) ∙ e) (before-all x l (s .0) (s .1) b n)))
   ascending-once (x ∷ l) s a b (inr m) (inl q) e = absurd (Lex-irrefl (key a) (subst (λ (z : List ℕ). Lex z (key a)) (ap key (sym q) ∙ sym e) (before-all x l (s .0) (s .1) a m)))
   ascending-once (x ∷ l) s a b (inr m) (inr n) e = ascending-once l (s .1) a b m n e
+
+  -- of two members the one at the lower position stands before the other
+  pub ascending-at : (d : A) (l : List A) → Ascending key l → (i j : ℕ) → i < j → j < length l → Lex (key (getD l i d)) (key (getD l j d))
+  ascending-at d [] s i j h b = absurd (omega arith)
+  ascending-at d (x ∷ l) s i zero h b = absurd (omega arith)
+  ascending-at d (x ∷ l) s zero (suc j) h b = before-all x l (s .0) (s .1) (getD l j d) (mem-at d l j (omega arith))
+  ascending-at d (x ∷ l) s (suc i) (suc j) h b = ascending-at d l (s .1) i j (omega arith) (omega arith)
 
   -- two strictly ascending lists with the same members are one
   head-first : (x y : A) (l k : List A) → Ascending key (y ∷ k) → x ∈ (y ∷ k) → y ∈ (x ∷ l) → Ascending key (x ∷ l) → x ≡ y

@@ -9,6 +9,7 @@ use lib.ListN.{length, set, getD, take, drop, replicate, length-append, length-s
 use lib.Seq.{sets, set-append-left, drop-append-add, take-at}
 use Rattle.sheet.specs.Lists.{number, filled, flat}
 use Rattle.sheet.specs.Kinds.{Kind, width, room, kindS, kinds}
+use Rattle.sheet.specs.Sheet.{Sheet}
 use Rattle.sheet.specs.Store.{kindCount, kindAt, baseIn, baseOf, storeRoom, spread}
 use Rattle.sheet.specs.Laws.Rows.{flat-length}
 use Rattle.sheet.specs.Laws.Stores.{length-filled}
@@ -88,39 +89,39 @@ cells-store (j ∷ ks) (f ∷ gs) r (suc k) at v g h w e =
     ∙ ap (λ (l : List ℕ). filled (room j) (flat f) ++ l) (cells-store ks gs (r .1) k at v g (omega arith) w e))
 
 -- runs have room; the run at a position
-run-room : {p : List ℕ} {k : Kind} {g : List (List ℕ)} → Run p k g → length (flat g) ≤ room k
+run-room : {s : Sheet} {k : Kind} {g : List (List ℕ)} → Run s k g → length (flat g) ≤ room k
 run-room {k = k} {g = g} r = omega (arith, flat-length (width k) g (r .count), mul-le-mul-right (width k) (r .few))
 
-runs-roomy : (p : List ℕ) (ks : List Kind) (gs : List (List (List ℕ))) → length gs ≡ length ks → AllRuns p ks gs → Roomy ks gs
-runs-roomy p [] [] e r = tt
-runs-roomy p [] (g ∷ gs) e r = absurd (omega arith)
-runs-roomy p (k ∷ ks) [] e r = absurd (omega arith)
-runs-roomy p (k ∷ ks) (g ∷ gs) e r = (run-room (r .0), runs-roomy p ks gs (omega arith) (r .1))
+runs-roomy : (s : Sheet) (ks : List Kind) (gs : List (List (List ℕ))) → length gs ≡ length ks → AllRuns s ks gs → Roomy ks gs
+runs-roomy s [] [] e r = tt
+runs-roomy s [] (g ∷ gs) e r = absurd (omega arith)
+runs-roomy s (k ∷ ks) [] e r = absurd (omega arith)
+runs-roomy s (k ∷ ks) (g ∷ gs) e r = (run-room (r .0), runs-roomy s ks gs (omega arith) (r .1))
 
-run-at : (p : List ℕ) (ks : List Kind) (gs : List (List (List ℕ))) → length gs ≡ length ks → AllRuns p ks gs → (k : ℕ) → k < length ks
-    → Run p (getD ks k kindS) (getD gs k [])
-run-at p [] gs e r k h = absurd (omega arith)
-run-at p (j ∷ ks) [] e r k h = absurd (omega arith)
-run-at p (j ∷ ks) (g ∷ gs) e r zero h = r .0
-run-at p (j ∷ ks) (g ∷ gs) e r (suc k) h = run-at p ks gs (omega arith) (r .1) k (omega arith)
+run-at : (s : Sheet) (ks : List Kind) (gs : List (List (List ℕ))) → length gs ≡ length ks → AllRuns s ks gs → (k : ℕ) → k < length ks
+    → Run s (getD ks k kindS) (getD gs k [])
+run-at s [] gs e r k h = absurd (omega arith)
+run-at s (j ∷ ks) [] e r k h = absurd (omega arith)
+run-at s (j ∷ ks) (g ∷ gs) e r zero h = r .0
+run-at s (j ∷ ks) (g ∷ gs) e r (suc k) h = run-at s ks gs (omega arith) (r .1) k (omega arith)
 
--- groups on a sheet whose S line has the numbers p that stand in the array, with these counts of lines
-pub record Held (p : List ℕ) (gs : List (List (List ℕ))) (lines all : List ℕ) : Type 0 where
+-- groups on the sheet s that stand in the array, with these counts of lines
+pub record Held (s : Sheet) (gs : List (List (List ℕ))) (lines all : List ℕ) : Type 0 where
   pub each : length gs ≡ kindCount
-  pub runs : AllRuns p kinds gs
+  pub runs : AllRuns s kinds gs
   pub counts : lines ≡ map length gs
   pub cells : all ≡ spread kinds gs
 
-module _ {p : List ℕ} {gs : List (List (List ℕ))} {lines all : List ℕ} (H : Held p gs lines all) where
+module _ {s : Sheet} {gs : List (List (List ℕ))} {lines all : List ℕ} (H : Held s gs lines all) where
   pub held-roomy : Roomy kinds gs
-  held-roomy = runs-roomy p kinds gs (H .each) (H .runs)
+  held-roomy = runs-roomy s kinds gs (H .each) (H .runs)
 
   pub held-length : length all ≡ storeRoom
   held-length = ap length (H .cells) ∙ cells-length kinds gs held-roomy
 
   module _ (k : ℕ) (h : k < kindCount) where
-    pub held-run : Run p (kindAt k) (getD gs k [])
-    held-run = run-at p kinds gs (H .each) (H .runs) k h
+    pub held-run : Run s (kindAt k) (getD gs k [])
+    held-run = run-at s kinds gs (H .each) (H .runs) k h
 
     pub held-count : number lines k ≡ length (getD gs k [])
     held-count = ap (λ (l : List ℕ). number l k) (H .counts) ∙ List·getD-map length gs k []

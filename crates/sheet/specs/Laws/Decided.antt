@@ -26,6 +26,10 @@ pub no-of : {P : Type 0} {b : Bool} → Decided P b → b ≡ false → P → �
 no-of (holds p) e q = true≢false e
 no-of (fails n) e q = n q
 
+pub is-yes : {P : Type 0} {b : Bool} → Decided P b → P → b ≡ true
+is-yes (holds p) q = refl
+is-yes (fails n) q = absurd (n q)
+
 pub decided-as : {P Q : Type 0} {b : Bool} → (P → Q) → (Q → P) → Decided P b → Decided Q b
 decided-as f g (holds p) = holds (f p)
 decided-as f g (fails n) = fails (λ q. n (g q))

@@ -16,7 +16,7 @@ use Rattle.sheet.specs.Sorting.{Ascending}
 use Rattle.sheet.specs.Kinds.{Kind, kindS, kinds}
 use Rattle.sheet.specs.Lines.{Line, line}
 use Rattle.sheet.specs.Sheet.{Sheet, group, sheetOf, groupsOf, linesFrom, sheetLines, misplaced}
-use Rattle.sheet.specs.Laws.Members.{mem-left, mem-right, mem-append, filter-mem}
+use Rattle.sheet.specs.Laws.Members.{mem-left, mem-right, mem-append, mem-map, filter-mem, mem-filter}
 use Rattle.sheet.specs.Laws.Ascending.{before-all}
 use Rattle.sheet.specs.Laws.Kinds.{orderKey, kinds-ascend, kind-by-order}
 use Rattle.sheet.specs.Laws.Judge.{Passes}
@@ -52,6 +52,13 @@ of-kind k [] l m = absurd m
 
 pub group-other : (k j : Kind) (ns : List (List ℕ)) → j .order ≢ k .order → group k (map (line j) ns) ≡ []
 group-other k j ns h = group-none k (map (line j) ns) (λ l m. subst (λ (i : Kind). i .order ≢ k .order) (sym (of-kind j ns l m)) h)
+
+-- a line of the kind is in its group, and more lines keep it there
+pub mem-group : (k : Kind) (n : List ℕ) (ls : List Line) → line k n ∈ ls → n ∈ group k ls
+mem-group k n ls m = mem-map (λ l. l .numbers) (line k n) (filter (isKind k) ls) (mem-filter (isKind k) (line k n) ls m (eq-eqb (k .order) (k .order) refl))
+
+pub group-more : (k : Kind) (ls ms : List Line) (n : List ℕ) → n ∈ group k ls → n ∈ group k (ls ++ ms)
+group-more k ls ms n m = subst (λ (g : List (List ℕ)). n ∈ g) (sym (group-append k ls ms)) (mem-left n (group k ls) (group k ms) m)
 
 -- the kinds after k have higher orders
 pub later-kinds : (k : Kind) (ks : List Kind) → Ascending orderKey (k ∷ ks) → (j : Kind) → j ∈ ks → k .order < j .order
@@ -90,19 +97,25 @@ groups-lines (k ∷ ks) (g ∷ gs) a e =
         group-append j (map (line k) g) (linesFrom ks gs)
         ∙ ap (λ (x : List (List ℕ)). x ++ group j (linesFrom ks gs)) (group-other j k g (λ q. omega (arith, later-kinds k ks a j m)))
 
+-- a sheet group by group, behind one S line
+pub sheet-path : {h : List ℕ} {c d x y o p : List (List ℕ)} → c ≡ d → x ≡ y → o ≡ p
+    → _≡_ {A = Sheet} (record { head = h; corridors = c; closures = x; occupancies = o }) (record { head = h; corridors = d; closures = y; occupancies = p })
+sheet-path {h} e f g = λ i. record { head = h; corridors = e i; closures = f i; occupancies = g i }
+
 -- the sheet with these groups
 abbrev pub sheetFrom : List (List (List ℕ)) → Sheet
-sheetFrom gs = record { head = flat (getD gs 0 []); corridors = getD gs 1 []; occupancies = getD gs 2 [] }
+sheetFrom gs = record { head = flat (getD gs 0 []); corridors = getD gs 1 []; closures = getD gs 2 []; occupancies = getD gs 3 [] }
 
 pub sheet-from : (s : Sheet) → sheetFrom (groupsOf s) ≡ s
-sheet-from s = ap (λ (h : List ℕ). record { head = h; corridors = s .corridors; occupancies = s .occupancies }) (append-nil (s .head))
+sheet-from s = ap (λ (h : List ℕ). record { head = h; corridors = s .corridors; closures = s .closures; occupancies = s .occupancies }) (append-nil (s .head))
 
 pub from-sheet : (gs : List (List (List ℕ))) → length gs ≡ length kinds → (n : List ℕ) → getD gs 0 [] ≡ n ∷ [] → groupsOf (sheetFrom gs) ≡ gs
-from-sheet (g ∷ c ∷ o ∷ []) e n z = ap (λ (h : List (List ℕ)). h ∷ c ∷ o ∷ []) (rw z (ap (λ (m : List ℕ). m ∷ []) (append-nil n)))
+from-sheet (g ∷ c ∷ x ∷ o ∷ []) e n z = ap (λ (h : List (List ℕ)). h ∷ c ∷ x ∷ o ∷ []) (rw z (ap (λ (m : List ℕ). m ∷ []) (append-nil n)))
 from-sheet [] e n z = absurd (omega arith)
 from-sheet (g ∷ []) e n z = absurd (omega arith)
 from-sheet (g ∷ c ∷ []) e n z = absurd (omega arith)
-from-sheet (g ∷ c ∷ o ∷ x ∷ gs) e n z = absurd (omega arith)
+from-sheet (g ∷ c ∷ x ∷ []) e n z = absurd (omega arith)
+from-sheet (g ∷ c ∷ x ∷ o ∷ h ∷ gs) e n z = absurd (omega arith)
 
 pub sheet-lines : (s : Sheet) → sheetOf (sheetLines s) ≡ s
 sheet-lines s = ap sheetFrom (groups-lines kinds (groupsOf s) kinds-ascend refl) ∙ sheet-from s

@@ -1,13 +1,13 @@
 -- Laws of members: of appended lists, of filters and tests, of lists made member by member; and minimal members under a decided strict order.
 use mathlib.Core.Path.{_≡_, refl, sym, _∙_, ap, subst}
 use mathlib.Core.Logic.{_⊎_, inl, inr}
-use mathlib.Core.Bool.{Bool, true, false, _&&_, true≢false}
+use mathlib.Core.Bool.{Bool, true, false, _&&_, _||_, true≢false}
 use mathlib.Core.List.{List, [], _∷_, _++_, map}
 use Prim.Native.Nat.{ℕ, zero, suc, _+_, _<_}
 use native.Mathlib.Omega.{arith}
 use native.Mathlib.Nat.{add-zero, zero-add}
 use lib.ListN.{length, getD}
-use Rattle.sheet.specs.Lists.{_∈_, keep, filter, all, bind}
+use Rattle.sheet.specs.Lists.{_∈_, keep, filter, all, any, bind}
 use Rattle.sheet.specs.Laws.Order.{and-true, true-and}
 
 module _ {A : Type 0} where
@@ -63,6 +63,23 @@ module _ {A : Type 0} where
   pub true-all : (p : A → Bool) (l : List A) → ((a : A) → a ∈ l → p a ≡ true) → all p l ≡ true
   true-all p [] h = refl
   true-all p (x ∷ l) h = true-and (p x) (all p l) (h x (inl refl)) (true-all p l (λ a m. h a (inr m)))
+
+  pub any-mem : (p : A → Bool) (l : List A) → any p l ≡ true → (a : A) × (a ∈ l) × (p a ≡ true)
+  any-mem p [] h = absurd (true≢false (sym h))
+  any-mem p (x ∷ l) h = go (p x) refl h (any-mem p l)
+    where
+      go : (b : Bool) → p x ≡ b → b || any p l ≡ true → (any p l ≡ true → (a : A) × (a ∈ l) × (p a ≡ true)) → (a : A) × (a ∈ (x ∷ l)) × (p a ≡ true)
+      go true q e f = (x, inl refl, q)
+      go false q e f = let r = f e in (r .0, inr (r .1), r .2)
+
+  pub mem-any : (p : A → Bool) (l : List A) (a : A) → a ∈ l → p a ≡ true → any p l ≡ true
+  mem-any p [] a m h = absurd m
+  mem-any p (x ∷ l) a (inl e) h = rw (sym (ap p e) ∙ h)
+  mem-any p (x ∷ l) a (inr m) h = go (p x) (mem-any p l a m h)
+    where
+      go : (b : Bool) → any p l ≡ true → b || any p l ≡ true
+      go true e = refl
+      go false e = e
 
   -- every member passes the test of its position, counted from n on
   abbrev pub allFrom : (ℕ → A → Bool) → ℕ → List A → Bool
@@ -148,3 +165,8 @@ pub getD-map : {A B : Type 0} (f : A → B) (l : List A) (i : ℕ) (a : A) (b : 
 getD-map f [] i a b h = absurd (omega arith)
 getD-map f (x ∷ l) zero a b h = refl
 getD-map f (x ∷ l) (suc i) a b h = getD-map f l i a b (omega arith)
+
+pub position-of : {A : Type 0} (d x : A) (l : List A) → x ∈ l → (i : ℕ) × (i < length l) × (getD l i d ≡ x)
+position-of d x [] m = absurd m
+position-of d x (y ∷ l) (inl e) = (0, omega arith, sym e)
+position-of d x (y ∷ l) (inr m) = let r = position-of d x l m in (suc (r .0), omega (arith, r .1), r .2)

@@ -1,16 +1,20 @@
 -- Which test a fault names: the first of the list that fails. What it says that a line passes: each of its tests, by name, does not fail; and what it
--- says that lines pass one after another, for the lines of an appended list and for each line at its position. No proof here looks at a kind.
+-- says that lines pass one after another, for the lines of an appended list and for each line at its position.
 use mathlib.Core.Path.{_≡_, refl, sym, _∙_, ap, subst}
 use mathlib.Core.Logic.{inl, inr, _≢_}
-use mathlib.Core.Bool.{Bool, true, false, _||_, true≢false}
+use mathlib.Core.Bool.{Bool, true, false, not, _&&_, _||_, true≢false}
 use mathlib.Core.List.{List, [], _∷_, _++_, map, append-nil}
 use mathlib.Core.Option.{some}
 use Prim.Native.Nat.{ℕ, _≤_}
 use native.Mathlib.Omega.{arith}
+use lib.Dec.{eqb}
 use lib.Seq.{append-snoc}
+use borrow.Author.Tests.{not-false}
 use Rattle.sheet.specs.Lists.{pick, number, _∈_, any}
+use Rattle.sheet.specs.Kinds.{kindC, kindX}
 use Rattle.sheet.specs.Lines.{Line}
-use Rattle.sheet.specs.Sheet.{group, misplaced, tooMany, outside, headIn, unpaired, late, latest, notAbove, tests, firstFailed, fault}
+use Rattle.sheet.specs.Sheet.{from, to, group, misplaced, tooMany, outside, headIn, unpaired, unknown, late, latest, notAbove, tests, firstFailed, fault}
+use Rattle.sheet.specs.Laws.Members.{any-mem, mem-any}
 use Rattle.sheet.specs.Laws.Judge.{Passes}
 
 -- tests that do not fail
@@ -75,7 +79,7 @@ pub fault-first : (before : List Line) (l : Line) → fault before l ≢ 0 → F
 unfolding fault
 fault-first before l = first-of (tests before l)
 
-pub order-of-tests : (before : List Line) (l : Line) → map (λ t. t .0) (tests before l) ≡ 3 ∷ 7 ∷ 4 ∷ 6 ∷ 16 ∷ 5 ∷ []
+pub order-of-tests : (before : List Line) (l : Line) → map (λ t. t .0) (tests before l) ≡ 3 ∷ 7 ∷ 4 ∷ 6 ∷ 15 ∷ 16 ∷ 5 ∷ []
 unfolding tests
 order-of-tests before l = refl
 
@@ -85,6 +89,7 @@ pub record Passed (before : List Line) (l : Line) : Type 0 where
   pub few : tooMany before l ≡ false
   pub inside : outside (number (headIn (before ++ (l ∷ []))) 0) (l .kind .limits) (l .numbers) ≡ false
   pub paired : unpaired (l .kind .pair) (l .numbers) ≡ false
+  pub known : unknown (group kindC before) l ≡ false
   pub timely : late (number (headIn (before ++ (l ∷ []))) 1) l ≡ false
   pub above : notAbove (l .kind .key) (latest (group (l .kind) before)) (l .numbers) ≡ false
 
@@ -92,11 +97,19 @@ pub fault-passed : (before : List Line) (l : Line) → fault before l ≡ 0 → 
 unfolding fault tests
 fault-passed before l e =
     let r = none-fails (tests before l) (omega arith) e in
-    record { placed = r .0; few = r .1 .0; inside = r .1 .1 .0; paired = r .1 .1 .1 .0; timely = r .1 .1 .1 .1 .0; above = r .1 .1 .1 .1 .1 .0 }
+    record {
+      placed = r .0;
+      few = r .1 .0;
+      inside = r .1 .1 .0;
+      paired = r .1 .1 .1 .0;
+      known = r .1 .1 .1 .1 .0;
+      timely = r .1 .1 .1 .1 .1 .0;
+      above = r .1 .1 .1 .1 .1 .1 .0;
+    }
 
 pub passed-fault : (before : List Line) (l : Line) → Passed before l → fault before l ≡ 0
 unfolding fault tests
-passed-fault before l p = none-failed (tests before l) (p .placed, (p .few, (p .inside, (p .paired, (p .timely, (p .above, tt))))))
+passed-fault before l p = none-failed (tests before l) (p .placed, (p .few, (p .inside, (p .paired, (p .known, (p .timely, (p .above, tt)))))))
 
 -- appended lists
 pub passes-append : (before ls ms : List Line) → Passes before (ls ++ ms) → Passes before ls × Passes (before ++ ls) ms
@@ -115,24 +128,39 @@ pub head-first : (before : List Line) (l : Line) (ls : List Line) → headIn (be
 head-first [] l ls = refl
 head-first (m ∷ before) l ls = refl
 
--- what a passed line's tests say of it and of the numbers of the S line, each line of a sheet has at its position
-passes-each : (P : List ℕ → Line → Type 0) → ((b : List Line) (l : Line) → Passed b l → P (headIn (b ++ (l ∷ []))) l) → (before ls : List Line) → Passes before ls
-    → (l : Line) → l ∈ ls → P (headIn (before ++ ls)) l
+-- what a passed line's tests say of it and of the lines up to it, and what holds of more lines too, each line of a sheet has of the whole sheet
+pub passes-each : (P : List Line → Line → Type 0) → ((b : List Line) (l : Line) (ls : List Line) → Passed b l → P (b ++ (l ∷ ls)) l) → (before ls : List Line)
+    → Passes before ls → (l : Line) → l ∈ ls → P (before ++ ls) l
 passes-each P f before [] p l m = absurd m
-passes-each P f before (x ∷ ls) p l (inl e) =
-    subst (P (headIn (before ++ (x ∷ ls)))) (sym e) (subst (λ (h : List ℕ). P h x) (head-first before x ls) (f before x (fault-passed before x (p .0))))
-passes-each P f before (x ∷ ls) p l (inr m) =
-    subst (λ (k : List Line). P (headIn k) l) (append-snoc before x ls) (passes-each P f (before ++ (x ∷ [])) ls (p .1) l m)
+passes-each P f before (x ∷ ls) p l (inl e) = subst (P (before ++ (x ∷ ls))) (sym e) (f before x ls (fault-passed before x (p .0)))
+passes-each P f before (x ∷ ls) p l (inr m) = subst (λ (k : List Line). P k l) (append-snoc before x ls) (passes-each P f (before ++ (x ∷ [])) ls (p .1) l m)
+
+-- a closure that names one of these corridors names one of others among which they are
+pub known-grows : (cs ds : List (List ℕ)) (l : Line) → ((c : List ℕ) → c ∈ cs → c ∈ ds) → unknown cs l ≡ false → unknown ds l ≡ false
+known-grows cs ds l f e = go (eqb (l .kind .order) (kindX .order)) e
+  where
+    names : List ℕ → Bool
+    names k = eqb (from k) (from (l .numbers)) && eqb (to k) (to (l .numbers))
+
+    go : (b : Bool) → b && not (any names cs) ≡ false → b && not (any names ds) ≡ false
+    go false e = refl
+    go true e =
+        let r = any-mem names cs (not-false (any names cs) e) in
+        ap not (mem-any names ds (r .0) (f (r .0) (r .1)) (r .2))
 
 -- its numbers inside their limits and paired, and no occupancy late
 pub passes-inside : (before ls : List Line) → Passes before ls → (l : Line) → l ∈ ls → outside (number (headIn (before ++ ls)) 0) (l .kind .limits) (l .numbers) ≡ false
-passes-inside = passes-each (λ h l. outside (number h 0) (l .kind .limits) (l .numbers) ≡ false) (λ b l q. q .inside)
+passes-inside =
+    passes-each (λ k l. outside (number (headIn k) 0) (l .kind .limits) (l .numbers) ≡ false)
+    (λ b l ls q. subst (λ (h : List ℕ). outside (number h 0) (l .kind .limits) (l .numbers) ≡ false) (head-first b l ls) (q .inside))
 
 pub passes-paired : (before ls : List Line) → Passes before ls → (l : Line) → l ∈ ls → unpaired (l .kind .pair) (l .numbers) ≡ false
-passes-paired = passes-each (λ h l. unpaired (l .kind .pair) (l .numbers) ≡ false) (λ b l q. q .paired)
+passes-paired = passes-each (λ k l. unpaired (l .kind .pair) (l .numbers) ≡ false) (λ b l ls q. q .paired)
 
 pub passes-timely : (before ls : List Line) → Passes before ls → (l : Line) → l ∈ ls → late (number (headIn (before ++ ls)) 1) l ≡ false
-passes-timely = passes-each (λ h l. late (number h 1) l ≡ false) (λ b l q. q .timely)
+passes-timely =
+    passes-each (λ k l. late (number (headIn k) 1) l ≡ false)
+    (λ b l ls q. subst (λ (h : List ℕ). late (number h 1) l ≡ false) (head-first b l ls) (q .timely))
 
 -- the last of a list with one more at its end
 pub latest-last : (before : List (List ℕ)) (n : List ℕ) → latest (before ++ (n ∷ [])) ≡ some n

@@ -14,7 +14,7 @@ use lib.Seq.{take-append-seam, take-at}
 use borrow.Author.Tests.{le-ltb, eq-eqb, eqb-true, eqb-false, not-false}
 use Rattle.sheet.specs.Lists.{pick, _∈_, bind, filled, flat}
 use Rattle.sheet.specs.Decimal.{mostDigits}
-use Rattle.sheet.specs.Kinds.{Kind, width, room, kindS, kindC, kindO, kinds}
+use Rattle.sheet.specs.Kinds.{Kind, width, room, kindS, kindC, kindX, kindO, kinds}
 use Rattle.sheet.specs.Lines.{Line, line, textLines}
 use Rattle.sheet.specs.Sheet.{Sheet, sheetOf, groupsOf, linesFrom, sheetLines, fault, Outcome, refused, loaded, told, judge, mostBytes, readOf}
 use Rattle.sheet.specs.Text.{lineText, sheetText}
@@ -25,7 +25,7 @@ use Rattle.sheet.specs.Laws.Passed.{or-false}
 use Rattle.sheet.specs.Laws.Judge.{Passes, not-loaded, judge-passes, passes-judge}
 use Rattle.sheet.specs.Laws.Shape.{Shaped, AllShaped}
 use Rattle.sheet.specs.Laws.LineText.{sheet-letters, lines-back, lines-unread}
-use Rattle.sheet.specs.Laws.Groups.{sheet-lines, lines-sheet}
+use Rattle.sheet.specs.Laws.Groups.{sheet-path, sheet-lines, lines-sheet}
 use Rattle.sheet.specs.Laws.Valid.{numbers-below, passes-valid, valid-shaped, valid-passes}
 use Rattle.sheet.specs.Laws.TextBound.{longest, text-longest, text-bound}
 use Rattle.sheet.specs.Laws.Rows.{Wide, rows-count, rows-flat, flat-rows, flat-whole, rows-wide, take-filled, filled-full}
@@ -123,21 +123,24 @@ shaped-wide (k ∷ ks) (g ∷ gs) s = (
 
 -- the numbers of a sheet's groups, and back
 abbrev pub numbersOfSheet : Sheet → Groups
-numbersOfSheet s = groups (s .head) (flat (s .corridors)) (flat (s .occupancies))
+numbersOfSheet s = groups (s .head) (flat (s .corridors)) (flat (s .closures)) (flat (s .occupancies))
 
 -- the groups make whole lines
 pub record Whole (g : Groups) : Type 0 where
   pub head-whole : length (g .head) ≡ width kindS
   pub corridors-whole : length (g .corridors) % width kindC ≡ 0
+  pub closures-whole : length (g .closures) % width kindX ≡ 0
   pub occupancies-whole : length (g .occupancies) % width kindO ≡ 0
 
 pub whole-of : (g : Groups) → uneven g ≡ false → Whole g
 whole-of g q =
-    let a = or-false (not (eqb (length (g .head)) (width kindS)) || leftOver kindC (g .corridors)) (leftOver kindO (g .occupancies)) q in
-    let b = or-false (not (eqb (length (g .head)) (width kindS))) (leftOver kindC (g .corridors)) (a .0) in
+    let a = or-false (not (eqb (length (g .head)) (width kindS)) || leftOver kindC (g .corridors) || leftOver kindX (g .closures)) (leftOver kindO (g .occupancies)) q in
+    let x = or-false (not (eqb (length (g .head)) (width kindS)) || leftOver kindC (g .corridors)) (leftOver kindX (g .closures)) (a .0) in
+    let b = or-false (not (eqb (length (g .head)) (width kindS))) (leftOver kindC (g .corridors)) (x .0) in
     record {
       head-whole = eqb-true (length (g .head)) (width kindS) (not-false (eqb (length (g .head)) (width kindS)) (b .0));
       corridors-whole = eqb-true (length (g .corridors) % width kindC) 0 (not-false (eqb (length (g .corridors) % width kindC) 0) (b .1));
+      closures-whole = eqb-true (length (g .closures) % width kindX) 0 (not-false (eqb (length (g .closures) % width kindX) 0) (x .1));
       occupancies-whole = eqb-true (length (g .occupancies) % width kindO) 0 (not-false (eqb (length (g .occupancies) % width kindO) 0) (a .1));
     }
 
@@ -146,22 +149,29 @@ of-whole g w =
     rw (
       eq-eqb (length (g .head)) (width kindS) (w .head-whole),
       eq-eqb (length (g .corridors) % width kindC) 0 (w .corridors-whole),
+      eq-eqb (length (g .closures) % width kindX) 0 (w .closures-whole),
       eq-eqb (length (g .occupancies) % width kindO) 0 (w .occupancies-whole),
     )
 
 whole-wide : (g : Groups) → Whole g → AllWide kinds (groupsOf (sheetOfGroups g))
-whole-wide g w = (head, (rows-wide (width kindC) (g .corridors), (rows-wide (width kindO) (g .occupancies), tt)))
+whole-wide g w = (head, (rows-wide (width kindC) (g .corridors), (rows-wide (width kindX) (g .closures), (rows-wide (width kindO) (g .occupancies), tt))))
   where
     head : Wide (width kindS) (g .head ∷ [])
     head n (inl e) = ap length e ∙ w .head-whole
 
 wide-whole : (s : Sheet) → AllWide kinds (groupsOf s) → Whole (numbersOfSheet s)
-wide-whole s (h, (c, (o, u))) =
-    record { head-whole = h (s .head) (inl refl); corridors-whole = flat-whole (width kindC) (s .corridors) c; occupancies-whole = flat-whole (width kindO) (s .occupancies) o }
+wide-whole s (h, (c, (x, (o, u)))) =
+    record {
+      head-whole = h (s .head) (inl refl);
+      corridors-whole = flat-whole (width kindC) (s .corridors) c;
+      closures-whole = flat-whole (width kindX) (s .closures) x;
+      occupancies-whole = flat-whole (width kindO) (s .occupancies) o;
+    }
 
 flat-sheet : (s : Sheet) → AllWide kinds (groupsOf s) → sheetOfGroups (numbersOfSheet s) ≡ s
-flat-sheet s (h, (c, (o, u))) =
-    ap₂ (λ (c o : List (List ℕ)). record { head = s .head; corridors = c; occupancies = o }) (rows-flat (width kindC) (s .corridors) (omega arith) c) (rows-flat (width kindO) (s .occupancies) (omega arith) o)
+flat-sheet s (h, (c, (x, (o, u)))) =
+    sheet-path (rows-flat (width kindC) (s .corridors) (omega arith) c) (rows-flat (width kindX) (s .closures) (omega arith) x)
+    (rows-flat (width kindO) (s .occupancies) (omega arith) o)
 
 -- the text t in the buffer
 abbrev pub writtenAll : List ℕ → List ℕ → WriteEnd
@@ -264,9 +274,10 @@ pub write-read-calls : (g : Groups) (out : List ℕ) → writeGroups g out .answ
     ≡ record {
       refusal = 0;
       line = 0;
-      lines = 1 ∷ length (g .corridors) / width kindC ∷ length (g .occupancies) / width kindO ∷ [];
+      lines = 1 ∷ length (g .corridors) / width kindC ∷ length (g .closures) / width kindX ∷ length (g .occupancies) / width kindO ∷ [];
       head = filled (room kindS) (g .head);
       corridors = filled (room kindC) (g .corridors);
+      closures = filled (room kindX) (g .closures);
       occupancies = filled (room kindO) (g .occupancies);
     }
 unfolding readAnswer
@@ -275,17 +286,20 @@ write-read-calls g out e =
     write-read-answer g out e
     ∙ rw (
       rows-count (width kindC) (length (g .corridors) / width kindC) (g .corridors),
+      rows-count (width kindX) (length (g .closures) / width kindX) (g .closures),
       rows-count (width kindO) (length (g .occupancies) / width kindO) (g .occupancies),
       flat-rows (width kindC) (g .corridors) (a .whole .corridors-whole),
+      flat-rows (width kindX) (g .closures) (a .whole .closures-whole),
       flat-rows (width kindO) (g .occupancies) (a .whole .occupancies-whole),
     )
 
 answer-groups : (s : Sheet) → AllWide kinds (groupsOf s) → groupsRead (readAnswer (loaded s)) ≡ numbersOfSheet s
 unfolding readAnswer
-answer-groups s (h, (c, (o, u))) =
+answer-groups s (h, (c, (x, (o, u)))) =
     rw (
       filled-full (room kindS) (s .head) (h (s .head) (inl refl)),
       take-filled (width kindC) (room kindC) (s .corridors) c,
+      take-filled (width kindX) (room kindX) (s .closures) x,
       take-filled (width kindO) (room kindO) (s .occupancies) o,
     )
 
@@ -294,11 +308,13 @@ pub write-read-groups : (g : Groups) (out : List ℕ) → writeGroups g out .ans
 write-read-groups g out e =
     let w = write-accepted g out e .whole in
     let c : length (g .corridors) ≡ length (g .corridors) / width kindC * width kindC = omega (arith, w .corridors-whole, div-add-mod' (length (g .corridors)) (width kindC)) in
+    let x : length (g .closures) ≡ length (g .closures) / width kindX * width kindX = omega (arith, w .closures-whole, div-add-mod' (length (g .closures)) (width kindX)) in
     let o : length (g .occupancies) ≡ length (g .occupancies) / width kindO * width kindO = omega (arith, w .occupancies-whole, div-add-mod' (length (g .occupancies)) (width kindO)) in
     ap groupsRead (write-read-calls g out e)
     ∙ rw (
       filled-full (room kindS) (g .head) (w .head-whole),
       take-at (g .corridors) _ (length (g .corridors) / width kindC * width kindC) c,
+      take-at (g .closures) _ (length (g .closures) / width kindX * width kindX) x,
       take-at (g .occupancies) _ (length (g .occupancies) / width kindO * width kindO) o,
     )
 
@@ -328,7 +344,7 @@ read-valid b s e =
 pub valid-read : (s : Sheet) → Valid s → readOf (sheetText s) ≡ loaded s
 valid-read s v = write-read-sheet s (valid-shaped s v) (valid-passes s v)
 
--- a valid sheet has at most 10,020 bytes
+-- a valid sheet has at most 13,092 bytes
 pub valid-text : (s : Sheet) → Valid s → length (sheetText s) ≤ longest
 unfolding sheetText
 valid-text s v = text-longest (sheetLines s) (valid-shaped s v) (valid-passes s v) (omega arith)

@@ -1,12 +1,12 @@
 -- Tables of rows of one width and their numbers one after another: each is got back from the other.
 use mathlib.Core.Path.{_≡_, refl, sym, _∙_, ap, ap₂}
 use mathlib.Core.Logic.{inl, inr}
-use mathlib.Core.List.{List, [], _∷_, _++_, map, append-nil}
+use mathlib.Core.List.{List, [], _∷_, _++_, map, append-assoc, append-nil}
 use Prim.Native.Nat.{ℕ, zero, suc, _+_, _*_, _-_, _/_, _%_, _≤_, _<_}
 use native.Mathlib.Omega.{arith}
 use native.Mathlib.Nat.{suc-mul, zero-mul, add-comm, div-add-mod', div-eq-of-eq-mul-left, mul-mod-left}
 use lib.ListN.{length, getD, take, drop, length-append, length-drop, List·getD-append}
-use lib.Seq.{getD-append-add, take-all, take-at, drop-at, take-add, drop-drop, length-take-le}
+use lib.Seq.{getD-append-add, take-all, take-at, drop-at, take-add, drop-drop, drop-append-add, length-take-le}
 use Rattle.sheet.specs.Lists.{_∈_, number, rows, bind, flat, filled}
 
 -- every row is of the width w
@@ -32,6 +32,14 @@ rows-at w (suc n) l zero h = rw zero-mul
 rows-at w (suc n) l (suc i) h =
     let e : w + i * w ≡ suc i * w = omega (arith, suc-mul i w) in
     rows-at w n (drop w l) i (omega arith) ∙ ap (take w) (drop-drop (i * w) w l ∙ ap (λ (m : ℕ). drop m l) e)
+
+-- row i of a table, where its numbers stand one after another ahead of others
+pub row-of-flat : (w : ℕ) (g : List (List ℕ)) (rest : List ℕ) → Wide w g → (i : ℕ) → i < length g → take w (drop (i * w) (flat g ++ rest)) ≡ getD g i []
+row-of-flat w [] rest h i l = absurd (omega arith)
+row-of-flat w (n ∷ g) rest h zero l = rw (zero-mul w, append-assoc n (flat g) rest, take-at n (flat g ++ rest) w (h n (inl refl)))
+row-of-flat w (n ∷ g) rest h (suc i) l =
+    let z : suc i * w ≡ length n + i * w = omega (arith, h n (inl refl), suc-mul i w) in
+    rw (z, append-assoc n (flat g) rest, drop-append-add n (flat g ++ rest) (i * w)) (row-of-flat w g rest (λ k m. h k (inr m)) i (omega arith))
 
 -- the rows of the numbers are the rows
 pub rows-of-flat : (w : ℕ) (l : List (List ℕ)) → Wide w l → rows w (length l) (flat l) ≡ l

@@ -1,5 +1,5 @@
 -- The text of lines that pass is no longer than a sheet may be. A line's text is at most as long as its kind's description allows: a number
--- has at most as many digits as the highest within its limit. The most lines of each kind, each as long as that, are 10,020 bytes (`text-room`).
+-- has at most as many digits as the highest within its limit. The most lines of each kind, each as long as that, are 13,092 bytes (`text-room`).
 use mathlib.Core.Path.{_≡_, refl, ap}
 use mathlib.Core.Logic.{inl}
 use mathlib.Core.Bool.{Bool, true, false}
@@ -10,11 +10,11 @@ use native.Mathlib.Nat.{mul-le-mul-right}
 use lib.Dec.{ltb}
 use lib.ListN.{length, length-append}
 use borrow.Author.Tests.{ltb-true, ltb-false}
-use Rattle.sheet.specs.Lists.{pick, number, bind}
+use Rattle.sheet.specs.Lists.{pick, bind}
 use Rattle.sheet.specs.Decimal.{digitsOf, mostDigits}
 use Rattle.sheet.specs.Kinds.{Limit, Kind, kinds}
 use Rattle.sheet.specs.Lines.{Line, line}
-use Rattle.sheet.specs.Sheet.{sheetOf, groupsOf, linesFrom, mostBytes}
+use Rattle.sheet.specs.Sheet.{Sheet, places, sheetOf, groupsOf, linesFrom, mostBytes}
 use Rattle.sheet.specs.Text.{numberText, lineText}
 use Rattle.sheet.specs.Laws.Judge.{Passes}
 use Rattle.sheet.specs.Laws.Shape.{AllShaped}
@@ -69,12 +69,12 @@ line-text : (p : ℕ) → p ≤ 64 → (l : Line) → length (l .numbers) ≡ le
 unfolding lineRoom lineText
 line-text p h l e w = omega (arith, printed-length mostDigits (l .kind .letter) (l .numbers), numbers-text p h (l .kind .limits) (l .numbers) e w)
 
-run-text : (p : List ℕ) → number p 0 ≤ 64 → (k : Kind) (ns : List (List ℕ)) → Run p k ns → length (bind (map (line k) ns) (lineText mostDigits)) ≤ length ns * lineRoom k
-run-text p h k [] r = omega arith
-run-text p h k (n ∷ ns) r =
+run-text : (s : Sheet) → places s ≤ 64 → (k : Kind) (ns : List (List ℕ)) → Run s k ns → length (bind (map (line k) ns) (lineText mostDigits)) ≤ length ns * lineRoom k
+run-text s h k [] r = omega arith
+run-text s h k (n ∷ ns) r =
     let a = length-append (lineText mostDigits (line k n)) (bind (map (line k) ns) (lineText mostDigits)) in
-    let b = line-text (number p 0) h (line k n) (r .count n (inl refl)) (r .within n (inl refl)) in
-    let c = run-text p h k ns (run-tail p k n ns r) in
+    let b = line-text (places s) h (line k n) (r .count n (inl refl)) (r .within n (inl refl)) in
+    let c = run-text s h k ns (run-tail s k n ns r) in
     omega arith
 
 -- the most bytes of the lines of these kinds
@@ -83,18 +83,18 @@ unfolding lineRoom
 textRoom [] = 0
 textRoom (k ∷ ks) = k .most * lineRoom k + textRoom ks
 
-runs-text : (p : List ℕ) → number p 0 ≤ 64 → (ks : List Kind) (gs : List (List (List ℕ))) → AllRuns p ks gs → length (bind (linesFrom ks gs) (lineText mostDigits)) ≤ textRoom ks
+runs-text : (s : Sheet) → places s ≤ 64 → (ks : List Kind) (gs : List (List (List ℕ))) → AllRuns s ks gs → length (bind (linesFrom ks gs) (lineText mostDigits)) ≤ textRoom ks
 unfolding textRoom
-runs-text p h [] gs r = omega arith
-runs-text p h (k ∷ ks) [] r = omega arith
-runs-text p h (k ∷ ks) (g ∷ gs) r =
+runs-text s h [] gs r = omega arith
+runs-text s h (k ∷ ks) [] r = omega arith
+runs-text s h (k ∷ ks) (g ∷ gs) r =
     let a = ap length (bind-append (lineText mostDigits) (map (line k) g) (linesFrom ks gs)) in
     let b = length-append (bind (map (line k) g) (lineText mostDigits)) (bind (linesFrom ks gs) (lineText mostDigits)) in
-    omega (arith, a, b, run-text p h k g (r .0), runs-text p h ks gs (r .1), mul-le-mul-right (lineRoom k) (r .0 .few))
+    omega (arith, a, b, run-text s h k g (r .0), runs-text s h ks gs (r .1), mul-le-mul-right (lineRoom k) (r .0 .few))
 
 -- no text of lines that pass has more bytes
 abbrev pub longest : ℕ
-longest = 10020
+longest = 13092
 
 text-room : textRoom kinds ≡ longest
 unfolding textRoom
@@ -105,7 +105,7 @@ text-longest ls f p h =
     let s = sheetOf ls in
     let r = lines-runs ls f p h in
     let q = ap (λ (k : List Line). length (bind k (lineText mostDigits))) (lines-sheet ls f p h) in
-    omega (arith, runs-text (s .head) (runs-valid s r .most-places) kinds (groupsOf s) r, q, text-room)
+    omega (arith, runs-text s (runs-valid s r .most-places) kinds (groupsOf s) r, q, text-room)
 
 -- the longest sheet is short enough
 pub text-bound : (ls : List Line) → AllShaped ls → Passes [] ls → 1 ≤ length ls → length (bind ls (lineText mostDigits)) ≤ mostBytes

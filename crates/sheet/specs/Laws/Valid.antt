@@ -1,30 +1,33 @@
--- Every sheet of lines that pass is valid, and the lines of every valid sheet are in shape and pass. Both go by the three runs of lines of a
+-- Every sheet of lines that pass is valid, and the lines of every valid sheet are in shape and pass. Both go by the four runs of lines of a
 -- sheet, of one kind each (Laws.Runs): what remains is that a run of C lines, say, says of its numbers what a valid sheet says of corridors.
 -- Also: no number of lines that pass has more than five digits.
-use mathlib.Core.Path.{_≡_, refl, sym, subst}
-use mathlib.Core.Logic.{inl}
-use mathlib.Core.Bool.{false}
-use mathlib.Core.List.{List, [], _∷_}
+use mathlib.Core.Path.{_≡_, refl, sym, _∙_, ap, subst}
+use mathlib.Core.Logic.{inl, inr}
+use mathlib.Core.Bool.{Bool, false, not, _&&_}
+use mathlib.Core.List.{List, [], _∷_, map}
 use Prim.Native.Nat.{ℕ, zero, suc, _≤_, _<_}
 use native.Mathlib.Omega.{arith}
+use lib.Dec.{eqb}
 use lib.ListN.{length, getD}
-use borrow.Author.Tests.{ltb-false, eqb-false, le-ltb, ne-eqb}
-use Rattle.sheet.specs.Lists.{number, _∈_}
-use Rattle.sheet.specs.Kinds.{place, Kind, width, kindS, kindC, kindO, kinds}
+use borrow.Author.Tests.{ltb-false, eqb-true, eqb-false, eq-eqb, le-ltb, ne-eqb, not-false}
+use Rattle.sheet.specs.Lists.{number, _∈_, any}
+use Rattle.sheet.specs.Kinds.{place, Kind, width, kindS, kindC, kindX, kindO, kinds}
 use Rattle.sheet.specs.Lines.{Line, line}
-use Rattle.sheet.specs.Sheet.{Sheet, places, steps, from, to, first, last, sheetOf, groupsOf, sheetLines, headIn, unpaired, late}
-use Rattle.sheet.specs.Valid.{ValidCorridor, ValidOccupancy, Valid}
+use Rattle.sheet.specs.Sheet.{Sheet, places, steps, from, to, departure, first, last, sheetOf, groupsOf, sheetLines, headIn, unpaired, unknown, late}
+use Rattle.sheet.specs.Valid.{ValidCorridor, ValidClosure, ValidOccupancy, Valid}
+use Rattle.sheet.specs.Laws.Order.{and-true, true-and}
+use Rattle.sheet.specs.Laws.Members.{mem-left, mem-map, any-mem, mem-any}
 use Rattle.sheet.specs.Laws.Kinds.{kinds-ascend}
 use Rattle.sheet.specs.Laws.Judge.{Passes}
 use Rattle.sheet.specs.Laws.Shape.{AllShaped}
 use Rattle.sheet.specs.Laws.Passed.{passes-inside, passed-fault}
 use Rattle.sheet.specs.Laws.Limits.{In, Within, inside-within, within-inside, within-at, at-within, most-from, five-digits, within-below}
-use Rattle.sheet.specs.Laws.Groups.{later-kinds, lines-sheet}
-use Rattle.sheet.specs.Laws.Runs.{AllRuns, passes-runs, runs-shaped, runs-pass}
+use Rattle.sheet.specs.Laws.Groups.{later-kinds, sheet-lines, lines-sheet}
+use Rattle.sheet.specs.Laws.Runs.{Lined, AllRuns, passes-runs, runs-shaped, runs-pass}
 
 -- the runs of a sheet
 abbrev pub Runs : Sheet → Type 0
-Runs s = AllRuns (s .head) kinds (groupsOf s)
+Runs s = AllRuns s kinds (groupsOf s)
 
 -- each line: what its run says of it is what a valid sheet says
 corridor-valid : (s : Sheet) (k : List ℕ) → length k ≡ width kindC → Within (places s) (kindC .limits) k → unpaired (kindC .pair) k ≡ false → ValidCorridor s k
@@ -37,6 +40,28 @@ corridor-valid s k e w u =
       cost = most-from 60000 (places s) 2 (kindC .limits) k e w refl;
       apart = eqb-false (from k) (to k) u;
     }
+
+-- a closure names a corridor, and the other way round
+abbrev names : List ℕ → List ℕ → Bool
+names x k = eqb (from k) (from x) && eqb (to k) (to x)
+
+closure-valid : (s : Sheet) (x : List ℕ) → length x ≡ width kindX → Within (places s) (kindX .limits) x → unknown (s .corridors) (line kindX x) ≡ false → ValidClosure s x
+closure-valid s x e w u =
+    let r = any-mem (names x) (s .corridors) (not-false (any (names x) (s .corridors)) u) in
+    let q = and-true (eqb (from (r .0)) (from x)) (eqb (to (r .0)) (to x)) (r .2) in
+    record {
+      wide = e;
+      corridor = r .0;
+      listed = r .1;
+      leaves = eqb-true (from (r .0)) (from x) (q .0);
+      enters = eqb-true (to (r .0)) (to x) (q .1);
+      in-day = within-at (places s) (kindX .limits) x e w 2 (omega arith) .1;
+    }
+
+closure-known : (s : Sheet) (x : List ℕ) → ValidClosure s x → unknown (s .corridors) (line kindX x) ≡ false
+closure-known s x g =
+    ap not (mem-any (names x) (s .corridors) (g .corridor) (g .listed)
+    (true-and (eqb (from (g .corridor)) (from x)) (eqb (to (g .corridor)) (to x)) (eq-eqb (from (g .corridor)) (from x) (g .leaves)) (eq-eqb (to (g .corridor)) (to x) (g .enters))))
 
 occupancy-valid : (s : Sheet) (o : List ℕ) → length o ≡ width kindO → Within (places s) (kindO .limits) o → unpaired (kindO .pair) o ≡ false
     → late (steps s) (line kindO o) ≡ false → ValidOccupancy s o
@@ -51,7 +76,7 @@ occupancy-valid s o e w u t =
     }
 
 pub runs-valid : (s : Sheet) → Runs s → Valid s
-runs-valid s (rs, (rc, (ro, u))) =
+runs-valid s (rs, (rc, (rx, (ro, u)))) =
     let e = rs .count (s .head) (inl refl) in
     let w = rs .within (s .head) (inl refl) in
     let at = within-at (places s) (kindS .limits) (s .head) e w in
@@ -67,6 +92,9 @@ runs-valid s (rs, (rc, (ro, u))) =
       corridors = λ k m. corridor-valid s k (rc .count k m) (rc .within k m) (rc .paired k m);
       most-corridors = rc .few;
       corridors-ascend = rc .ascend;
+      closures = λ x m. closure-valid s x (rx .count x m) (rx .within x m) (rx .known x m);
+      most-closures = rx .few;
+      closures-ascend = rx .ascend;
       occupancies = λ o m. occupancy-valid s o (ro .count o m) (ro .within o m) (ro .paired o m) (ro .timely o m);
       most-occupancies = ro .few;
       occupancies-ascend = ro .ascend;
@@ -75,7 +103,8 @@ runs-valid s (rs, (rc, (ro, u))) =
 pub lines-runs : (ls : List Line) → AllShaped ls → Passes [] ls → 1 ≤ length ls → Runs (sheetOf ls)
 lines-runs ls f p h =
     let e = lines-sheet ls f p h in
-    passes-runs kinds (groupsOf (sheetOf ls)) kinds-ascend (subst AllShaped (sym e) f) (subst (Passes []) (sym e) p)
+    passes-runs (sheetOf ls) kinds (groupsOf (sheetOf ls)) kinds-ascend (subst AllShaped (sym e) f) (subst (Passes []) (sym e) p)
+    (record { head-is = refl; corridors-are = ap (λ (s : Sheet). s .corridors) (sheet-lines (sheetOf ls)) })
 
 pub passes-valid : (ls : List Line) → AllShaped ls → Passes [] ls → 1 ≤ length ls → Valid (sheetOf ls)
 passes-valid ls f p h = runs-valid (sheetOf ls) (lines-runs ls f p h)
@@ -113,6 +142,12 @@ valid-corridor s k g (suc (suc (suc zero))) h = (omega arith, g .cost 3 (omega a
 valid-corridor s k g (suc (suc (suc (suc zero)))) h = (omega arith, g .cost 4 (omega arith))
 valid-corridor s k g (suc (suc (suc (suc (suc i))))) h = absurd (omega arith)
 
+valid-closure : (s : Sheet) → Valid s → (x : List ℕ) → ValidClosure s x → (i : ℕ) → i < width kindX → In (places s) (getD (kindX .limits) i place) (number x i)
+valid-closure s g x h zero l = subst (λ (n : ℕ). n < places s) (h .leaves) (g .corridors (h .corridor) (h .listed) .from-place)
+valid-closure s g x h (suc zero) l = subst (λ (n : ℕ). n < places s) (h .enters) (g .corridors (h .corridor) (h .listed) .to-place)
+valid-closure s g x h (suc (suc zero)) l = (omega arith, h .in-day)
+valid-closure s g x h (suc (suc (suc i))) l = absurd (omega arith)
+
 valid-occupancy : (s : Sheet) (o : List ℕ) → ValidOccupancy s o → (i : ℕ) → i < width kindO → In (places s) (getD (kindO .limits) i place) (number o i)
 valid-occupancy s o g zero h = g .place
 valid-occupancy s o g (suc zero) h = (omega arith, omega (arith, g .ordered, g .in-day))
@@ -125,6 +160,7 @@ valid-runs s g = (
     count = λ h m. sole (λ x. length x ≡ width kindS) m (g .wide);
     within = λ h m. sole (Within (places s) (kindS .limits)) m (at-within (places s) (kindS .limits) (s .head) (valid-head s g));
     paired = λ n m. refl;
+    known = λ n m. refl;
     timely = λ n m. refl;
     few = omega arith;
     ascend = (tt, tt);
@@ -134,20 +170,33 @@ valid-runs s g = (
       count = λ k m. g .corridors k m .wide;
       within = λ k m. at-within (places s) (kindC .limits) k (valid-corridor s k (g .corridors k m));
       paired = λ k m. ne-eqb (from k) (to k) (g .corridors k m .apart);
+      known = λ k m. refl;
       timely = λ k m. refl;
       few = g .most-corridors;
       ascend = g .corridors-ascend;
     },
     (
       record {
-        count = λ o m. g .occupancies o m .wide;
-        within = λ o m. at-within (places s) (kindO .limits) o (valid-occupancy s o (g .occupancies o m));
-        paired = λ o m. le-ltb (last o) (first o) (g .occupancies o m .ordered);
-        timely = λ o m. le-ltb (steps s) (first o) (g .occupancies o m .begins);
-        few = g .most-occupancies;
-        ascend = g .occupancies-ascend;
+        count = λ x m. g .closures x m .wide;
+        within = λ x m. at-within (places s) (kindX .limits) x (valid-closure s g x (g .closures x m));
+        paired = λ x m. let h = g .closures x m in ne-eqb (from x) (to x) (λ e. g .corridors (h .corridor) (h .listed) .apart (h .leaves ∙ e ∙ sym (h .enters)));
+        known = λ x m. closure-known s x (g .closures x m);
+        timely = λ x m. refl;
+        few = g .most-closures;
+        ascend = g .closures-ascend;
       },
-      tt,
+      (
+        record {
+          count = λ o m. g .occupancies o m .wide;
+          within = λ o m. at-within (places s) (kindO .limits) o (valid-occupancy s o (g .occupancies o m));
+          paired = λ o m. le-ltb (last o) (first o) (g .occupancies o m .ordered);
+          known = λ o m. refl;
+          timely = λ o m. le-ltb (steps s) (first o) (g .occupancies o m .begins);
+          few = g .most-occupancies;
+          ascend = g .occupancies-ascend;
+        },
+        tt,
+      ),
     ),
   ),
 )
@@ -157,7 +206,7 @@ valid-runs s g = (
     sole P (inl e) p = subst P (sym e) p
 
 pub valid-shaped : (s : Sheet) → Valid s → AllShaped (sheetLines s)
-valid-shaped s g = runs-shaped (s .head) kinds (groupsOf s) (λ k m. m) (valid-runs s g)
+valid-shaped s g = runs-shaped s kinds (groupsOf s) (λ k m. m) (valid-runs s g)
 
 pub valid-passes : (s : Sheet) → Valid s → Passes [] (sheetLines s)
 valid-passes s g = (
@@ -167,14 +216,17 @@ valid-passes s g = (
         few = refl;
         inside = within-inside (places s) (kindS .limits) (s .head) (valid-runs s g .0 .within (s .head) (inl refl));
         paired = refl;
+        known = refl;
         timely = refl;
         above = refl;
       }),
-  runs-pass h [] (kindC ∷ kindO ∷ []) (s .corridors ∷ s .occupancies ∷ []) (kinds-ascend .1) (λ m i k j. earlier m i k j) (valid-runs s g .1),
+  runs-pass s [] (kindC ∷ kindX ∷ kindO ∷ []) (s .corridors ∷ s .closures ∷ s .occupancies ∷ []) (kinds-ascend .1) (λ m i k j. earlier m i k j)
+      (λ c m. inr (mem-left (line kindC c) (map (line kindC) (s .corridors)) _ (mem-map (line kindC) c (s .corridors) m)))
+      (valid-runs s g .1),
 )
   where
     h : Line
     h = line kindS (s .head)
 
-    earlier : (m : Line) → m ∈ (h ∷ []) → (k : Kind) → k ∈ (kindC ∷ kindO ∷ []) → m .kind .order < k .order
-    earlier m (inl e) k j = subst (λ (l : Line). l .kind .order < k .order) (sym e) (later-kinds kindS (kindC ∷ kindO ∷ []) kinds-ascend k j)
+    earlier : (m : Line) → m ∈ (h ∷ []) → (k : Kind) → k ∈ (kindC ∷ kindX ∷ kindO ∷ []) → m .kind .order < k .order
+    earlier m (inl e) k j = subst (λ (l : Line). l .kind .order < k .order) (sym e) (later-kinds kindS (kindC ∷ kindX ∷ kindO ∷ []) kinds-ascend k j)

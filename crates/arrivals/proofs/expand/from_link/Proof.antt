@@ -20,26 +20,32 @@ link-end-requires c κs = (omega (arith, c .before .before .before .before .pre 
 returns : tie.Need-returns
 returns c = swept-none (c .before .before .before .before .before .before .before .before .pre .1 .room) (λ g z. absurd (c .if1 .taken (c .before .before .before .link-end .ensures ∙ z .into)))
 
-sub-t13 : tie.Need-sub-t13
-sub-t13 c = search needs
-
-is-open-requires : tie.Need-is-open-requires
-is-open-requires c κs = (omega (arith, c .before .before .before .before .before .before .before .before .before .pre .0 .given .few), c .before .before .before .before .before .before .before .before .before .pre .0 .given .size)
-
-returns-2 : tie.Need-returns-2
-returns-2 c = swept-none (c .before .before .before .before .before .before .before .before .before .before .before .pre .1 .room) (λ g z. absurd (false-not-true (not-true _ (c .if2 .taken)) (c .before .is-open .ensures ∙ z .opens)))
-
 fresh-requires : tie.Need-fresh-requires
-fresh-requires c κs = (omega (arith, c .before .before .before .before .before .before .before .before .before .before .before .pre .0 .given .few), c .before .before .before .before .before .before .before .before .before .before .before .pre .0 .given .size, c .before .before .before .before .before .before .before .before .before .before .before .pre .0 .stands .first)
+fresh-requires c κs =
+    (omega (arith, (c .before .before .before .before .before .before .before .before .pre) .0 .given .few), given-linked ((c .before .before .before .before .before .before .before .before .pre) .0 .given) .ends 1 ((c .before .before .before .before .before .before .before .before .args) .j) (omega arith) ((c .before .before .before .before .before .before .before .before .pre) .2), (c .before .before .before .before .before .before .before .before .pre) .0 .given .closing, (c .before .before .before .before .before .before .before .before .pre) .0 .stands .first)
 
 link-end-requires-2 : tie.Need-link-end-requires-2
-link-end-requires-2 c κs = (omega (arith, c .before .before .before .before .before .before .before .before .before .before .before .before .pre .0 .given .few), omega arith, c .before .before .before .before .before .before .before .before .before .before .before .before .pre .0 .given .size)
+link-end-requires-2 c κs = (omega (arith, c .before .before .before .before .before .before .before .before .before .pre .0 .given .few), omega arith, c .before .before .before .before .before .before .before .before .before .pre .0 .given .size)
 
 newest-requires : tie.Need-newest-requires
-newest-requires c κs = (omega (arith, c .link-end2 .ensures, given-linked (c .before .before .before .before .before .before .before .before .before .before .before .before .before .pre .0 .given) .ends 0 (c .before .before .before .before .before .before .before .before .before .before .before .before .before .args .j) (omega arith) (c .before .before .before .before .before .before .before .before .before .before .before .before .before .pre .2)), c .before .before .before .before .before .before .before .before .before .before .before .before .before .pre .1 .indexed .size)
+newest-requires c κs = (omega (arith, c .link-end2 .ensures, given-linked (c .before .before .before .before .before .before .before .before .before .before .pre .0 .given) .ends 0 (c .before .before .before .before .before .before .before .before .before .before .args .j) (omega arith) (c .before .before .before .before .before .before .before .before .before .before .pre .2)), c .before .before .before .before .before .before .before .before .before .before .pre .1 .indexed .size)
+
+returns-2 : tie.Need-returns-2
+returns-2 c =
+    let p = c .before .before .before .before .before .before .before .before .before .before .before .before .before .before .pre in
+    let last = subst (λ (u : ℕ). c .before .before .before .newest .result .0 ≡ newestOf (c .before .before .before .before .before .before .before .before .before .before .before .before .before .before .args .ix .now) u) (c .before .before .before .before .link-end2 .ensures) (c .before .before .before .newest .ensures) in
+    let into = sym (c .before .before .before .before .before .before .before .before .before .link-end .ensures) ∙ c .before .before .before .before .before .before .if1 .left in
+    swept-none (p .1 .room) (λ g z. enters-none _ _ _ _ _ (p .0) (c .before .before .before .before .before .before .before .before .before .before .before .before .before .before .args .j) (p .2) into (c .before .before .before .before .before .fresh .result .0) (c .before .before .before .before .before .fresh .ensures) g (none-after (p .1 .indexed) _ _ (omega (arith, c .if2 .taken, last))) z)
+
+sub-t14 : tie.Need-sub-t14
+sub-t14 c = omega (arith, c .before .before .before .before .before .before .before .before .before .before .before .before .before .before .before .pre .0 .stands .first)
+
+is-open-requires : tie.Need-is-open-requires
+is-open-requires c κs =
+    (omega (arith, (c .before .before .before .before .before .before .before .before .before .before .before .before .before .before .before .pre) .0 .given .few), given-linked ((c .before .before .before .before .before .before .before .before .before .before .before .before .before .before .before .pre) .0 .given) .ends 1 ((c .before .before .before .before .before .before .before .before .before .before .before .before .before .before .before .args) .j) (omega arith) ((c .before .before .before .before .before .before .before .before .before .before .before .before .before .before .before .pre) .2), (c .before .before .before .before .before .before .before .before .before .before .before .before .before .before .before .pre) .0 .given .closing)
 
 returns-3 : tie.Need-returns-3
-returns-3 c = let p = c .before .before .before .before .before .before .before .before .before .before .before .before .before .before .before .before .before .pre in swept-none (p .1 .room) (λ g z. enters-none _ _ _ _ _ (p .0) (c .before .before .before .before .before .before .before .before .before .before .before .before .before .before .before .before .before .args .j) (p .2) (sym (c .before .before .before .before .before .before .before .before .before .before .before .before .link-end .ensures) ∙ c .before .before .before .before .before .before .before .before .before .if1 .left) (c .before .before .before .before .before .fresh .result .0) (c .before .before .before .before .before .fresh .ensures) g (none-after (p .1 .indexed) _ _ (omega (arith, c .if3 .taken, subst (λ (u : ℕ). c .before .before .before .newest .result .0 ≡ newestOf (c .before .before .before .before .before .before .before .before .before .before .before .before .before .before .before .before .before .args .ix .now) u) (c .before .before .before .before .link-end2 .ensures) (c .before .before .before .newest .ensures)))) z)
+returns-3 c = swept-none (c .before .before .before .before .before .before .before .before .before .before .before .before .before .before .before .before .before .pre .1 .room) (λ g z. absurd (false-not-true (not-true _ (c .if3 .taken)) (c .before .is-open .ensures ∙ z .opens)))
 
 source-of-requires : tie.Need-source-of-requires
 source-of-requires c κs = (c .before .before .before .before .before .before .before .before .before .before .before .before .before .before .before .before .before .before .pre .0 .given, c .before .before .before .before .before .before .before .before .before .before .before .before .before .before .before .before .before .before .pre .2, c .before .before .before .before .before .before .before .before .before .before .before .before .before .before .before .before .before .before .pre .0 .stands .first, c .before .before .before .before .before .before .before .before .before .before .before .before .before .before .before .before .before .before .pre .0 .stands .last)
@@ -51,7 +57,14 @@ same-length : tie.Need-same-length
 same-length c = search needs
 
 returns-4 : tie.Need-returns-4
-returns-4 c = let p = c .before .before .before .before .before .before .before .before .before .before .before .before .before .before .before .before .before .before .before .before .before .before .pre in let into = sym (c .before .before .before .before .before .before .before .before .before .before .before .before .before .before .before .before .before .link-end .ensures) ∙ c .before .before .before .before .before .before .before .before .before .before .before .before .before .before .if1 .left in swept-as (λ g z. tried-enters _ _ _ _ _ (p .0) (c .before .before .before .before .before .before .before .before .before .before .before .before .before .before .before .before .before .before .before .before .before .before .args .j) (p .2) into _ (c .before .before .before .before .before .before .before .before .before .before .fresh .ensures) _ g (c .before .before .before .source-of .ensures) (sym (c .before .before .before .before .before .before .before .before .before .before .before .before .is-open .ensures) ∙ not-false _ (c .before .before .before .before .before .before .before .before .before .before .before .if2 .left)) z) (λ g z. enters-tried _ _ _ _ _ (p .0) (c .before .before .before .before .before .before .before .before .before .before .before .before .before .before .before .before .before .before .before .before .before .before .args .j) (p .2) into _ (c .before .before .before .before .before .before .before .before .before .before .fresh .ensures) _ g (c .before .before .before .source-of .ensures) z) (c .before .before .from-place .ensures)
+returns-4 c =
+    let p = c .before .before .before .before .before .before .before .before .before .before .before .before .before .before .before .before .before .before .before .before .before .before .pre in
+    let j = c .before .before .before .before .before .before .before .before .before .before .before .before .before .before .before .before .before .before .before .before .before .before .args .j in
+    let f = c .before .before .before .before .before .before .before .before .before .before .before .before .before .fresh .ensures in
+    let s = c .before .before .before .source-of .ensures in
+    let into = sym (c .before .before .before .before .before .before .before .before .before .before .before .before .before .before .before .before .before .link-end .ensures) ∙ c .before .before .before .before .before .before .before .before .before .before .before .before .before .before .if1 .left in
+    let opens = sym (c .before .before .before .before .before .before .is-open .ensures) ∙ not-false _ (c .before .before .before .before .before .if3 .left) in
+    swept-as (λ g z. tried-enters _ _ _ _ _ (p .0) j (p .2) into _ f _ g s opens z) (λ g z. enters-tried _ _ _ _ _ (p .0) j (p .2) into _ f _ g s z) (c .before .before .from-place .ensures)
 
 pub from-link-spec : {M : Type 1} → statement M
 from-link-spec =
@@ -59,12 +72,12 @@ from-link-spec =
     (tie.spec
     link-end-requires
     returns
-    sub-t13
-    is-open-requires
-    returns-2
     fresh-requires
     link-end-requires-2
     newest-requires
+    returns-2
+    sub-t14
+    is-open-requires
     returns-3
     source-of-requires
     from-place-requires

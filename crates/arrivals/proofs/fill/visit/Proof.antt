@@ -28,7 +28,7 @@ returns-2 : tie.Need-returns-2
 returns-2 c = record { result = c .before .before .fill-slow .ensures .result; index = λ e b. absurd (omega arith) }
 
 rests-requires : tie.Need-rests-requires
-rests-requires c κs = let p = c .before .before .before .before .before .before .before .before .before .before .pre in (omega (arith, p .0 .inside, p .0 .given .places), p .1 (c .before .if2 .left) .0 .size, p .0 .given .size)
+rests-requires c κs = let p = c .before .before .before .before .before .before .before .before .before .before .pre in (omega (arith, p .0 .inside, p .0 .given .places), p .1 (c .before .if2 .left) .0 .size, p .0 .given .closing)
 
 same-length-2 : tie.Need-same-length-2
 same-length-2 c = search needs

@@ -5,7 +5,7 @@ use mathlib.Core.Logic.{inl, inr}
 use mathlib.Core.Path.{_∙_, _≡_, refl, subst}
 use Prim.Native.Nat.{_*_, _+_, _-_, _≤_}
 use native.Mathlib.Omega.{arith}
-use Rattle.arrivals.specs.Inner.Chains.{Chained, chained-none}
+use Rattle.arrivals.specs.Inner.Chains.{byPlace, pastOf, Chained, chained-none}
 use Rattle.arrivals.specs.Inner.Laying.{linked-kept}
 use Rattle.arrivals.specs.Inner.Lent.{Linked}
 use Rattle.arrivals.specs.Rows.{Besides}
@@ -15,7 +15,7 @@ use Rattle.arrivals.proofs.lay.chain.Statement.{statement}
 use Rattle.arrivals.proofs.lay.chain.Tie as tie
 
 abbrev Inv-loop : tie.InvT-loop
-Inv-loop net₀ q j₀ j-end net j = (j ≤ countOf net₀) × Linked net × (countOf net ≡ countOf net₀) × Chained net q j × Besides (192 + q * 320) (192 + q * 320 + 320) net₀ net
+Inv-loop net₀ q j₀ j-end net j = (j ≤ countOf net₀) × Linked net × (countOf net ≡ countOf net₀) × Chained (byPlace q) net j × Besides (192 + q * 320) (pastOf (byPlace q)) net₀ net
 
 abbrev μ-loop : tie.MeasureT-loop
 μ-loop net₀ q j₀ j-end net j = countOf net₀ - j

@@ -1,4 +1,4 @@
--- `arrivals::lay::lay_counts` meets its contract: three stores.
+-- `arrivals::lay::lay_counts` meets its contract: four stores.
 -- Assumes nothing.
 use native.Mathlib.Omega.{arith}
 use lib.ListN.{length-set}
@@ -16,12 +16,22 @@ slice-write-net-2 c = simp length-set (omega arith)
 slice-write-net-3 : tie.Need-slice-write-net-3
 slice-write-net-3 c = simp length-set (omega arith)
 
+slice-write-net-4 : tie.Need-slice-write-net-4
+slice-write-net-4 c = simp length-set (omega arith)
+
 same-length : tie.Need-same-length
 same-length c = simp length-set
 
 returns : tie.Need-returns
-returns c = counted _ _ _ _ (c .pre)
+returns c = counted _ _ _ _ _ (c .pre)
 
 pub lay-counts-spec : {M : Type 1} → statement M
 lay-counts-spec =
-    tie.close (tie.spec slice-write-net slice-write-net-2 slice-write-net-3 same-length returns)
+    tie.close
+    (tie.spec
+    slice-write-net
+    slice-write-net-2
+    slice-write-net-3
+    slice-write-net-4
+    same-length
+    returns)

@@ -1,12 +1,11 @@
 -- `arrivals::lay::lay_waits` meets its contract: the costs are stored place by place. The loop's invariant: those of the places below v are, and
 -- all else is kept.
 -- Assumes nothing.
-use mathlib.Core.Path.{_≡_, subst}
+use mathlib.Core.Path.{subst}
 use Prim.Native.Nat.{_-_, _≤_}
 use native.Mathlib.Omega.{arith}
 use borrow.Author.Needs.{needs}
 use Rattle.sheet.specs.Lists.{number}
-use Rattle.sheet.specs.Sheet.{places}
 use Rattle.sheet.specs.Store.{sheetIn}
 use Rattle.arrivals.specs.Inner.Laying.{WaitsTo, waits-more}
 use Rattle.arrivals.specs.Inner.OfSheet.{whole-store, head-at, few-places}

@@ -9,6 +9,7 @@ use borrow.Author.Tests.{not-false, not-true}
 use Rattle.sheet.specs.Laws.Decided.{false-not-true}
 use Rattle.arrivals.specs.Inner.Pruning.{enters-tried, fair-of, tried-enters}
 use Rattle.arrivals.specs.Inner.Selecting.{improved-as, improved-skip}
+use Rattle.arrivals.specs.Inner.Lent.{given-linked}
 use Rattle.arrivals.proofs.select.try_link.Statement.{statement}
 use Rattle.arrivals.proofs.select.try_link.Tie as tie
 
@@ -22,13 +23,15 @@ sub-t11 : tie.Need-sub-t11
 sub-t11 c = search needs
 
 is-open-requires : tie.Need-is-open-requires
-is-open-requires c κs = (omega (arith, c .before .before .before .before .before .before .before .before .pre .0 .given .few), c .before .before .before .before .before .before .before .before .pre .0 .given .size)
+is-open-requires c κs =
+    (omega (arith, (c .before .before .before .before .before .before .before .before .pre) .0 .given .few), given-linked ((c .before .before .before .before .before .before .before .before .pre) .0 .given) .ends 1 ((c .before .before .before .before .before .before .before .before .args) .j) (omega arith) ((c .before .before .before .before .before .before .before .before .pre) .1), (c .before .before .before .before .before .before .before .before .pre) .0 .given .closing)
 
 returns-2 : tie.Need-returns-2
 returns-2 c = improved-skip _ _ (λ g q. false-not-true (not-true _ (c .if2 .taken)) (c .before .is-open .ensures ∙ q .0 .opens))
 
 fresh-requires : tie.Need-fresh-requires
-fresh-requires c κs = (omega (arith, c .before .before .before .before .before .before .before .before .before .before .pre .0 .given .few), c .before .before .before .before .before .before .before .before .before .before .pre .0 .given .size, c .before .before .before .before .before .before .before .before .before .before .pre .0 .stands .first)
+fresh-requires c κs =
+    (omega (arith, (c .before .before .before .before .before .before .before .before .before .before .pre) .0 .given .few), given-linked ((c .before .before .before .before .before .before .before .before .before .before .pre) .0 .given) .ends 1 ((c .before .before .before .before .before .before .before .before .before .before .args) .j) (omega arith) ((c .before .before .before .before .before .before .before .before .before .before .pre) .1), (c .before .before .before .before .before .before .before .before .before .before .pre) .0 .given .closing, (c .before .before .before .before .before .before .before .before .before .before .pre) .0 .stands .first)
 
 source-of-requires : tie.Need-source-of-requires
 source-of-requires c κs = (c .before .before .before .before .before .before .before .before .before .before .before .pre .0 .given, c .before .before .before .before .before .before .before .before .before .before .before .pre .1, c .before .before .before .before .before .before .before .before .before .before .before .pre .0 .stands .first, c .before .before .before .before .before .before .before .before .before .before .before .pre .0 .stands .last)

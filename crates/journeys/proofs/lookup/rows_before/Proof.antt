@@ -1,20 +1,28 @@
 -- `journeys::lookup::rows_before` meets its contract. The loop's invariant: the rows below `low` come before a, and those from `high` on do not. The
 -- measure is what lies between.
 -- Assumes nothing.
-use mathlib.Core.Path.{_≡_, subst}
+use mathlib.Core.Path.{_≡_, _∙_, ap}
+use mathlib.Core.Bool.{Bool}
 use Prim.Native.Nat.{_-_}
 use native.Mathlib.Omega.{arith}
-use Rattle.journeys.specs.Inner.Lookup.{standing, Parted}
-use Rattle.journeys.proofs.Finding.{parted-none, parted-low, parted-high}
 use borrow.Author.Needs.{needs}
+use Rattle.sheet.specs.Computed.{lexb}
+use Rattle.sheet.specs.Seek.{Parted}
+use Rattle.sheet.specs.Laws.Seek.{parted-none, parted-all, parted-low, parted-high}
+use Rattle.arrivals.specs.Arrivals.{Arrival, keyOf}
+use Rattle.journeys.specs.Inner.Lookup.{standing, standAt}
 use Rattle.journeys.proofs.lookup.rows_before.Statement.{statement}
 use Rattle.journeys.proofs.lookup.rows_before.Tie as tie
 
 abbrev Inv-loop : tie.InvT-loop
-Inv-loop table n a low₀ high₀ low high = Parted n table (standing a) low high
+Inv-loop table n a low₀ high₀ low high = Parted n (λ k. keyOf (standAt table k)) (keyOf (standing a)) low high
 
 abbrev μ-loop : tie.MeasureT-loop
 μ-loop table n a low₀ high₀ low high = high - low
+
+-- what the look at a row tells, of the row in the table
+looked : (a : Arrival) {x y : Arrival} {b : Bool} → x ≡ y → b ≡ lexb (keyOf x) (keyOf a) → b ≡ lexb (keyOf y) (keyOf a)
+looked a e t = t ∙ ap (λ (y : Arrival). lexb (keyOf y) (keyOf a)) e
 
 loop-holds : tie.Need-loop-holds Inv-loop μ-loop
 loop-holds c = parted-none
@@ -38,16 +46,22 @@ loop-less : tie.Need-loop-less Inv-loop μ-loop
 loop-less c = omega arith
 
 loop-again : tie.Need-loop-again Inv-loop μ-loop
-loop-again c = parted-low (c .before .before .before .before .before .before .pre) (c .before .before .before .before .loop .inv) _ (omega arith) (omega arith) (c .before .before .row-at .ensures) (c .before .comes-before .ensures) (c .if1 .taken)
+loop-again c =
+    let x = c .before .before .before .before in
+    let t = looked (standing (x .before .before .args .a)) (c .before .before .row-at .ensures) (c .before .comes-before .ensures) in
+    parted-low (x .loop .inv) (x .before .before .pre .ascends) _ (omega arith) (omega arith) t (c .if1 .taken)
 
 loop-less-2 : tie.Need-loop-less-2 Inv-loop μ-loop
 loop-less-2 c = omega arith
 
 loop-again-2 : tie.Need-loop-again-2 Inv-loop μ-loop
-loop-again-2 c = parted-high (c .before .before .before .before .before .before .pre) (c .before .before .before .before .loop .inv) _ (omega arith) (omega arith) (c .before .before .row-at .ensures) (c .before .comes-before .ensures) (c .if1 .left)
+loop-again-2 c =
+    let x = c .before .before .before .before in
+    let t = looked (standing (x .before .before .args .a)) (c .before .before .row-at .ensures) (c .before .comes-before .ensures) in
+    parted-high (x .loop .inv) (x .before .before .pre .ascends) _ (omega arith) (omega arith) t (c .if1 .left)
 
 returns : tie.Need-returns Inv-loop μ-loop
-returns c = let z : c .before .loop .high ≡ c .before .loop .low = omega (arith, c .before .loop .inv .order) in subst (Parted _ _ _ (c .before .loop .low)) z (c .before .loop .inv)
+returns c = parted-all (c .before .loop .inv) (c .loop-test .left)
 
 pub rows-before-spec : {M : Type 1} → statement M
 rows-before-spec =

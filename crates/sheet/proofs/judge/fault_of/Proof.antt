@@ -95,28 +95,39 @@ left-4 c = left-next (left-7 (c .before .before .before)) (tried-4 (c .before) f
 abbrev row-6 : tie.After-is-unpaired → tie.After-row-of
 row-6 c = row-4 (c .before .before)
 
-tried-6 : (c : tie.After-is-unpaired) (b : Bool) → c .is-unpaired .result ≡ b → TriedAt (row-6 c) 6 16 b
+tried-6 : (c : tie.After-is-unpaired) (b : Bool) → c .is-unpaired .result ≡ b → TriedAt (row-6 c) 6 15 b
 unfolding tests
 tried-6 c b e =
     let r = row-6 c in
     record { of = λ before S. ap (first 6 _) (unpaired-is S (entry r .pre .0) (r .row-of .ensures) (entry r .args .values) ∙ sym (c .is-unpaired .ensures) ∙ e) }
 
-left-6 : (c : tie.Else4) → LeftAt (row-6 (c .before)) 16
+left-6 : (c : tie.Else4) → LeftAt (row-6 (c .before)) 15
 left-6 c = left-next (left-4 (c .before .before)) (tried-6 (c .before) false (c .if4 .left))
+
+-- test 15
+abbrev row-15 : tie.After-is-unknown → tie.After-row-of
+row-15 c = row-6 (c .before .before)
+
+tried-15 : (c : tie.After-is-unknown) (b : Bool) → c .is-unknown .result ≡ b → TriedAt (row-15 c) 15 16 b
+unfolding tests
+tried-15 c b e = record { of = λ before S. ap (first 15 _) (sym (c .is-unknown .ensures .of before S) ∙ e) }
+
+left-15 : (c : tie.Else5) → LeftAt (row-15 (c .before)) 16
+left-15 c = left-next (left-6 (c .before .before)) (tried-15 (c .before) false (c .if5 .left))
 
 -- test 16, after test 3 has passed
 abbrev row-16 : tie.After-is-late → tie.After-row-of
-row-16 c = row-6 (c .before .before)
+row-16 c = row-15 (c .before .before)
 
 tried-16 : (c : tie.After-is-late) (b : Bool) → c .is-late .result ≡ b → TriedAt (row-16 c) 16 5 b
 unfolding tests
 tried-16 c b e =
     let r = row-16 c in
-    let p = passed-3 (c .before .before .before .before) in
+    let p = passed-3 (c .before .before .before .before .before .before) in
     record { of = λ before S. ap (first 16 _) (late-is S (entry r .pre .0) (entry r .args .values) (p before S) ∙ sym (c .is-late .ensures) ∙ e) }
 
-left-16 : (c : tie.Else5) → LeftAt (row-16 (c .before)) 5
-left-16 c = left-next (left-6 (c .before .before)) (tried-16 (c .before) false (c .if5 .left))
+left-16 : (c : tie.Else6) → LeftAt (row-16 (c .before)) 5
+left-16 c = left-next (left-15 (c .before .before)) (tried-16 (c .before) false (c .if6 .left))
 
 -- test 5
 abbrev row-5 : tie.After-is-not-above → tie.After-row-of
@@ -128,8 +139,8 @@ tried-5 c b e =
     let r = row-5 c in
     record { of = λ before S. ap (first 5 _) (above-is S (entry r .pre .0) (r .row-of .ensures) (entry r .args .values) ∙ sym (c .is-not-above .ensures) ∙ e) }
 
-left-5 : (c : tie.Else6) → LeftAt (row-5 (c .before)) 0
-left-5 c = left-next (left-16 (c .before .before)) (tried-5 (c .before) false (c .if6 .left))
+left-5 : (c : tie.Else7) → LeftAt (row-5 (c .before)) 0
+left-5 c = left-next (left-16 (c .before .before)) (tried-5 (c .before) false (c .if7 .left))
 
 row-of-requires : tie.Need-row-of-requires
 row-of-requires c κs = search needs
@@ -141,7 +152,7 @@ shared-slice-read-n : tie.Need-shared-slice-read-n
 shared-slice-read-n c = omega (arith, lines-length (entry (c .before) .pre .1 .stored))
 
 is-misplaced-requires : tie.Need-is-misplaced-requires
-is-misplaced-requires c κs = search needs
+is-misplaced-requires c κs = let e = entry (c .before .before) in (lines-length (e .pre .1 .stored), e .pre .0)
 
 returns : tie.Need-returns
 returns c = left-stop (left-all (row-3 (c .before))) (tried-3 (c .before) true (c .if1 .taken))
@@ -170,23 +181,29 @@ is-unpaired-requires c κs =
 returns-4 : tie.Need-returns-4
 returns-4 c = left-stop (left-4 (c .before .before)) (tried-6 (c .before) true (c .if4 .taken))
 
-is-late-requires : tie.Need-is-late-requires
-is-late-requires c κs = omega (arith, all-length (entry (row-6 (c .before)) .pre .1 .stored))
+is-unknown-requires : tie.Need-is-unknown-requires
+is-unknown-requires c κs = entry (row-6 (c .before)) .pre
 
 returns-5 : tie.Need-returns-5
-returns-5 c = left-stop (left-6 (c .before .before)) (tried-16 (c .before) true (c .if5 .taken))
+returns-5 c = left-stop (left-6 (c .before .before)) (tried-15 (c .before) true (c .if5 .taken))
+
+is-late-requires : tie.Need-is-late-requires
+is-late-requires c κs = omega (arith, all-length (entry (row-15 (c .before)) .pre .1 .stored))
+
+returns-6 : tie.Need-returns-6
+returns-6 c = left-stop (left-15 (c .before .before)) (tried-16 (c .before) true (c .if6 .taken))
 
 is-not-above-requires : tie.Need-is-not-above-requires
 is-not-above-requires c κs =
     let r = row-16 (c .before) in
     row-fits (entry r .pre .1 .stored) (entry r .pre .0) (r .row-of .ensures)
 
-returns-6 : tie.Need-returns-6
-returns-6 c = left-stop (left-16 (c .before .before)) (tried-5 (c .before) true (c .if6 .taken))
-
 returns-7 : tie.Need-returns-7
+returns-7 c = left-stop (left-16 (c .before .before)) (tried-5 (c .before) true (c .if7 .taken))
+
+returns-8 : tie.Need-returns-8
 unfolding tests
-returns-7 c = record { of = λ before S. sym (left-5 c .of before S) }
+returns-8 c = record { of = λ before S. sym (left-5 c .of before S) }
 
 pub fault-of-spec : {M : Type 1} → statement M
 fault-of-spec =
@@ -203,8 +220,10 @@ fault-of-spec =
     returns-3
     is-unpaired-requires
     returns-4
-    is-late-requires
+    is-unknown-requires
     returns-5
-    is-not-above-requires
+    is-late-requires
     returns-6
-    returns-7)
+    is-not-above-requires
+    returns-7
+    returns-8)

@@ -18,12 +18,18 @@ corridor-row-requires c κs = search needs
 returns-2 : tie.Need-returns-2
 returns-2 c = rw (c .before .if2 .taken) (c .corridor-row .ensures)
 
+closure-row-requires : tie.Need-closure-row-requires
+closure-row-requires c κs = search needs
+
+returns-3 : tie.Need-returns-3
+returns-3 c = rw (c .before .if3 .taken) (c .closure-row .ensures)
+
 occupancy-row-requires : tie.Need-occupancy-row-requires
 occupancy-row-requires c κs = search needs
 
-returns-3 : tie.Need-returns-3
-returns-3 c =
-    let e : c .before .before .before .args .k ≡ 2 = omega arith in
+returns-4 : tie.Need-returns-4
+returns-4 c =
+    let e : c .before .before .before .before .args .k ≡ 3 = omega arith in
     rw e (c .occupancy-row .ensures)
 
 pub row-of-spec : {M : Type 1} → statement M
@@ -34,5 +40,7 @@ row-of-spec =
     returns
     corridor-row-requires
     returns-2
+    closure-row-requires
+    returns-3
     occupancy-row-requires
-    returns-3)
+    returns-4)

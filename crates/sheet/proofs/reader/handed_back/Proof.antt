@@ -55,9 +55,25 @@ slice-aggregate-copy-4 : tie.Need-slice-aggregate-copy-4
 slice-aggregate-copy-4 c = search needs
 
 copy-requires-3 : tie.Need-copy-requires-3
-copy-requires-3 c κs =
-    let all = c .before .before .before .before .before .before .before .before .before .before .before .args .all .now in
-    length-take-le (room kindO) (drop (baseOf 2) all) (omega (arith, length-drop (baseOf 2) all, long (c .before .before .before .before .before .before .before .before .before .before .before .pre)))
+copy-requires-3 c κs = search needs
+
+sub-copy-3 : tie.Need-sub-copy-3
+sub-copy-3 c = omega arith
+
+part-copy-start-3 : tie.Need-part-copy-start-3
+part-copy-start-3 c = omega arith
+
+part-copy-end-3 : tie.Need-part-copy-end-3
+part-copy-end-3 c = omega (arith, long (c .before .before .before .before .before .before .before .before .before .before .before .before .before .pre))
+
+slice-aggregate-copy-5 : tie.Need-slice-aggregate-copy-5
+slice-aggregate-copy-5 c = search needs
+
+copy-requires-4 : tie.Need-copy-requires-4
+copy-requires-4 c κs =
+    let z = c .before .before .before .before .before .before .before .before .before .before .before .before .before .before .before in
+    let all = z .args .all .now in
+    length-take-le (room kindO) (drop (baseOf 3) all) (omega (arith, length-drop (baseOf 3) all, long (z .pre)))
 
 returns : tie.Need-returns
 unfolding readAnswer
@@ -67,9 +83,10 @@ returns c =
         refusal = 0;
         line = 0;
         lines = S .counts i;
-        head = (c .before .before .before .before .before .before .before .before .before .copy .ensures ∙ store-full S 0 (omega arith) ∙ ap (filled (room kindS)) (append-nil (s .head))) i;
-        corridors = (c .before .before .before .before .before .copy2 .ensures ∙ store-full S 1 (omega arith)) i;
-        occupancies = (c .before .copy3 .ensures ∙ store-full S 2 (omega arith)) i;
+        head = (c .before .before .before .before .before .before .before .before .before .before .before .before .before .copy .ensures ∙ store-full S 0 (omega arith) ∙ ap (filled (room kindS)) (append-nil (s .head))) i;
+        corridors = (c .before .before .before .before .before .before .before .before .before .copy2 .ensures ∙ store-full S 1 (omega arith)) i;
+        closures = (c .before .before .before .before .before .copy3 .ensures ∙ store-full S 2 (omega arith)) i;
+        occupancies = (c .before .copy4 .ensures ∙ store-full S 3 (omega arith)) i;
       };
     }
 
@@ -90,4 +107,9 @@ handed-back-spec =
     part-copy-end-2
     slice-aggregate-copy-4
     copy-requires-3
+    sub-copy-3
+    part-copy-start-3
+    part-copy-end-3
+    slice-aggregate-copy-5
+    copy-requires-4
     returns)

@@ -1,6 +1,6 @@
 -- `sheet::writer::take_groups` meets its contract: each group's promise carries what was judged so far past its lines, and `ended` past the last.
 -- Assumes nothing.
-use mathlib.Core.Path.{ap}
+use mathlib.Core.Path.{_∙_, ap}
 use native.Mathlib.Omega.{arith}
 use lib.ListN.{length}
 use borrow.Author.Needs.{needs}
@@ -14,9 +14,9 @@ passed-requires c κs = search needs
 
 take-group-requires : tie.Need-take-group-requires
 take-group-requires c κs =
-    let z = c .before .before .before .before .before .before .before .before in
-    let g = groups (z .args .head .now) (z .args .corridors .now) (z .args .occupancies .now) in
-    (omega arith, so-far-ready (groups-start g (z .pre .0) (z .pre .1) (c .passed .ensures)))
+    let a = (c .before .before .before .before .before .before .before .before .before .args) in
+    let g = groups (a .head .now) (a .corridors .now) (a .closures .now) (a .occupancies .now) in
+    (omega arith, so-far-ready (groups-start g ((c .before .before .before .before .before .before .before .before .before .pre) .0) ((c .before .before .before .before .before .before .before .before .before .pre) .1) ((c .passed) .ensures)))
 
 take-group-requires-2 : tie.Need-take-group-requires-2
 take-group-requires-2 c κs = search needs
@@ -24,26 +24,26 @@ take-group-requires-2 c κs = search needs
 take-group-requires-3 : tie.Need-take-group-requires-3
 take-group-requires-3 c κs = search needs
 
+take-group-requires-4 : tie.Need-take-group-requires-4
+take-group-requires-4 c κs = (omega arith, (c .before .before .before .before .before .before .take-group3) .ensures .ready)
+
 ended-requires : tie.Need-ended-requires
-ended-requires c κs =
-    let z = c .before .before .before .before .before .before .before .before .before .before .before .before .before .before .before .before .before .before .before .before .before .before .before .before .before .before .before .before in
-    omega (arith, ap length (z .pre .1 .no-lines))
+ended-requires c κs = omega (arith, ap length ((c .before .before .before .before .before .before .before .before .before .before .before .before .before .before .before .before .before .before .before .before .before .before .before .before .before .before .before .before .before .before .before .before .before .before .before .before .pre) .1 .no-lines))
 
 same-length : tie.Need-same-length
-same-length c = search needs
+same-length c = (c .before .before .before .before .before .lines4) .given ∙ (c .before .before .before .before .before .before .before .before .before .before .before .before .lines3) .given ∙ (c .before .before .before .before .before .before .before .before .before .before .before .before .before .before .before .before .before .before .before .lines2) .given ∙ (c .before .before .before .before .before .before .before .before .before .before .before .before .before .before .before .before .before .before .before .before .before .before .before .before .before .before .lines) .given
 
 same-length-2 : tie.Need-same-length-2
-same-length-2 c = search needs
+same-length-2 c = (c .before .before .before .all4) .given ∙ (c .before .before .before .before .before .before .before .before .before .before .all3) .given ∙ (c .before .before .before .before .before .before .before .before .before .before .before .before .before .before .before .before .before .all2) .given ∙ (c .before .before .before .before .before .before .before .before .before .before .before .before .before .before .before .before .before .before .before .before .before .before .before .before .all) .given
 
 returns : tie.Need-returns
 returns c =
-    let o = c .before .before .before .before .before .before in
-    let t = o .before .before .before .before .before .before .before in
-    let s = t .before .before .before .before .before .before .before in
-    let z = s .before .before .before .before .before .before .before .before .before in
-    let g = groups (z .args .head .now) (z .args .corridors .now) (z .args .occupancies .now) in
-    let start = groups-start g (z .pre .0) (z .pre .1) (s .before .passed .ensures) in
-    c .ended .ensures .of _ _ (o .take-group3 .ensures .of _ _ (t .take-group2 .ensures .of _ _ (s .take-group .ensures .of _ _ start)))
+    let a = (c .before .before .before .before .before .before .before .before .before .before .before .before .before .before .before .before .before .before .before .before .before .before .before .before .before .before .before .before .before .before .before .before .before .before .before .before .before .args) in
+    let g = groups (a .head .now) (a .corridors .now) (a .closures .now) (a .occupancies .now) in
+    let start = groups-start g ((c .before .before .before .before .before .before .before .before .before .before .before .before .before .before .before .before .before .before .before .before .before .before .before .before .before .before .before .before .before .before .before .before .before .before .before .before .before .pre) .0) ((c .before .before .before .before .before .before .before .before .before .before .before .before .before .before .before .before .before .before .before .before .before .before .before .before .before .before .before .before .before .before .before .before .before .before .before .before .before .pre) .1) ((c .before .before .before .before .before .before .before .before .before .before .before .before .before .before .before .before .before .before .before .before .before .before .before .before .before .before .before .before .passed) .ensures) in
+    let s = (c .before .before .before .before .before .before .before .before .before .before .before .before .before .before .before .before .before .before .before .before .before .before .before .before .before .before .before .take-group) .ensures .of _ _ start in
+    let t = (c .before .before .before .before .before .before .before .before .before .before .before .before .before .before .before .before .before .before .before .before .take-group2) .ensures .of _ _ s in
+    (c .ended) .ensures .of _ _ ((c .before .before .before .before .before .before .take-group4) .ensures .of _ _ ((c .before .before .before .before .before .before .before .before .before .before .before .before .before .take-group3) .ensures .of _ _ t))
 
 pub take-groups-spec : {M : Type 1} → statement M
 take-groups-spec =
@@ -53,6 +53,7 @@ take-groups-spec =
     take-group-requires
     take-group-requires-2
     take-group-requires-3
+    take-group-requires-4
     ended-requires
     same-length
     same-length-2

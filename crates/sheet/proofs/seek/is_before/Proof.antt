@@ -1,4 +1,4 @@
--- `sheet::judge::is_before` meets its contract. The loop's invariant: the first i numbers of both are the same, so the order of what is left is
+-- `sheet::seek::is_before` meets its contract. The loop's invariant: the first i numbers of both are the same, so the order of what is left is
 -- the order of the whole. The measure is what is left of n.
 -- Assumes nothing.
 use mathlib.Core.Path.{_≡_, refl, sym, _∙_}
@@ -8,8 +8,8 @@ use lib.ListN.{length, take, drop}
 use borrow.Author.Needs.{needs}
 use Rattle.sheet.specs.Computed.{lexb}
 use Rattle.sheet.proofs.Passing.{lexFrom, lex-below, lex-above, lex-same, lex-none}
-use Rattle.sheet.proofs.judge.is_before.Statement.{statement}
-use Rattle.sheet.proofs.judge.is_before.Tie as tie
+use Rattle.sheet.proofs.seek.is_before.Statement.{statement}
+use Rattle.sheet.proofs.seek.is_before.Tie as tie
 
 abbrev Inv-loop : tie.InvT-loop
 Inv-loop a at n b i₀ i = (i ≤ n) × (length b ≡ 8) × (lexFrom n a at b i ≡ lexb (take n (drop at a)) (take n b))

@@ -1,0 +1,34 @@
+//! Times planner_front beside the strongest peer's search on sheets with closures of all families of the peers' generator,
+//! checks that both give the same costs and the same number of leading arrivals, and prints a Markdown table.
+//!
+//! `bench_closures FOLDER SEEDS`: the folder with the peers' programs, and the number of sheets of a family.
+
+use planner_bench::beside::{Asked, print_table};
+use planner_bench::peer::FAMILIES;
+use planner_bench::rounds::ROUNDS;
+use planner_bench::{arguments, load_average};
+
+/// One waiting cost for all places, and as many closures as a sheet may have.
+const CLOSED: Asked = Asked { mark: "+", options: &["--wait", "0", "--x", "256"] };
+
+fn main() {
+    let (folder, seeds) = arguments();
+    let load = load_average();
+    let ratio = print_table(&folder, &seeds, &CLOSED);
+    println!();
+    println!(
+        "Sheets with up to 256 closures, most of them on corridors of short journeys, and a time to unload (gen FAMILY+ {}).
+planner_front from the sheet's bytes to the list, with room for twice the arrivals, beside mosipp --all --eager, which is
+given the same sheet with a waiting cost for each place, whose time leaves the reading out and whose memory grows. Ratios
+are without reading; in the last two columns the median ratio with reading, and that with an arrivals table that just
+fits. Medians over the seeds 1 to {} of a family; for each sheet the least of {ROUNDS} rounds' medians.",
+        CLOSED.options.join(" "),
+        seeds.end()
+    );
+    println!("Median of the families' median ratios: {ratio:.2}. The goal is at most 1.5.");
+    println!("Load of the machine before and after: {load}; {}.", load_average());
+    println!(
+        "Both sides gave the same costs and the same number of arrivals on all {} sheets.",
+        FAMILIES.len() * seeds.count()
+    );
+}
