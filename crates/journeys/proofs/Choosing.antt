@@ -7,9 +7,9 @@ use mathlib.Core.Bool.{Bool, true, false, _&&_}
 use mathlib.Core.List.{List, []}
 use Prim.Native.Nat.{ℕ, _+_, _≤_, _<_}
 use native.Mathlib.Omega.{arith}
-use lib.Dec.{eqb, ltb}
+use lib.Dec.{ltb}
 use lib.ListN.{length, getD}
-use borrow.Author.Tests.{ltb-true, lt-ltb, eqb-true, eq-eqb}
+use borrow.Author.Tests.{ltb-true, lt-ltb}
 use Rattle.sheet.specs.Sheet.{Sheet, from}
 use Rattle.sheet.specs.Valid.{Valid}
 use Rattle.sheet.specs.Laws.Decided.{Decided, yes-of, no-of, decided-by, lt-or-le}
@@ -48,26 +48,21 @@ pub record Lower (r : Corridor) (a b : Arrival) : Type 0 where
   pub leaves : r .from .0 ≡ a .place
   pub below : r .to .0 < b .place
 
-pub lower-decided : (r : Corridor) (a b : Arrival) → Decided (Lower r a b) ((r .open && eqb (r .from .0) (a .place)) && ltb (r .to .0) (b .place))
-lower-decided r a b = decided-by ((o && f) && l) yes no
+-- what the code tests of a corridor that leads from a's place
+pub lower-decided : {s : Sheet} {k t u : ℕ} {r : Corridor} (a b : Arrival) → CorridorIs s k t r → u ≡ from (getD (s .corridors) k []) → u ≡ a .place
+    → Decided (Lower r a b) (r .open && ltb (r .to .0) (b .place))
+lower-decided {r = r} a b d e f = decided-by (r .open && l) yes no
   where
-    o : Bool
-    o = r .open
-
-    f : Bool
-    f = eqb (r .from .0) (a .place)
-
     l : Bool
     l = ltb (r .to .0) (b .place)
 
-    yes : (o && f) && l ≡ true → Lower r a b
-    yes e =
-        let p = and-true (o && f) l e in
-        let q = and-true o f (p .0) in
-        record { is-open = q .0; leaves = eqb-true (r .from .0) (a .place) (q .1); below = ltb-true (r .to .0) (b .place) (p .1) }
+    yes : r .open && l ≡ true → Lower r a b
+    yes x =
+        let p = and-true (r .open) l x in
+        record { is-open = p .0; leaves = d .leaves ∙ sym e ∙ f; below = ltb-true (r .to .0) (b .place) (p .1) }
 
-    no : Lower r a b → (o && f) && l ≡ true
-    no x = true-and (o && f) l (true-and o f (x .is-open) (eq-eqb (r .from .0) (a .place) (x .leaves))) (lt-ltb (r .to .0) (b .place) (x .below))
+    no : Lower r a b → r .open && l ≡ true
+    no x = true-and (r .open) l (x .is-open) (lt-ltb (r .to .0) (b .place) (x .below))
 
 -- such a corridor of a valid sheet
 module _ {s : Sheet} {k t : ℕ} {r : Corridor} (d : CorridorIs s k t r) {a b : Arrival} (o : Lower r a b) where

@@ -7,8 +7,8 @@ use mathlib.Core.List.{List, []}
 use Prim.Native.Nat.{ℕ, suc, _+_, _*_, _-_, _≤_, _<_}
 use native.Mathlib.Omega.{arith}
 use lib.ListN.{length, getD}
-use lib.Dec.{eqb, leb, ltb}
-use borrow.Author.Tests.{eqb-true, eq-eqb, leb-true, le-leb, ltb-true, lt-ltb}
+use lib.Dec.{leb, ltb}
+use borrow.Author.Tests.{leb-true, le-leb, ltb-true, lt-ltb}
 use Rattle.sheet.specs.Lists.{number, Lex}
 use Rattle.sheet.specs.Kinds.{kindC}
 use Rattle.sheet.specs.Sheet.{Sheet, to}
@@ -56,17 +56,16 @@ cross-other b p q e x = q (p ∙ x .cross .enters)
 
 -- by corridor l
 module _ {s : Sheet} (b : Arrival) {l : ℕ} (r : corridor.Corridor) (c : CorridorIs s l (b .step - 1) r) where
-  pub cross-off : {p : Bool} → p ≡ atMostb (r .cost) (b .cost) → r .open && eqb (r .to .0) (b .place) && p ≡ false → (e : Arrival) → CrossesBy s b l e → ⊥
+  pub cross-off : {p : Bool} → p ≡ atMostb (r .cost) (b .cost) → r .open && p ≡ false → (e : Arrival) → CrossesBy s b l e → ⊥
   cross-off {p} q d e x =
       let y = crosses-corridor c (e .place) (b .place) (x .price) (x .cross) in
       let under : p ≡ true = q ∙ part-under (kept s e (b .step - 1)) (r .cost) (b .cost) (ap (add (kept s e (b .step - 1))) (y .3) ∙ x .sum) in
-      false-not-true d (true-and (r .open && eqb (r .to .0) (b .place)) p (true-and (r .open) (eqb (r .to .0) (b .place)) (y .0) (eq-eqb (r .to .0) (b .place) (y .2))) under)
+      false-not-true d (true-and (r .open) p (y .0) under)
 
-  pub cross-on : {p : Bool} → p ≡ atMostb (r .cost) (b .cost) → r .open && eqb (r .to .0) (b .place) && p ≡ true → (r .open ≡ true) × (r .to .0 ≡ b .place) × AtMost (r .cost) (b .cost)
+  pub cross-on : {p : Bool} → p ≡ atMostb (r .cost) (b .cost) → r .open && p ≡ true → (r .open ≡ true) × AtMost (r .cost) (b .cost)
   cross-on {p} q d =
-      let x = and-true (r .open && eqb (r .to .0) (b .place)) p d in
-      let y = and-true (r .open) (eqb (r .to .0) (b .place)) (x .0) in
-      (y .0, eqb-true (r .to .0) (b .place) (y .1), atMostb-true (r .cost) (b .cost) (sym q ∙ x .1))
+      let x = and-true (r .open) p d in
+      (x .0, atMostb-true (r .cost) (b .cost) (sym q ∙ x .1))
 
   module _ {n k : ℕ} {xs : List ℕ} (opens : r .open ≡ true) (enters : r .to .0 ≡ b .place) (g : Cost) (q : (length g ≡ figures) × (add g (r .cost) ≡ b .cost))
       (w : WaitingRow s n xs (arrival (r .from .0) (b .step - 1) g) k) where

@@ -97,7 +97,7 @@ fn mark_over(
     let c = corridor_at(lines, all, l, step);
     let price = c.cost;
     let h = b.cost;
-    if !(c.open & (c.to.0 == b.place.0) & at_most(price, h)) {
+    if !(c.open & at_most(price, h)) {
         return;
     }
     let place = c.from;

@@ -76,7 +76,7 @@ fn next_over(
         return best;
     }
     let c = corridor_at(lines, all, l, at.step);
-    if !(c.open & (c.from.0 == at.place.0) & (c.to.0 < best.place.0)) {
+    if !(c.open & (c.to.0 < best.place.0)) {
         return best;
     }
     let place = c.to;

@@ -24,5 +24,4 @@ pub mod Seek
 pub mod TextBound
 pub mod RoundTrip
 pub mod Ascii
-pub mod Boundary
 pub mod Table

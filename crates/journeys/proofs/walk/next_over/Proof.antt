@@ -22,34 +22,34 @@ corridor-at-requires c κs = (some-derived ((c .before .before .before .before .
 
 returns-2 : tie.Need-returns-2
 returns-2 c =
-    let k = (c .before .before .before .before .before .before .corridor-at) in
-    over-not ((c .before .before .before .before .before .before .before .before .before .before .before .before .before .before .before .pre) .2) (k .ensures) (no-of (lower-decided (k .result) (standing ((c .before .before .before .before .before .before .before .before .before .before .before .before .before .before .before .args) .at)) (standing ((c .before .before .before .before .before .before .before .before .before .before .before .before .before .before .before .args) .best))) (not-true _ ((c .if2) .taken)))
+    let k = (c .before .before .before .before .corridor-at) in
+    over-not ((c .before .before .before .before .before .before .before .before .before .before .before .before .before .pre) .2) (k .ensures) (no-of (lower-decided (standing ((c .before .before .before .before .before .before .before .before .before .before .before .before .before .args) .at)) (standing ((c .before .before .before .before .before .before .before .before .before .before .before .before .before .args) .best)) (k .ensures) ((c .before .before .before .before .before .before .before .before .end-of) .ensures) ((c .before .before .before .before .before .if1) .left)) (not-true _ ((c .if2) .taken)))
 
 sum-requires : tie.Need-sum-requires
 sum-requires c κs =
-    let k = (c .before .before .before .before .before .before .before .before .before .corridor-at) in
-    let o = yes-of (lower-decided (k .result) (standing ((c .before .before .before .before .before .before .before .before .before .before .before .before .before .before .before .before .before .before .args) .at)) (standing ((c .before .before .before .before .before .before .before .before .before .before .before .before .before .before .before .before .before .before .args) .best))) (not-false _ ((c .before .before .before .if2) .left)) in
-    ((c .before .before .before .before .before .before .before .before .before .before .before .before .before .before .before .before .before .before .pre) .0 .cost, lower-within (k .ensures) o (store-valid ((c .before .before .before .before .before .before .before .before .before .before .before .before .before .before .before .before .before .before .pre) .0 .rowed .derived .store)))
+    let k = (c .before .before .before .before .before .before .before .corridor-at) in
+    let o = yes-of (lower-decided (standing ((c .before .before .before .before .before .before .before .before .before .before .before .before .before .before .before .before .args) .at)) (standing ((c .before .before .before .before .before .before .before .before .before .before .before .before .before .before .before .before .args) .best)) (k .ensures) ((c .before .before .before .before .before .before .before .before .before .before .before .end-of) .ensures) ((c .before .before .before .before .before .before .before .before .if1) .left)) (not-false _ ((c .before .before .before .if2) .left)) in
+    ((c .before .before .before .before .before .before .before .before .before .before .before .before .before .before .before .before .pre) .0 .cost, lower-within (k .ensures) o (store-valid ((c .before .before .before .before .before .before .before .before .before .before .before .before .before .before .before .before .pre) .0 .rowed .derived .store)))
 
-add-t22 : tie.Need-add-t22
-add-t22 c = omega (arith, (c .before .before .before .before .before .before .before .before .before .before .before .before .before .before .before .before .before .before .before .before .pre) .0 .step)
+add-t20 : tie.Need-add-t20
+add-t20 c = omega (arith, (c .before .before .before .before .before .before .before .before .before .before .before .before .before .before .before .before .before .before .pre) .0 .step)
 
 is-marked-requires : tie.Need-is-marked-requires
 is-marked-requires c κs =
-    let k = (c .before .before .before .before .before .before .before .before .before .before .before .corridor-at) in
-    let o = yes-of (lower-decided (k .result) (standing ((c .before .before .before .before .before .before .before .before .before .before .before .before .before .before .before .before .before .before .before .before .args) .at)) (standing ((c .before .before .before .before .before .before .before .before .before .before .before .before .before .before .before .before .before .before .before .before .args) .best))) (not-false _ ((c .before .before .before .before .before .if2) .left)) in
-    ((c .before .before .before .before .before .before .before .before .before .before .before .before .before .before .before .before .before .before .before .before .pre) .0 .rowed, lower-place (k .ensures) o (store-valid ((c .before .before .before .before .before .before .before .before .before .before .before .before .before .before .before .before .before .before .before .before .pre) .0 .rowed .derived .store)), omega (arith, (c .before .before .before .before .before .before .before .before .before .before .before .before .before .before .before .before .before .before .before .before .pre) .0 .step))
+    let k = (c .before .before .before .before .before .before .before .before .before .corridor-at) in
+    let o = yes-of (lower-decided (standing ((c .before .before .before .before .before .before .before .before .before .before .before .before .before .before .before .before .before .before .args) .at)) (standing ((c .before .before .before .before .before .before .before .before .before .before .before .before .before .before .before .before .before .before .args) .best)) (k .ensures) ((c .before .before .before .before .before .before .before .before .before .before .before .before .before .end-of) .ensures) ((c .before .before .before .before .before .before .before .before .before .before .if1) .left)) (not-false _ ((c .before .before .before .before .before .if2) .left)) in
+    ((c .before .before .before .before .before .before .before .before .before .before .before .before .before .before .before .before .before .before .pre) .0 .rowed, lower-place (k .ensures) o (store-valid ((c .before .before .before .before .before .before .before .before .before .before .before .before .before .before .before .before .before .before .pre) .0 .rowed .derived .store)), omega (arith, (c .before .before .before .before .before .before .before .before .before .before .before .before .before .before .before .before .before .before .pre) .0 .step))
 
 returns-3 : tie.Need-returns-3
 returns-3 c =
-    let k = (c .before .before .before .before .before .before .before .before .before .before .before .before .before .corridor-at) in
-    let o = yes-of (lower-decided (k .result) (standing ((c .before .before .before .before .before .before .before .before .before .before .before .before .before .before .before .before .before .before .before .before .before .before .args) .at)) (standing ((c .before .before .before .before .before .before .before .before .before .before .before .before .before .before .before .before .before .before .before .before .before .before .args) .best))) (not-false _ ((c .before .before .before .before .before .before .before .if2) .left)) in
-    over-marked ((c .before .before .before .before .before .before .before .before .before .before .before .before .before .before .before .before .before .before .before .before .before .before .pre) .2) (k .ensures) ((c .before .before .before .sum) .ensures) ((c .before .is-marked) .ensures) o ((c .if3) .taken)
+    let k = (c .before .before .before .before .before .before .before .before .before .before .before .corridor-at) in
+    let o = yes-of (lower-decided (standing ((c .before .before .before .before .before .before .before .before .before .before .before .before .before .before .before .before .before .before .before .before .args) .at)) (standing ((c .before .before .before .before .before .before .before .before .before .before .before .before .before .before .before .before .before .before .before .before .args) .best)) (k .ensures) ((c .before .before .before .before .before .before .before .before .before .before .before .before .before .before .before .end-of) .ensures) ((c .before .before .before .before .before .before .before .before .before .before .before .before .if1) .left)) (not-false _ ((c .before .before .before .before .before .before .before .if2) .left)) in
+    over-marked ((c .before .before .before .before .before .before .before .before .before .before .before .before .before .before .before .before .before .before .before .before .pre) .2) (k .ensures) ((c .before .before .before .sum) .ensures) ((c .before .is-marked) .ensures) o ((c .if3) .taken)
 
 returns-4 : tie.Need-returns-4
 returns-4 c =
-    let k = (c .before .before .before .before .before .before .before .before .before .before .before .before .before .corridor-at) in
-    over-unmarked ((c .before .before .before .before .before .before .before .before .before .before .before .before .before .before .before .before .before .before .before .before .before .before .pre) .2) (k .ensures) ((c .before .before .before .sum) .ensures) ((c .before .is-marked) .ensures) ((c .if3) .left)
+    let k = (c .before .before .before .before .before .before .before .before .before .before .before .corridor-at) in
+    over-unmarked ((c .before .before .before .before .before .before .before .before .before .before .before .before .before .before .before .before .before .before .before .before .pre) .2) (k .ensures) ((c .before .before .before .sum) .ensures) ((c .before .is-marked) .ensures) ((c .if3) .left)
 
 pub next-over-spec : {M : Type 1} → statement M
 next-over-spec =
@@ -60,7 +60,7 @@ next-over-spec =
     corridor-at-requires
     returns-2
     sum-requires
-    add-t22
+    add-t20
     is-marked-requires
     returns-3
     returns-4)

@@ -8,7 +8,7 @@ use Rattle.sheet.specs.Calls.{writeGroups, writeCall}
 use Rattle.sheet.specs.Laws.Ascii.{bytes}
 use Rattle.sheet.specs.Laws.TextBound.{longest}
 use Rattle.journeys.specs.Calls.{FrontEnd, frontCall, JourneyEnd, journeyCall}
-use Rattle.page.specs.Laws.Marked.{sheetA}
+use Rattle.examples.specs.Marked.{sheetA}
 
 -- a call of the front on sheet A with arrays of n and m numbers, filled with sevens: refusal, line, costs, arrivals; then both arrays
 abbrev pub frontShown : FrontEnd → List (List ℕ)

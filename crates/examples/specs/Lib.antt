@@ -1,0 +1,3 @@
+pub mod Sheets
+pub mod Marked
+pub mod Calls
