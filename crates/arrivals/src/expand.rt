@@ -52,7 +52,8 @@ pub fn fresh_before(net: &[u32], j: usize, here: Here, past: Step) -> Step
 }
 
 // The first step whose rows are to be offered here over corridor j, by the pruning rule: the one after the last open departure that arrives
-// earlier in the same safe interval, where waiting is nowhere dearer.
+// earlier in the same safe interval, where waiting is nowhere dearer. While the corridor is closed nothing is offered over it, so that a run of
+// closures is gone through once, when it ends.
 pub fn fresh(net: &[u32], j: usize, here: Here) -> Step
     requires { ⌜ (j < 256) × (linkOf (now net) 1 j < 64) × (Closing (now net)) × (1 ≤ here .step .0) ⌝ }
     ensures { λ r. ⌜ FreshIs (now (net .entry)) j here (r .0) ⌝ }
@@ -66,6 +67,9 @@ pub fn fresh(net: &[u32], j: usize, here: Here) -> Step
     }
     if is_open(net, j, Step(last - 1)) {
         return Step(last);
+    }
+    if !is_open(net, j, Step(last)) {
+        return Step(0);
     }
     fresh_before(net, j, here, Step(last - 1))
 }

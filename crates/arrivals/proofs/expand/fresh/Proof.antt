@@ -1,4 +1,4 @@
--- `arrivals::expand::fresh` meets its contract: the departure at t - 2 is looked at first, those before it where it is closed.
+-- `arrivals::expand::fresh` meets its contract: the departure at t - 2 is looked at first, those before it where it is closed and the one at t - 1 is open.
 -- Assumes nothing.
 use mathlib.Core.Path.{_≡_, _∙_, sym}
 use mathlib.Core.Bool.{false, _||_}
@@ -41,14 +41,20 @@ returns-3 c =
     let q = sooner ((c .before .before .before .before .before .before .before .before .args) .here .step .0 - 1) ((c .before .before .before .before .before .before .before .before .args) .here .since .0) ((c .before .before .if2) .left) in
     fresh-at _ _ _ _ (q .0) (omega (arith, (c .before .before .before .before .before .before .before .before .pre) .3)) (q .1) (sym ((c .before .is-open) .ensures) ∙ (c .if3) .taken) ((c .before .before .before .before .before .before .is-dear) .ensures ((c .before .before .before .before .before .if1) .left))
 
-sub-t10-2 : tie.Need-sub-t10-2
-sub-t10-2 c = omega (arith, sooner ((c .before .before .before .before .before .before .before .before .args) .here .step .0 - 1) ((c .before .before .before .before .before .before .before .before .args) .here .since .0) ((c .before .before .if2) .left))
-
-fresh-before-requires : tie.Need-fresh-before-requires
-fresh-before-requires c κs = ((c .before .before .before .before .before .before .before .before .pre) .0, (c .before .before .before .before .before .before .before .before .pre) .1, (c .before .before .before .before .before .before .before .before .pre) .2, omega (arith, (c .before .before .before .before .before .before .before .before .pre) .3), (c .before .before .before .before .before .before .is-dear) .ensures ((c .before .before .before .before .before .if1) .left))
+is-open-requires-2 : tie.Need-is-open-requires-2
+is-open-requires-2 c κs = ((c .before .before .before .before .before .before .before .before .pre) .0, (c .before .before .before .before .before .before .before .before .pre) .1, (c .before .before .before .before .before .before .before .before .pre) .2)
 
 returns-4 : tie.Need-returns-4
-returns-4 c = (c .fresh-before) .ensures
+returns-4 c = fresh-none _ _ _
+
+sub-t10-2 : tie.Need-sub-t10-2
+sub-t10-2 c = omega (arith, sooner ((c .before .before .before .before .before .before .before .before .before .before .args) .here .step .0 - 1) ((c .before .before .before .before .before .before .before .before .before .before .args) .here .since .0) ((c .before .before .before .before .if2) .left))
+
+fresh-before-requires : tie.Need-fresh-before-requires
+fresh-before-requires c κs = ((c .before .before .before .before .before .before .before .before .before .before .pre) .0, (c .before .before .before .before .before .before .before .before .before .before .pre) .1, (c .before .before .before .before .before .before .before .before .before .before .pre) .2, omega (arith, (c .before .before .before .before .before .before .before .before .before .before .pre) .3), (c .before .before .before .before .before .before .before .before .is-dear) .ensures ((c .before .before .before .before .before .before .before .if1) .left))
+
+returns-5 : tie.Need-returns-5
+returns-5 c = (c .fresh-before) .ensures
 
 pub fresh-spec : {M : Type 1} → statement M
 fresh-spec =
@@ -61,6 +67,8 @@ fresh-spec =
     sub-t10
     is-open-requires
     returns-3
+    is-open-requires-2
+    returns-4
     sub-t10-2
     fresh-before-requires
-    returns-4)
+    returns-5)
