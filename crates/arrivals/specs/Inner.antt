@@ -15,6 +15,7 @@ pub mod Due
 pub mod Sweeps
 pub mod Leaders
 pub mod Gather
+pub mod Walking
 pub mod Meaning
 pub mod Ending
 pub mod OfSheet

@@ -18,13 +18,14 @@ use intervals::first_step;
 use sheet::Place;
 use sheet::Step;
 ghost use mathlib.Core.Bool.{true};
-ghost use Prim.Native.Nat.{_+_, _≤_};
+ghost use Prim.Native.Nat.{_+_, _≤_, _<_};
 ghost use lib.ListN.{length};
-ghost use Rattle.arrivals.specs.Inner.Network.{caseOf, Vacant};
+ghost use Rattle.arrivals.specs.Inner.Network.{placesOf, caseOf, Vacant};
 ghost use Rattle.arrivals.specs.Inner.Lent.{Given};
 ghost use Rattle.arrivals.specs.Inner.Filling.{Visiting, Visited, Result};
 ghost use Rattle.arrivals.specs.Inner.Index.{Indexed};
 ghost use Rattle.arrivals.specs.Inner.Due.{Due, IndexedShort, Stepping, Fast};
+ghost use Rattle.arrivals.specs.Inner.Walking.{Walking, Walkable, IdleIs, PassedTo};
 ghost use Rattle.arrivals.specs.Inner.Ending.{Ends};
 
 // Fills in place v at step t: every offer is judged once; where the room runs out on the way, as fill_place does.
@@ -77,7 +78,38 @@ pub fn fill_slow(
     fill_place(table, n, net, runs, here)
 }
 
-// Fills in place v at step t where it is free and not to be passed over.
+// Is place v to be passed over at step t: is it occupied, or does the pruning rule spare every row?
+pub fn is_idle(table: &[u32], ix: &[u32], net: &[u32], runs: &[u16], v: Place, t: Step) -> bool
+    requires { ⌜ (Walkable (now runs) (now net) (now table) (now ix) (t .0)) × (v .0 < placesOf (now net)) ⌝ }
+    ensures { λ r. ⌜ IdleIs (now (runs .entry)) (now (net .entry)) (now (table .entry)) (now (ix .entry)) (v .0) (t .0) r ⌝ }
+{
+    let since = first_step(runs, v, t);
+    if t.0 < since.0 {
+        return true;
+    }
+    if 41943039 < table.len() {
+        return false;
+    }
+    rests(ix, net, v, t, since)
+}
+
+// The first place from v on that is to be filled in at step t, or the number of places where there is none.
+pub fn next_place(table: &[u32], ix: &[u32], net: &[u32], runs: &[u16], v: u32, t: Step) -> u32
+    requires { ⌜ Walkable (now runs) (now net) (now table) (now ix) (t .0) ⌝ }
+    ensures { λ r. ⌜ PassedTo (now (runs .entry)) (now (net .entry)) (now (table .entry)) (now (ix .entry)) v (t .0) r ⌝ }
+{
+    let places = places_of(net);
+    let mut u = v;
+    while u < places {
+        if !is_idle(table, ix, net, runs, Place(u), t) {
+            return u;
+        }
+        u += 1;
+    }
+    u
+}
+
+// Fills in place v at step t, which is free.
 pub fn visit(
     table: &mut [u32],
     n: usize,
@@ -87,18 +119,12 @@ pub fn visit(
     v: Place,
     t: Step,
 ) -> Outcome
-    requires { ⌜ (Visiting (now runs) (now net) (now table) n (v .0) (t .0)) × (IndexedShort (now table) n (now ix) (t .0) (now net)) ⌝ }
+    requires { ⌜ (Walking (now runs) (now net) (now table) (now ix) n (v .0) (t .0)) × (v .0 < placesOf (now net))
+        × (Vacant (caseOf (now runs) (now net)) (v .0) (t .0)) ⌝ }
     ensures { λ r. ⌜ Stepping (now (runs .entry)) (now (net .entry)) (now (table .exit)) (now (ix .exit)) (t .0) (t .0) (v .0 + 1) r ⌝ }
 {
-    let since = first_step(runs, v, t);
-    if t.0 < since.0 {
-        return Outcome { ok: true, rows: n };
-    }
     if 41943039 < table.len() {
         return fill_slow(table, n, net, runs, v, t);
-    }
-    if rests(ix, net, v, t, since) {
-        return Outcome { ok: true, rows: n };
     }
     let r = fill_fast(table, n, ix, net, runs, v, t);
     let ok = r.ok;
@@ -122,14 +148,17 @@ pub fn fill_step(
     requires { ⌜ (Visiting (now runs) (now net) (now table) rows 0 (t .0)) × (IndexedShort (now table) rows (now ix) (t .0) (now net)) ⌝ }
     ensures { λ r. ⌜ Stepping (now (runs .entry)) (now (net .entry)) (now (table .exit)) (now (ix .exit)) (t .0) (t .0 + 1) 0 r ⌝ }
 {
+    let places = places_of(net);
     let mut n = rows;
-    for v in 0..places_of(net) {
+    let mut v = next_place(table, ix, net, runs, 0, t);
+    while v < places {
         let r = visit(table, n, ix, net, runs, Place(v), t);
         let ok = r.ok;
         n = r.rows;
         if !ok {
             return Outcome { ok: false, rows: n };
         }
+        v = next_place(table, ix, net, runs, v + 1, t);
     }
     Outcome { ok: true, rows: n }
 }

@@ -1,34 +1,41 @@
--- `arrivals::fill::fill_step` meets its contract: the places are visited one after another. The loop's invariant: all is filled in before place
--- v at step t.
+-- `arrivals::fill::fill_step` meets its contract: the places that are not passed over are visited one after another. The loop's invariant: all is filled
+-- in before place v at step t, and v is free, or there is no place left.
 -- Assumes nothing.
-use mathlib.Core.Path.{_≡_, refl}
-use Prim.Native.Nat.{_*_, _-_, _≤_}
+use mathlib.Core.Path.{_≡_, refl, _∙_}
+use Prim.Native.Nat.{_-_, _<_}
 use native.Mathlib.Omega.{arith}
 use lib.ListN.{length}
 use borrow.Author.Needs.{needs}
 use borrow.Author.Tests.{not-false, not-true}
 use Rattle.sheet.specs.Laws.Decided.{false-not-true}
-use Rattle.arrivals.specs.Inner.Due.{IndexedShort}
-use Rattle.arrivals.specs.Inner.Filling.{Filled, crowded-step, filled-end, result-done, result-full}
-use Rattle.arrivals.specs.Inner.Network.{caseOf, placesOf}
-use Rattle.arrivals.specs.Inner.Rows.{rowsOf}
+use Rattle.arrivals.specs.Inner.Filling.{crowded-step, filled-end, result-done, result-full}
+use Rattle.arrivals.specs.Inner.Network.{caseOf, placesOf, Vacant}
+use Rattle.arrivals.specs.Inner.Walking.{Walking, walking-first, walking-on, walking-walkable}
 use Rattle.arrivals.proofs.fill.fill_step.Statement.{statement}
 use Rattle.arrivals.proofs.fill.fill_step.Tie as tie
 
 abbrev Inv-loop : tie.InvT-loop
-Inv-loop table₀ rows ix₀ net runs t n₀ v₀ v-end table ix n v = (v ≤ placesOf net) × (n * 5 ≤ length table) × (length table ≡ length table₀) × (length ix ≡ length ix₀) × Filled (caseOf runs net) (rowsOf table n) (t .0) v × IndexedShort table n ix (t .0) net
+Inv-loop table₀ rows ix₀ net runs t places n₀ v₀ table ix n v = (length table ≡ length table₀) × (length ix ≡ length ix₀) × Walking runs net table ix n v (t .0) × (v < placesOf net → Vacant (caseOf runs net) v (t .0))
 
 abbrev μ-loop : tie.MeasureT-loop
-μ-loop table₀ rows ix₀ net runs t n₀ v₀ v-end table ix n v = placesOf net - v
+μ-loop table₀ rows ix₀ net runs t places n₀ v₀ table ix n v = placesOf net - v
 
 places-of-requires : tie.Need-places-of-requires Inv-loop μ-loop
-places-of-requires c κs = c .before .before .before .before .pre .0 .given .size
+places-of-requires c κs = (c .before .before .before .before .pre) .0 .given .size
+
+next-place-requires : tie.Need-next-place-requires Inv-loop μ-loop
+next-place-requires c κs = let p = c .before .before .before .before .before .before .before .pre in walking-walkable (walking-first (p .0) (p .1))
 
 loop-holds : tie.Need-loop-holds Inv-loop μ-loop
-loop-holds c = let p = c .before .before .before .before .before .pre in (omega arith, p .0 .room, refl, refl, p .0 .filled, p .1)
+loop-holds c =
+    let p = c .before .before .before .before .before .before .before .before .pre in
+    let r = (c .next-place) .ensures in
+    (refl, refl, r .passed _ (walking-first (p .0) (p .1)), r .vacant)
 
 visit-requires : tie.Need-visit-requires Inv-loop μ-loop
-visit-requires c κs = let inv = c .before .before .before .loop .inv in let p = c .before .before .before .before .before .before .before .before .before .pre .0 in (record { given = p .given; inside = omega (arith, c .before .before .before .before .places-of .ensures); first = p .first; last = p .last; room = inv .1; filled = inv .4 }, inv .5)
+visit-requires c κs =
+    let inv = (c .before .before .before .loop) .inv in
+    (inv .2, omega (arith, (c .before .before .before .before .before .before .before .places-of) .ensures), inv .3 (omega (arith, (c .before .before .before .before .before .before .before .places-of) .ensures)))
 
 same-length : tie.Need-same-length Inv-loop μ-loop
 same-length c = search needs
@@ -37,25 +44,34 @@ same-length-2 : tie.Need-same-length-2 Inv-loop μ-loop
 same-length-2 c = search needs
 
 returns : tie.Need-returns Inv-loop μ-loop
-returns c = let r = c .before .before .before .before .before .visit .ensures in record { result = result-full _ _ _ _ _ (r .result .room) (crowded-step (r .result .full (not-true _ (c .if1 .taken)))); index = λ e. absurd (false-not-true refl e) }
+returns c =
+    let r = (c .before .before .before .before .before .visit) .ensures in
+    record { result = result-full _ _ _ _ _ (r .result .room) (crowded-step (r .result .full (not-true _ ((c .if1) .taken)))); index = λ e. absurd (false-not-true refl e) }
 
-add-v : tie.Need-add-v Inv-loop μ-loop
-add-v c = search needs
+add-next-place : tie.Need-add-next-place Inv-loop μ-loop
+add-next-place c = omega (arith, (c .before .before .before .before .before .before .before .before .before .before .before .before .before .before .before .places-of) .ensures)
+
+next-place-requires-2 : tie.Need-next-place-requires-2 Inv-loop μ-loop
+next-place-requires-2 c κs = walking-walkable (walking-on ((c .before .before .before .before .before .before .before .before .before .before .before .loop) .inv .2) (omega (arith, (c .before .before .before .before .before .before .before .before .before .before .before .before .before .before .before .places-of) .ensures)) ((c .before .before .before .before .before .before .before .visit) .ensures) (not-false _ ((c .before .before .if1) .left)))
 
 loop-less : tie.Need-loop-less Inv-loop μ-loop
-loop-less c = omega (arith, c .before .before .before .before .before .before .before .before .before .before .places-of .ensures)
+loop-less c = omega (arith, (c .before .before .before .before .before .before .before .before .before .before .before .before .before .before .before .before .places-of) .ensures, (c .next-place2) .ensures .on)
 
 loop-again : tie.Need-loop-again Inv-loop μ-loop
-loop-again c = let r = c .before .before .before .before .before .visit .ensures in let e = not-false _ (c .if1 .left) in (omega (arith, c .before .before .before .before .before .before .before .before .before .before .places-of .ensures), r .result .room, search needs, search needs, r .result .done e, r .index e)
+loop-again c =
+    let r = (c .next-place2) .ensures in
+    (search needs, search needs, r .passed _ (walking-on ((c .before .before .before .before .before .before .before .before .before .before .before .before .loop) .inv .2) (omega (arith, (c .before .before .before .before .before .before .before .before .before .before .before .before .before .before .before .before .places-of) .ensures)) ((c .before .before .before .before .before .before .before .before .visit) .ensures) (not-false _ ((c .before .before .before .if1) .left))), r .vacant)
 
 same-length-3 : tie.Need-same-length-3 Inv-loop μ-loop
-same-length-3 c = c .before .loop .inv .2
+same-length-3 c = (c .before .loop) .inv .0
 
 same-length-4 : tie.Need-same-length-4 Inv-loop μ-loop
-same-length-4 c = c .before .loop .inv .3
+same-length-4 c = (c .before .loop) .inv .1
 
 returns-2 : tie.Need-returns-2 Inv-loop μ-loop
-returns-2 c = let inv = c .before .loop .inv in record { result = result-done _ _ _ _ _ (inv .1) (filled-end _ _ _ _ (inv .0) (omega (arith, c .before .before .places-of .ensures)) (inv .4)); index = λ e. inv .5 }
+returns-2 c =
+    let w = (c .before .loop) .inv .2 in
+    record { result = result-done _ _ _ _ _ (w .room) (filled-end _ _ _ _ (w .upto) (omega (arith, (c .before .before .before .before .before .places-of) .ensures)) (w .filled)); index = λ e. w .index }
 
 pub fill-step-spec : {M : Type 1} → statement M
 fill-step-spec =
@@ -64,12 +80,14 @@ fill-step-spec =
     Inv-loop
     μ-loop
     places-of-requires
+    next-place-requires
     loop-holds
     visit-requires
     same-length
     same-length-2
     returns
-    add-v
+    add-next-place
+    next-place-requires-2
     loop-less
     loop-again
     same-length-3
