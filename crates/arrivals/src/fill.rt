@@ -84,13 +84,15 @@ pub fn is_idle(table: &[u32], ix: &[u32], net: &[u32], runs: &[u16], v: Place, t
     ensures { λ r. ⌜ IdleIs (now (runs .entry)) (now (net .entry)) (now (table .entry)) (now (ix .entry)) (v .0) (t .0) r ⌝ }
 {
     let since = first_step(runs, v, t);
-    if t.0 < since.0 {
-        return true;
-    }
-    if 41943039 < table.len() {
+    if since.0 == t.0 {
         return false;
     }
-    rests(ix, net, v, t, since)
+    if table.len() <= 41943039 {
+        if rests(ix, net, v, t) {
+            return true;
+        }
+    }
+    t.0 < since.0
 }
 
 // The first place from v on that is to be filled in at step t, or the number of places where there is none.

@@ -89,15 +89,11 @@ pub fn note(ix: &mut [u32], span: Span, v: Place, s: Step)
     ix[ENDS + at] = span.hi as u32 * 512 + b.0;
 }
 
-// Is place v to be passed over at step t: the pruning rule covers every corridor into it, no place before it has rows at step t - 1, and its safe
-// interval began before t?
-pub fn rests(ix: &[u32], net: &[u32], v: Place, t: Step, since: Step) -> bool
+// Does the pruning rule cover every corridor into place v at step t, and has no place before it rows at step t - 1?
+pub fn rests(ix: &[u32], net: &[u32], v: Place, t: Step) -> bool
     requires { ⌜ (v .0 < 64) × (indexRoom ≤ length (now ix)) × (Closing (now net)) ⌝ }
-    ensures { λ r. ⌜ Rests (now (ix .entry)) (now (net .entry)) (v .0) (t .0) (since .0) r ⌝ }
+    ensures { λ r. ⌜ Rests (now (ix .entry)) (now (net .entry)) (v .0) (t .0) r ⌝ }
 {
-    if since.0 == t.0 {
-        return false;
-    }
     if ix[DUE + v.0 as usize] < t.0 {
         return is_steady(net, v, t);
     }

@@ -81,9 +81,8 @@ due-more ix iy iz net lo hi t v inside w d a b = record { due = λ j l. go j l (
 pub due-none : (net : List ℕ) (n : ℕ) → Due net (replicate n 0)
 due-none net n = record { due = λ j b. omega (arith, zeros-at n (32768 + linkOf net 0 j), zeros-at n (32832 + linkOf net 1 j)) }
 
--- place v may be passed over at step t
-pub record Rests (ix net : List ℕ) (v t since : ℕ) (r : Bool) : Type 0 where
-  pub began : r ≡ true → since ≡ t → ⊥
+-- place v may be passed over at step t, unless its safe interval begins then
+pub record Rests (ix net : List ℕ) (v t : ℕ) (r : Bool) : Type 0 where
   pub late : r ≡ true → dueOf ix v < t
   pub steady : SteadyIs net v t r
 

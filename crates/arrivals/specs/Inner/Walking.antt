@@ -1,15 +1,18 @@
 -- The places of a step, one after another: those that are occupied, or at which the pruning rule spares every row, are passed over, and nothing is lost.
-use mathlib.Core.Path.{_≡_, refl, _∙_}
+use mathlib.Core.Path.{_≡_, refl, sym, subst}
+use mathlib.Core.Logic.{⊎-elim}
 use mathlib.Core.Bool.{Bool, true, false}
 use mathlib.Core.List.{List}
 use Prim.Native.Nat.{ℕ, _+_, _*_, _≤_, _<_}
 use native.Mathlib.Omega.{arith}
+use lib.Dec.{ltb}
 use lib.ListN.{length}
-use Rattle.sheet.specs.Laws.Decided.{false-not-true}
+use borrow.Author.Tests.{lt-ltb, le-ltb}
+use Rattle.sheet.specs.Laws.Decided.{false-not-true, lt-or-le}
 use Rattle.arrivals.specs.Inner.Rows.{rowsOf}
 use Rattle.arrivals.specs.Inner.Network.{caseOf, sinceIn, Vacant, placesOf}
 use Rattle.arrivals.specs.Inner.Lent.{Given}
-use Rattle.arrivals.specs.Inner.Filling.{Filled, Visiting, filled-skip, not-same}
+use Rattle.arrivals.specs.Inner.Filling.{Filled, Visiting, filled-skip}
 use Rattle.arrivals.specs.Inner.Due.{IndexedShort, Rests, Stepping}
 use Rattle.arrivals.specs.Inner.Gather.{rests-filled}
 use Rattle.arrivals.specs.declared.offers.Outcome.{Outcome}
@@ -66,12 +69,21 @@ module _ {free net xs ix : List ℕ} {v t : ℕ} (inside : v < placesOf net) whe
   pub idle-not : Vacant (caseOf free net) v t → IdleIs free net xs ix v t false
   idle-not f = record { vacant = λ e. f; passed = λ e. absurd (false-not-true refl e) }
 
-  pub idle-rests : {since : ℕ} {r : Bool} → Given free net → length xs ≤ 41943039 → since ≡ sinceIn free v t → since ≤ t → Rests ix net v t since r → IdleIs free net xs ix v t r
-  idle-rests {since} {r} g short e free-then x =
-      record {
-        vacant = λ d. omega (arith, e);
+  pub idle-rests : {since : ℕ} → Given free net → length xs ≤ 41943039 → since ≡ sinceIn free v t → (since ≡ t → ⊥) → Rests ix net v t true → IdleIs free net xs ix v t true
+  idle-rests {since} g short e began x =
+      ⊎-elim
+      (λ before. record {
+        vacant = λ d. absurd (false-not-true d refl);
         passed = λ d n w.
             let y = w .index short in
-            let began = not-same (sinceIn free v t) t (omega (arith, e)) (λ z. x .began d (e ∙ z)) in
-            next w (rests-filled free net xs ix n v t (walking-visiting w inside) (y .0) (y .1) began (x .steady .of free g d) (x .late d) .result .done refl);
-      }
+            next w (rests-filled free net xs ix n v t (walking-visiting w inside) (y .0) (y .1) (omega (arith, e)) (x .steady .of free g refl) (x .late refl) .result .done refl);
+      })
+      (λ after. idle-occupied (λ f. began (omega (arith, e))))
+      (lt-or-le since t)
+
+  pub idle-last : {since : ℕ} → since ≡ sinceIn free v t → IdleIs free net xs ix v t (ltb t since)
+  idle-last {since} e =
+      ⊎-elim
+      (λ after. subst (IdleIs free net xs ix v t) (sym (lt-ltb t since after)) (idle-occupied (λ f. omega (arith, e))))
+      (λ before. subst (IdleIs free net xs ix v t) (sym (le-ltb t since before)) (idle-not (omega (arith, e))))
+      (lt-or-le t since)
