@@ -4,12 +4,11 @@ use crate::network::CHAINS;
 use crate::network::CLOSURES;
 use crate::network::COUNT;
 use crate::network::DEAR;
-use crate::network::DEAR_INTO;
+use crate::network::INTO;
 use crate::network::LINKS;
 use crate::network::PLACES;
 use crate::network::SHUT;
 use crate::network::SHUT_COUNT;
-use crate::network::SHUT_INTO;
 use crate::network::START;
 use crate::network::cell_of;
 use crate::network::closure_number;
@@ -140,10 +139,10 @@ pub fn chain_closures(net: &mut [u32])
 // A closure leads to the place of closure x.
 pub fn note_closure(net: &mut [u32], x: usize)
     requires { ⌜ (x < 256) × (netRoom ≤ length (now net)) × (closureOf (now net) 1 x < 64) ⌝ }
-    ensures { λ _. ⌜ now (net .exit) ≡ set (now (net .entry)) (3716 + closureOf (now (net .entry)) 1 x) 1 ⌝ }
+    ensures { λ _. ⌜ now (net .exit) ≡ set (now (net .entry)) (2116 + closureOf (now (net .entry)) 1 x) 1 ⌝ }
 {
     let v = closure_number(net, x, 1) as usize;
-    net[SHUT_INTO + v] = 1;
+    net[INTO + v] = 1;
 }
 
 // The places that closures lead to.
@@ -166,7 +165,7 @@ pub fn weigh_link(net: &mut [u32], j: usize)
         return;
     }
     net[DEAR + j] = 1;
-    net[DEAR_INTO + to.0 as usize] = 1;
+    net[INTO + to.0 as usize] = 2;
 }
 
 // Where waiting is dearer, for every corridor.

@@ -3,21 +3,21 @@ use costs::cost_from;
 use sheet::Place;
 use sheet::Step;
 ghost use mathlib.Core.Path.{_≡_};
-ghost use mathlib.Core.Bool.{false};
+ghost use mathlib.Core.Bool.{true, false};
 ghost use Prim.Native.Nat.{_+_, _*_, _<_, _≤_};
 ghost use lib.ListN.{length};
 ghost use Rattle.sheet.specs.Lists.{numbersFrom};
 ghost use Rattle.costs.specs.Costs.{figures};
 ghost use Rattle.sheet.specs.Laws.Decided.{Decided};
 ghost use Rattle.arrivals.specs.Inner.Network.{netRoom, waitIn, linkOf, linkAt, openb, openIn, countOf, placesOf, startOf, dearOf};
-ghost use Rattle.arrivals.specs.Inner.Network.{closureOf, closuresOf, shutInto, Closes};
+ghost use Rattle.arrivals.specs.Inner.Network.{closureOf, closuresOf, intoOf, Closes};
 ghost use Rattle.arrivals.specs.Inner.Chains.{byPlace, byCell, cell, lastOf, Chained, NextOne};
 ghost use Rattle.arrivals.specs.Inner.Lent.{Closing};
 ghost use Rattle.arrivals.specs.Inner.Pruning.{SteadyIs, NoneInto};
 
 // The parts of the array: from 0 the costs of waiting; then two chains of corridors; the corridors; their number, that of places, the start and the
-// number of closures; by place and by corridor, whether waiting is dearer where a corridor leads to; the chain of closures, by cell and by closure;
-// by place, whether a closure leads to it; the closures; and its length.
+// number of closures; by place, 1 where a closure leads to it and 2 where waiting is dearer than where a corridor comes from; by corridor, whether it is
+// dearer where that leads to; the chain of closures, by cell and by closure; the closures; and its length.
 pub const CHAINS: usize = 192;
 
 pub const CHAIN: usize = 320;
@@ -32,7 +32,7 @@ pub const START: usize = 2114;
 
 pub const SHUT_COUNT: usize = 2115;
 
-pub const DEAR_INTO: usize = 2116;
+pub const INTO: usize = 2116;
 
 pub const DEAR: usize = 2180;
 
@@ -40,11 +40,9 @@ pub const SHUT: usize = 2436;
 
 pub const SHUT_NEXT: usize = 3460;
 
-pub const SHUT_INTO: usize = 3716;
+pub const CLOSURES: usize = 3716;
 
-pub const CLOSURES: usize = 3780;
-
-pub const NETWORK: usize = 4548;
+pub const NETWORK: usize = 4484;
 
 // Where rows are sought and added: a place and a step, the first step of the safe interval of the place that holds the step, and the cost of
 // waiting there.
@@ -157,12 +155,12 @@ pub fn next_shut(net: &[u32], x: usize, cell: usize) -> usize
     x
 }
 
-// Does a closure lead to place v?
-pub fn is_shut(net: &[u32], v: Place) -> bool
+// Does no closure lead to place v, and is waiting there nowhere dearer than where a corridor comes from?
+pub fn is_plain(net: &[u32], v: Place) -> bool
     requires { ⌜ (v .0 < 64) × (netRoom ≤ length (now net)) ⌝ }
-    ensures { λ r. ⌜ (r ≡ false → shutInto (now (net .entry)) (v .0) ≡ 0) ⌝ }
+    ensures { λ r. ⌜ (r ≡ true → intoOf (now (net .entry)) (v .0) ≡ 0) ⌝ }
 {
-    net[SHUT_INTO + v.0 as usize] != 0
+    net[INTO + v.0 as usize] == 0
 }
 
 // Is closure x of the corridor from u to v at step s?
@@ -199,7 +197,7 @@ pub fn is_open(net: &[u32], j: usize, s: Step) -> bool
     ensures { λ r. ⌜ r ≡ openb (linkAt (now (net .entry)) j) (s .0) ⌝ }
 {
     let v = link_end(net, j, 1);
-    if !is_shut(net, v) {
+    if is_plain(net, v) {
         return true;
     }
     let last = last_shut(net, cell_of(v, s));
@@ -241,11 +239,11 @@ pub fn is_steady(net: &[u32], v: Place, t: Step) -> bool
     requires { ⌜ (v .0 < 64) × (Closing (now net)) ⌝ }
     ensures { λ r. ⌜ SteadyIs (now (net .entry)) (v .0) (t .0) r ⌝ }
 {
-    if net[DEAR_INTO + v.0 as usize] != 0 {
-        return false;
-    }
-    if !is_shut(net, v) {
+    if is_plain(net, v) {
         return true;
+    }
+    if net[INTO + v.0 as usize] == 2 {
+        return false;
     }
     if t.0 < 2 {
         return false;

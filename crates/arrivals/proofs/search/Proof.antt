@@ -14,7 +14,7 @@ slice-aggregate-lay : tie.Need-slice-aggregate-lay
 slice-aggregate-lay c = search needs
 
 lay-requires : tie.Need-lay-requires
-lay-requires c κs = (record { some-store = some-derived (c .before .before .before .before .before .pre); size = omega arith }, record { zero = λ i. zeros-at 4548 i })
+lay-requires c κs = (record { some-store = some-derived (c .before .before .before .before .before .pre); size = omega arith }, record { zero = λ i. zeros-at 4484 i })
 
 slice-aggregate-fill : tie.Need-slice-aggregate-fill
 slice-aggregate-fill c = search needs

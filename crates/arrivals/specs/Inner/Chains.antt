@@ -29,7 +29,7 @@ cell v s = v * 16 + s % 16
 
 -- the closures by the cell of the place that they lead to and their step
 abbrev pub byCell : Chain
-byCell = record { first = 2436; keys = 1024; at = λ x. 3780 + x * 3 + 1; by = λ x. 3780 + x * 3 + 2; of = cell }
+byCell = record { first = 2436; keys = 1024; at = λ x. 3716 + x * 3 + 1; by = λ x. 3716 + x * 3 + 2; of = cell }
 
 abbrev pub lastOf : Chain → List ℕ → ℕ → ℕ
 lastOf k net v = getD net (k .first + v) 0

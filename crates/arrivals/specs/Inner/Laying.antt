@@ -14,7 +14,7 @@ use Rattle.sheet.specs.Laws.Decided.{lt-or-le, from-same}
 use Rattle.costs.specs.Costs.{Cost, figures, AtMost}
 use Rattle.costs.specs.Moves.{waitOf}
 use Rattle.costs.specs.Computed.{waitAt}
-use Rattle.arrivals.specs.Inner.Network.{Cheap, waitIn, linkOf, linkAt, countOf, placesOf, startOf, dearInto, dearOf, closureOf, closuresOf, shutInto, wait-kept}
+use Rattle.arrivals.specs.Inner.Network.{Cheap, waitIn, linkOf, linkAt, countOf, placesOf, startOf, intoOf, dearOf, closureOf, closuresOf, wait-kept}
 use Rattle.arrivals.specs.Rows.{Besides, FiguresPut}
 use Rattle.arrivals.specs.Laws.Rows.{besides-then, besides-wide}
 use Rattle.arrivals.specs.Inner.Chains.{Chain, byPlace, byCell, Chained, keyOf, pastOf, Outside, chained-kept, chainedWith, chained-more, chained-besides}
@@ -23,7 +23,7 @@ use Rattle.arrivals.specs.Inner.Lent.{Linked}
 -- a valid sheet stands in the array, and the list that the network is laid into is long enough
 pub record Layable (lines all net : List ℕ) : Type 0 where
   pub some-store : SomeStore lines all
-  pub size : 4548 ≤ length net
+  pub size : 4484 ≤ length net
 
 -- the list is zeros
 pub record Empty (net : List ℕ) : Type 0 where
@@ -62,12 +62,12 @@ pub record LinksLaid (corridors a b : List ℕ) : Type 0 where
 
 -- the numbers of the closures
 pub record ClosuresLaid (closures a b : List ℕ) : Type 0 where
-  pub numbers : (i : ℕ) → i < length closures → getD b (3780 + i) 0 ≡ getD closures i 0
-  pub others : Besides 3780 4548 a b
+  pub numbers : (i : ℕ) → i < length closures → getD b (3716 + i) 0 ≡ getD closures i 0
+  pub others : Besides 3716 4484 a b
 
 -- a network whose closures have cells
 pub record Celled (net : List ℕ) : Type 0 where
-  pub size : 4548 ≤ length net
+  pub size : 4484 ≤ length net
   pub few : closuresOf net ≤ 256
   pub places : (x : ℕ) → x < closuresOf net → closureOf net 1 x < 64
 
@@ -86,11 +86,11 @@ chained-step k a b v m apart is few size inside w e =
     subst (ChainedMore k m a) (sym e)
     (record { chained = chained-more k a v m is few size inside apart w; others = chained-besides k a v m is few size inside apart w })
 
-pub link-chained : (q : ℕ) (a b : List ℕ) (v m : ℕ) → q < 2 → v ≡ linkOf a q m → m < 256 → 4548 ≤ length a → v < 64 → Chained (byPlace q) a m
+pub link-chained : (q : ℕ) (a b : List ℕ) (v m : ℕ) → q < 2 → v ≡ linkOf a q m → m < 256 → 4484 ≤ length a → v < 64 → Chained (byPlace q) a m
     → b ≡ chainedWith (192 + q * 320) 64 a v m → ChainedMore (byPlace q) m a b
 link-chained q a b v m two is few size inside w e = chained-step (byPlace q) a b v m (λ j l. (inr (omega arith), inr (omega arith))) is few (omega arith) inside w e
 
-pub closure-chained : (a b : List ℕ) (v m : ℕ) → v ≡ keyOf byCell a m → m < 256 → 4548 ≤ length a → v < 1024 → Chained byCell a m
+pub closure-chained : (a b : List ℕ) (v m : ℕ) → v ≡ keyOf byCell a m → m < 256 → 4484 ≤ length a → v < 1024 → Chained byCell a m
     → b ≡ chainedWith 2436 1024 a v m → ChainedMore byCell m a b
 closure-chained a b v m is few size inside w e = chained-step byCell a b v m (λ j l. (inr (omega arith), inr (omega arith))) is few (omega arith) inside w e
 
@@ -101,64 +101,72 @@ pub record ChainLaid (k : Chain) (m : ℕ) (a b : List ℕ) : Type 0 where
 
 -- the places that the closures below m lead to
 pub record NotedTo (net : List ℕ) (m : ℕ) : Type 0 where
-  pub noted : (x : ℕ) → x < m → shutInto net (closureOf net 1 x) ≡ 0 → ⊥
+  pub noted : (x : ℕ) → x < m → intoOf net (closureOf net 1 x) ≡ 0 → ⊥
 
 pub record NotedLaid (m : ℕ) (a b : List ℕ) : Type 0 where
   pub noted : NotedTo b m
-  pub others : Besides 3716 3780 a b
+  pub others : Besides 2116 2180 a b
 
-pub note-besides : (a : List ℕ) (v : ℕ) → v < 64 → Besides 3716 3780 a (set a (3716 + v) 1)
-note-besides a v l = record { size = length-set a (3716 + v) 1; same = λ i o. getD-set-other a (3716 + v) i 1 0 (λ e. ⊎-elim (λ h. omega arith) (λ h. omega arith) o) }
+pub note-besides : (a : List ℕ) (v : ℕ) → v < 64 → Besides 2116 2180 a (set a (2116 + v) 1)
+note-besides a v l = record { size = length-set a (2116 + v) 1; same = λ i o. getD-set-other a (2116 + v) i 1 0 (λ e. ⊎-elim (λ h. omega arith) (λ h. omega arith) o) }
 
-pub noted-kept : {lo hi : ℕ} {a b : List ℕ} {m : ℕ} → (hi ≤ 3716) ⊎ (4548 ≤ lo) → m ≤ 256 → ((x : ℕ) → x < m → closureOf a 1 x < 64) → Besides lo hi a b → NotedTo a m → NotedTo b m
-noted-kept {lo} {hi} {a} {b} apart few inside o t =
+-- the number of a place stays, or becomes 2
+pub record Lifted (a b : List ℕ) : Type 0 where
+  pub each : (v : ℕ) → v < 64 → (intoOf b v ≡ intoOf a v) ⊎ (intoOf b v ≡ 2)
+
+-- then what was noted stays so
+pub noted-lifted : {a b : List ℕ} {m : ℕ} → m ≤ 256 → ((x : ℕ) → x < m → closureOf a 1 x < 64) → Besides 2116 2436 a b
+    → Lifted a b → NotedTo a m → NotedTo b m
+noted-lifted {a} {b} few inside o lifted t =
     record {
       noted = λ x l z.
-          let e = o .same (3780 + x * 3 + 1) (out (3780 + x * 3 + 1) (omega arith) (omega arith)) in
-          t .noted x l (sym (o .same (3716 + closureOf a 1 x) (out (3716 + closureOf a 1 x) (omega arith) (omega (arith, inside x l)))) ∙ subst (λ (v : ℕ). shutInto b v ≡ 0) e z);
+          let y = subst (λ (v : ℕ). intoOf b v ≡ 0) (o .same (3716 + x * 3 + 1) (inr (omega arith))) z in
+          ⊎-elim (λ s. t .noted x l (sym s ∙ y)) (λ s. omega (arith, s, y)) (lifted .each (closureOf a 1 x) (inside x l));
     }
-  where
-    out : (i : ℕ) → 3716 ≤ i → i < 4548 → (i < lo) ⊎ (hi ≤ i)
-    out i x y = ⊎-elim (λ h. inr (omega arith)) (λ h. inl (omega arith)) apart
 
-pub noted-more : (a : List ℕ) (x : ℕ) → x < 256 → 4548 ≤ length a → ((y : ℕ) → y ≤ x → closureOf a 1 y < 64) → NotedTo a x → NotedTo (set a (3716 + closureOf a 1 x) 1) (x + 1)
+pub noted-more : (a : List ℕ) (x : ℕ) → x < 256 → 4484 ≤ length a → ((y : ℕ) → y ≤ x → closureOf a 1 y < 64) → NotedTo a x → NotedTo (set a (2116 + closureOf a 1 x) 1) (x + 1)
 noted-more a x few size inside t =
     record {
       noted = λ y l z. ⊎-elim
           (λ lt. old y lt (ℕ-discrete (closureOf a 1 y) (closureOf a 1 x)) (moved y z))
-          (λ ge. let e : y ≡ x = omega arith in omega (arith, own, subst (λ (i : ℕ). shutInto b (closureOf a 1 i) ≡ 0) e (moved y z)))
+          (λ ge. let e : y ≡ x = omega arith in omega (arith, own, subst (λ (i : ℕ). intoOf b (closureOf a 1 i) ≡ 0) e (moved y z)))
           (lt-or-le y x);
     }
   where
     b : List ℕ
-    b = set a (3716 + closureOf a 1 x) 1
+    b = set a (2116 + closureOf a 1 x) 1
 
-    others : Besides 3716 3780 a b
+    others : Besides 2116 2180 a b
     others = note-besides a (closureOf a 1 x) (inside x (omega arith))
 
-    own : shutInto b (closureOf a 1 x) ≡ 1
-    own = getD-set-same a (3716 + closureOf a 1 x) 1 0 (omega (arith, inside x (omega arith)))
+    own : intoOf b (closureOf a 1 x) ≡ 1
+    own = getD-set-same a (2116 + closureOf a 1 x) 1 0 (omega (arith, inside x (omega arith)))
 
-    moved : (y : ℕ) → shutInto b (closureOf b 1 y) ≡ 0 → shutInto b (closureOf a 1 y) ≡ 0
-    moved y z = subst (λ (v : ℕ). shutInto b v ≡ 0) (others .same (3780 + y * 3 + 1) (inr (omega arith))) z
+    moved : (y : ℕ) → intoOf b (closureOf b 1 y) ≡ 0 → intoOf b (closureOf a 1 y) ≡ 0
+    moved y z = subst (λ (v : ℕ). intoOf b v ≡ 0) (others .same (3716 + y * 3 + 1) (inr (omega arith))) z
 
-    old : (y : ℕ) → y < x → Dec (closureOf a 1 y ≡ closureOf a 1 x) → shutInto b (closureOf a 1 y) ≡ 0 → ⊥
-    old y l (yes e) z = omega (arith, own, subst (λ (v : ℕ). shutInto b v ≡ 0) e z)
-    old y l (no n) z = t .noted y l (sym (getD-set-other a (3716 + closureOf a 1 x) (3716 + closureOf a 1 y) 1 0 (λ e. n (omega arith))) ∙ z)
+    old : (y : ℕ) → y < x → Dec (closureOf a 1 y ≡ closureOf a 1 x) → intoOf b (closureOf a 1 y) ≡ 0 → ⊥
+    old y l (yes e) z = omega (arith, own, subst (λ (v : ℕ). intoOf b v ≡ 0) e z)
+    old y l (no n) z = t .noted y l (sym (getD-set-other a (2116 + closureOf a 1 x) (2116 + closureOf a 1 y) 1 0 (λ e. n (omega arith))) ∙ z)
 
 -- where waiting is dearer, for the corridors below m
 pub record WeighedTo (net : List ℕ) (m : ℕ) : Type 0 where
   pub cheap : (j : ℕ) → j < m → dearOf net j ≡ 0 → Cheap (waitIn net) (linkAt net j)
-  pub steady : (j : ℕ) → j < m → dearInto net (linkOf net 1 j) ≡ 0 → Cheap (waitIn net) (linkAt net j)
+  pub steady : (j : ℕ) → j < m → (intoOf net (linkOf net 1 j) ≡ 2 → ⊥) → Cheap (waitIn net) (linkAt net j)
 
 -- one corridor more is weighed
 pub record WeighedMore (j : ℕ) (a b : List ℕ) : Type 0 where
   pub weighed : WeighedTo b (j + 1)
   pub others : Besides 2116 2436 a b
+  pub lifted : Lifted a b
 
 pub record Weighed (m : ℕ) (a b : List ℕ) : Type 0 where
   pub weighed : WeighedTo b m
   pub others : Besides 2116 2436 a b
+  pub lifted : Lifted a b
+
+pub lifted-then : {a b c : List ℕ} → Lifted a b → Lifted b c → Lifted a c
+lifted-then f g = record { each = λ v l. ⊎-elim (λ e. ⊎-elim (λ d. inl (e ∙ d)) (λ d. inr (e ∙ d)) (f .each v l)) (λ e. inr e) (g .each v l) }
 
 cheap-kept : (a b : List ℕ) (j : ℕ) → linkOf a 0 j < 64 → linkOf a 1 j < 64 → j < 256 → Besides 2116 2436 a b → Cheap (waitIn a) (linkAt a j) → Cheap (waitIn b) (linkAt b j)
 cheap-kept a b j from to few o c =
@@ -182,30 +190,30 @@ dear-besides a j p x y few to =
       same = λ i o. getD-set-other (set a (2180 + j) x) (2116 + p) i y 0 (λ e. ⊎-elim (λ l. omega arith) (λ l. omega arith) o) ∙ getD-set-other a (2180 + j) i x 0 (λ e. ⊎-elim (λ l. omega arith) (λ l. omega arith) o);
     }
 
-pub weighed-dear : (a : List ℕ) (j : ℕ) → 4548 ≤ length a → j < 256 → ((q i : ℕ) → q < 2 → i ≤ j → linkOf a q i < 64) → WeighedTo a j → WeighedTo (set (set a (2180 + j) 1) (2116 + linkOf a 1 j) 1) (j + 1)
+pub weighed-dear : (a : List ℕ) (j : ℕ) → 4484 ≤ length a → j < 256 → ((q i : ℕ) → q < 2 → i ≤ j → linkOf a q i < 64) → WeighedTo a j → WeighedTo (set (set a (2180 + j) 1) (2116 + linkOf a 1 j) 2) (j + 1)
 weighed-dear a j size few ends w =
     record {
       cheap = λ i l z. ⊎-elim (λ lt. keep i lt (w .cheap i lt (sym (old (2180 + i) (λ e. omega arith) (λ e. omega (arith, to))) ∙ z))) (λ ge. absurd (let e : i ≡ j = omega arith in omega (arith, own, subst (λ (n : ℕ). dearOf b n ≡ 0) e z))) (lt-or-le i j);
-      steady = λ i l z. ⊎-elim (λ lt. keep i lt (into i lt (ℕ-discrete (linkOf a 1 i) (linkOf a 1 j)) (subst (λ (n : ℕ). dearInto b n ≡ 0) (link i (omega arith)) z))) (λ ge. absurd (let e : i ≡ j = omega arith in omega (arith, place, subst (λ (n : ℕ). dearInto b n ≡ 0) (link i (omega arith) ∙ ap (linkOf a 1) e) z))) (lt-or-le i j);
+      steady = λ i l z. ⊎-elim (λ lt. keep i lt (into i lt (ℕ-discrete (linkOf a 1 i) (linkOf a 1 j)) (subst (λ (n : ℕ). intoOf b n ≡ 2 → ⊥) (link i (omega arith)) z))) (λ ge. absurd (let e : i ≡ j = omega arith in subst (λ (n : ℕ). intoOf b n ≡ 2 → ⊥) (link i (omega arith) ∙ ap (linkOf a 1) e) z place)) (lt-or-le i j);
     }
   where
     to : linkOf a 1 j < 64
     to = ends 1 j (omega arith) (omega arith)
 
     b : List ℕ
-    b = set (set a (2180 + j) 1) (2116 + linkOf a 1 j) 1
+    b = set (set a (2180 + j) 1) (2116 + linkOf a 1 j) 2
 
     others : Besides 2116 2436 a b
-    others = dear-besides a j (linkOf a 1 j) 1 1 few to
+    others = dear-besides a j (linkOf a 1 j) 1 2 few to
 
     old : (i : ℕ) → (i ≡ 2180 + j → ⊥) → (i ≡ 2116 + linkOf a 1 j → ⊥) → getD b i 0 ≡ getD a i 0
-    old i n m = getD-set-other (set a (2180 + j) 1) (2116 + linkOf a 1 j) i 1 0 m ∙ getD-set-other a (2180 + j) i 1 0 n
+    old i n m = getD-set-other (set a (2180 + j) 1) (2116 + linkOf a 1 j) i 2 0 m ∙ getD-set-other a (2180 + j) i 1 0 n
 
     own : dearOf b j ≡ 1
-    own = getD-set-other (set a (2180 + j) 1) (2116 + linkOf a 1 j) (2180 + j) 1 0 (λ e. omega (arith, to)) ∙ getD-set-same a (2180 + j) 1 0 (omega arith)
+    own = getD-set-other (set a (2180 + j) 1) (2116 + linkOf a 1 j) (2180 + j) 2 0 (λ e. omega (arith, to)) ∙ getD-set-same a (2180 + j) 1 0 (omega arith)
 
-    place : dearInto b (linkOf a 1 j) ≡ 1
-    place = getD-set-same (set a (2180 + j) 1) (2116 + linkOf a 1 j) 1 0 (simp length-set (omega (arith, to)))
+    place : intoOf b (linkOf a 1 j) ≡ 2
+    place = getD-set-same (set a (2180 + j) 1) (2116 + linkOf a 1 j) 2 0 (simp length-set (omega (arith, to)))
 
     link : (i : ℕ) → i < 256 → linkOf b 1 i ≡ linkOf a 1 i
     link i l = others .same (832 + i * 5 + 1) (inl (omega arith))
@@ -213,16 +221,24 @@ weighed-dear a j size few ends w =
     keep : (i : ℕ) → i < j → Cheap (waitIn a) (linkAt a i) → Cheap (waitIn b) (linkAt b i)
     keep i l c = cheap-kept a b i (ends 0 i (omega arith) (omega arith)) (ends 1 i (omega arith) (omega arith)) (omega arith) others c
 
-    into : (i : ℕ) → i < j → Dec (linkOf a 1 i ≡ linkOf a 1 j) → dearInto b (linkOf a 1 i) ≡ 0 → Cheap (waitIn a) (linkAt a i)
-    into i l (yes e) z = absurd (omega (arith, place, subst (λ (n : ℕ). dearInto b n ≡ 0) e z))
-    into i l (no n) z = w .steady i l (sym (old (2116 + linkOf a 1 i) (λ e. omega (arith, ends 1 i (omega arith) (omega arith))) (λ e. n (omega arith))) ∙ z)
+    into : (i : ℕ) → i < j → Dec (linkOf a 1 i ≡ linkOf a 1 j) → (intoOf b (linkOf a 1 i) ≡ 2 → ⊥) → Cheap (waitIn a) (linkAt a i)
+    into i l (yes e) z = absurd (subst (λ (n : ℕ). intoOf b n ≡ 2 → ⊥) e z place)
+    into i l (no n) z = w .steady i l (λ d. z (old (2116 + linkOf a 1 i) (λ e. omega (arith, ends 1 i (omega arith) (omega arith))) (λ e. n (omega arith)) ∙ d))
 
-pub weighed-at : (net : List ℕ) (j to : ℕ) → to ≡ linkOf net 1 j → Linked net → j < countOf net → WeighedTo net j → WeighedMore j net (set (set net (2180 + j) 1) (2116 + to) 1)
+dear-lifted : (a : List ℕ) (j p v : ℕ) → 4484 ≤ length a → p < 64 → v < 64 → Dec (v ≡ p)
+    → (intoOf (set (set a (2180 + j) 1) (2116 + p) 2) v ≡ intoOf a v) ⊎ (intoOf (set (set a (2180 + j) 1) (2116 + p) 2) v ≡ 2)
+dear-lifted a j p v size low in-v (yes e) =
+    inr (subst (λ (u : ℕ). intoOf (set (set a (2180 + j) 1) (2116 + p) 2) u ≡ 2) (sym e) (getD-set-same (set a (2180 + j) 1) (2116 + p) 2 0 (simp length-set (omega arith))))
+dear-lifted a j p v size low in-v (no n) =
+    inl (getD-set-other (set a (2180 + j) 1) (2116 + p) (2116 + v) 2 0 (λ e. n (omega arith)) ∙ getD-set-other a (2180 + j) (2116 + v) 1 0 (λ e. omega arith))
+
+pub weighed-at : (net : List ℕ) (j to : ℕ) → to ≡ linkOf net 1 j → Linked net → j < countOf net → WeighedTo net j → WeighedMore j net (set (set net (2180 + j) 1) (2116 + to) 2)
 weighed-at net j to e links l w =
-    subst (λ (x : ℕ). WeighedMore j net (set (set net (2180 + j) 1) (2116 + x) 1)) (sym e)
+    subst (λ (x : ℕ). WeighedMore j net (set (set net (2180 + j) 1) (2116 + x) 2)) (sym e)
     (record {
       weighed = weighed-dear net j (links .size) (omega (arith, links .few)) (λ q i x y. links .ends q i x (omega arith)) w;
-      others = dear-besides net j (linkOf net 1 j) 1 1 (omega (arith, links .few)) (links .ends 1 j (omega arith) l);
+      others = dear-besides net j (linkOf net 1 j) 1 2 (omega (arith, links .few)) (links .ends 1 j (omega arith) l);
+      lifted = record { each = λ v low. dear-lifted net j (linkOf net 1 j) v (links .size) (links .ends 1 j (omega arith) l) low (ℕ-discrete v (linkOf net 1 j)) };
     })
 
 pub cheap-of : (net : List ℕ) (j to from : ℕ) (a b : Cost) → to ≡ linkOf net 1 j → from ≡ linkOf net 0 j → a ≡ waitIn net to → b ≡ waitIn net from → AtMost a b → Cheap (waitIn net) (linkAt net j)
@@ -236,7 +252,7 @@ pub record Counted (m p s x : ℕ) (a b : List ℕ) : Type 0 where
   pub closures : closuresOf b ≡ x
   pub others : Besides 2112 2116 a b
 
-pub counted : (m p s x : ℕ) (a : List ℕ) → 4548 ≤ length a → Counted m p s x a (set (set (set (set a 2112 m) 2113 p) 2114 s) 2115 x)
+pub counted : (m p s x : ℕ) (a : List ℕ) → 4484 ≤ length a → Counted m p s x a (set (set (set (set a 2112 m) 2113 p) 2114 s) 2115 x)
 counted m p s x a size =
     record {
       count = getD-set-other c 2115 2112 x 0 (λ e. omega arith) ∙ getD-set-other b 2114 2112 s 0 (λ e. omega arith)
@@ -274,12 +290,12 @@ linked-kept {lo} {hi} {a} {b} apart o l =
     count : countOf b ≡ countOf a
     count = o .same 2112 (out 2112 (omega arith) (omega arith))
 
-pub celled-kept : {lo hi : ℕ} {a b : List ℕ} → (hi ≤ 2115) ⊎ (2116 ≤ lo) → hi ≤ 3780 → Besides lo hi a b → Celled a → Celled b
+pub celled-kept : {lo hi : ℕ} {a b : List ℕ} → (hi ≤ 2115) ⊎ (2116 ≤ lo) → hi ≤ 3716 → Besides lo hi a b → Celled a → Celled b
 celled-kept {lo} {hi} {a} {b} apart below o t =
     record {
       size = omega (arith, o .size, t .size);
       few = omega (arith, count, t .few);
-      places = λ x l. omega (arith, o .same (3780 + x * 3 + 1) (inr (omega arith)), t .places x (omega (arith, count)));
+      places = λ x l. omega (arith, o .same (3716 + x * 3 + 1) (inr (omega arith)), t .places x (omega (arith, count)));
     }
   where
     count : closuresOf b ≡ closuresOf a
@@ -287,7 +303,7 @@ celled-kept {lo} {hi} {a} {b} apart below o t =
 
 -- the network of the sheet s, whose corridors and closures have these numbers
 pub record Laid (s : Sheet) (corridors shuts net : List ℕ) : Type 0 where
-  pub size : 4548 ≤ length net
+  pub size : 4484 ≤ length net
   pub waits : WaitsTo s net (places s)
   pub numbers : (i : ℕ) → i < length corridors → getD net (832 + i) 0 ≡ getD corridors i 0
   pub count : countOf net * 5 ≡ length corridors
@@ -296,7 +312,7 @@ pub record Laid (s : Sheet) (corridors shuts net : List ℕ) : Type 0 where
   pub out : Chained (byPlace 0) net (countOf net)
   pub into : Chained (byPlace 1) net (countOf net)
   pub weighed : WeighedTo net (countOf net)
-  pub closures : (i : ℕ) → i < length shuts → getD net (3780 + i) 0 ≡ getD shuts i 0
+  pub closures : (i : ℕ) → i < length shuts → getD net (3716 + i) 0 ≡ getD shuts i 0
   pub closed : closuresOf net * 3 ≡ length shuts
   pub cells : Chained byCell net (closuresOf net)
   pub noted : NotedTo net (closuresOf net)
@@ -315,17 +331,17 @@ pub record Closures (closures : List ℕ) (m : ℕ) : Type 0 where
   pub places : (x : ℕ) → x < m → getD closures (x * 3 + 1) 0 < 64
 
 module _ (s : Sheet) (corridors closures : List ℕ) (m c : ℕ) (n0 n1 n2 n3 n4 : List ℕ)
-    (able : Corridors s corridors m) (shut : Closures closures c) (size : 4548 ≤ length n0) (blank : Empty n0)
+    (able : Corridors s corridors m) (shut : Closures closures c) (size : 4484 ≤ length n0) (blank : Empty n0)
     (waits : WaitsLaid s n0 n1) (links : LinksLaid corridors n1 n2) (laid : ClosuresLaid closures n2 n3) (counts : Counted m (places s) (start s) c n3 n4) where
-  long : 4548 ≤ length n4
+  long : 4484 ≤ length n4
   long = omega (arith, size, waits .others .size, links .others .size, laid .others .size, counts .others .size)
 
   -- what closures and counts leave as it was
   early : (i : ℕ) → i < 2112 → getD n4 i 0 ≡ getD n2 i 0
   early i l = counts .others .same i (inl l) ∙ laid .others .same i (inl (omega arith))
 
-  number-at : (i : ℕ) → i < length closures → getD n4 (3780 + i) 0 ≡ getD closures i 0
-  number-at i l = counts .others .same (3780 + i) (inr (omega arith)) ∙ laid .numbers i l
+  number-at : (i : ℕ) → i < length closures → getD n4 (3716 + i) 0 ≡ getD closures i 0
+  number-at i l = counts .others .same (3716 + i) (inr (omega arith)) ∙ laid .numbers i l
 
   pub laid-linked : Linked n4
   laid-linked =
@@ -345,7 +361,7 @@ module _ (s : Sheet) (corridors closures : List ℕ) (m c : ℕ) (n0 n1 n2 n3 n4
         size = long;
         few = omega (arith, counts .closures, shut .few);
         places = λ x l.
-            let e : 3780 + x * 3 + 1 ≡ 3780 + (x * 3 + 1) = omega arith in
+            let e : 3716 + x * 3 + 1 ≡ 3716 + (x * 3 + 1) = omega arith in
             let o = number-at (x * 3 + 1) (omega (arith, counts .closures, shut .whole)) in
             omega (arith, ap (λ (i : ℕ). getD n4 i 0) e, o, shut .places x (omega (arith, counts .closures)));
       }
@@ -381,14 +397,14 @@ module _ (s : Sheet) (corridors closures : List ℕ) (m c : ℕ) (n0 n1 n2 n3 n4
             (chained-kept (byPlace 1) (countOf n5) few5 (inr (omega arith)) (λ j b. (inl (omega arith), inl (omega arith))) (by .others) (into .chained))));
         weighed = subst (WeighedTo n9) (sym (weighed .others .same 2112 (inl (omega arith)))) (weighed .weighed);
         closures = λ i l.
-            weighed .others .same (3780 + i) (inr (omega arith)) ∙ notes .others .same (3780 + i) (inr (omega arith)) ∙ by .others .same (3780 + i) (inr (omega arith))
-            ∙ into .others .same (3780 + i) (inr (omega arith)) ∙ out .others .same (3780 + i) (inr (omega arith)) ∙ number-at i l;
+            weighed .others .same (3716 + i) (inr (omega arith)) ∙ notes .others .same (3716 + i) (inr (omega arith)) ∙ by .others .same (3716 + i) (inr (omega arith))
+            ∙ into .others .same (3716 + i) (inr (omega arith)) ∙ out .others .same (3716 + i) (inr (omega arith)) ∙ number-at i l;
         closed = omega (arith, last 2115 (omega arith) (omega arith), counts .closures, shut .whole);
         cells = subst (Chained byCell n9) (sym (weighed .others .same 2115 (inl (omega arith)) ∙ notes .others .same 2115 (inl (omega arith)) ∙ by .others .same 2115 (inl (omega arith))))
             (chained-kept byCell (closuresOf n6) few6 (inl (omega arith)) (λ j b. (inr (omega arith), inr (omega arith))) (weighed .others)
-            (chained-kept byCell (closuresOf n6) few6 (inr (omega arith)) (λ j b. (inr (omega arith), inr (omega arith))) (notes .others) (by .chained)));
+            (chained-kept byCell (closuresOf n6) few6 (inl (omega arith)) (λ j b. (inr (omega arith), inr (omega arith))) (notes .others) (by .chained)));
         noted = subst (NotedTo n9) (sym (weighed .others .same 2115 (inl (omega arith)) ∙ notes .others .same 2115 (inl (omega arith))))
-            (noted-kept (inl (omega arith)) few7 (λ x l. omega (arith, notes .others .same (3780 + x * 3 + 1) (inr (omega arith)), celled7 .places x l)) (weighed .others) (notes .noted));
+            (noted-lifted few7 (λ x l. omega (arith, notes .others .same (3716 + x * 3 + 1) (inr (omega arith)), celled7 .places x l)) (weighed .others) (weighed .lifted) (notes .noted));
       }
     where
       five : (i : ℕ) → 832 ≤ i → i < 2116 → getD n9 i 0 ≡ getD n5 i 0
@@ -412,16 +428,16 @@ module _ (s : Sheet) (corridors closures : List ℕ) (m c : ℕ) (n0 n1 n2 n3 n4
       few7 : closuresOf n7 ≤ 256
       few7 = celled7 .few
 
-      rest : Besides 192 4548 n1 n9
+      rest : Besides 192 4484 n1 n9
       rest =
-          besides-then (besides-wide 192 4548 (omega arith) (omega arith) (links .others))
-          (besides-then (besides-wide 192 4548 (omega arith) (omega arith) (laid .others))
-          (besides-then (besides-wide 192 4548 (omega arith) (omega arith) (counts .others))
-          (besides-then (besides-wide 192 4548 (omega arith) (omega arith) (out .others))
-          (besides-then (besides-wide 192 4548 (omega arith) (omega arith) (into .others))
-          (besides-then (besides-wide 192 4548 (omega arith) (omega arith) (by .others))
-          (besides-then (besides-wide 192 4548 (omega arith) (omega arith) (notes .others))
-          (besides-wide 192 4548 (omega arith) (omega arith) (weighed .others))))))))
+          besides-then (besides-wide 192 4484 (omega arith) (omega arith) (links .others))
+          (besides-then (besides-wide 192 4484 (omega arith) (omega arith) (laid .others))
+          (besides-then (besides-wide 192 4484 (omega arith) (omega arith) (counts .others))
+          (besides-then (besides-wide 192 4484 (omega arith) (omega arith) (out .others))
+          (besides-then (besides-wide 192 4484 (omega arith) (omega arith) (into .others))
+          (besides-then (besides-wide 192 4484 (omega arith) (omega arith) (by .others))
+          (besides-then (besides-wide 192 4484 (omega arith) (omega arith) (notes .others))
+          (besides-wide 192 4484 (omega arith) (omega arith) (weighed .others))))))))
 
 -- the network of the sheet in the array
 abbrev pub LaidIn : List ℕ → List ℕ → List ℕ → Type 0

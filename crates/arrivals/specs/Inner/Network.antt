@@ -1,7 +1,7 @@
 -- What is searched, as one list of numbers: from 0 the cost of waiting at each place, three figures; from 192 two chains of the corridors (Chains);
 -- from 832 the corridors, five numbers each; at 2112 their number, the number of places, the start and the number of closures; from 2116, by place,
--- and from 2180, by corridor, whether waiting is dearer where a corridor leads to; from 2436 a chain of the closures (Chains); from 3716, by
--- place, whether a closure leads to it; from 3780 the closures, three numbers each. Beside it stands the list of first steps of safe intervals, 256 for each place.
+-- whether closures lead to it and waiting is dearer there; from 2180, by corridor, whether waiting is dearer where it leads to; from 2436 a chain of
+-- the closures (Chains); from 3716 the closures, three numbers each. Beside it stands the list of first steps of safe intervals, 256 for each place.
 use mathlib.Core.Path.{_≡_, refl, ap, subst}
 use mathlib.Core.Bool.{Bool, true, false, _&&_}
 use mathlib.Core.List.{List, [], _∷_}
@@ -21,7 +21,7 @@ use Rattle.arrivals.specs.Rows.{Besides}
 
 -- the length of the list
 abbrev pub netRoom : ℕ
-netRoom = 4548
+netRoom = 4484
 
 -- a corridor, and whether it is open at a step
 pub record Link : Type 0 where
@@ -80,14 +80,10 @@ linkOf net q j = getD net (832 + j * 5 + q) 0
 
 -- number q of closure x: 0 is where its corridor comes from, 1 where that leads to, 2 the step
 abbrev pub closureOf : List ℕ → ℕ → ℕ → ℕ
-closureOf net q x = getD net (3780 + x * 3 + q) 0
+closureOf net q x = getD net (3716 + x * 3 + q) 0
 
 abbrev pub closuresOf : List ℕ → ℕ
 closuresOf net = getD net 2115 0
-
--- 0 where no closure leads to v
-abbrev pub shutInto : List ℕ → ℕ → ℕ
-shutInto net v = getD net (3716 + v) 0
 
 -- closure x is of the corridor from u to v at step t
 pub record Closes (net : List ℕ) (u v t x : ℕ) : Type 0 where
@@ -123,9 +119,9 @@ placesOf net = getD net 2113 0
 abbrev pub startOf : List ℕ → ℕ
 startOf net = getD net 2114 0
 
--- 0 where waiting at v is nowhere dearer than where a corridor into v comes from
-abbrev pub dearInto : List ℕ → ℕ → ℕ
-dearInto net v = getD net (2116 + v) 0
+-- not 0 where a closure leads to v, and 2 where waiting at v is dearer than where a corridor into v comes from
+abbrev pub intoOf : List ℕ → ℕ → ℕ
+intoOf net v = getD net (2116 + v) 0
 
 -- 0 where waiting is nowhere dearer where corridor j leads to than where it comes from
 abbrev pub dearOf : List ℕ → ℕ → ℕ

@@ -91,13 +91,13 @@ module _ {lines all : List ℕ} (S : SomeStore lines all) where
         others = besides-wide 832 2112 (omega arith) (omega (arith, few-lines)) (c .others);
       }
 
-  pub closures-copied : {a b : List ℕ} → Copied 1288 3780 (number lines (kindX .order) * 3) all a b → ClosuresLaid xs a b
+  pub closures-copied : {a b : List ℕ} → Copied 1288 3716 (number lines (kindX .order) * 3) all a b → ClosuresLaid xs a b
   closures-copied c =
       record {
         numbers = λ i l.
             let h : i < number lines (kindX .order) * 3 = omega (arith, whole-closures) in
             c .numbers i h ∙ sym (part-number lines all (kindX .order) i h);
-        others = besides-wide 3780 4548 (omega arith) (omega (arith, few-closures)) (c .others);
+        others = besides-wide 3716 4484 (omega arith) (omega (arith, few-closures)) (c .others);
       }
 
   -- corridor i of the group, as its line
@@ -151,7 +151,7 @@ module _ {lines all : List ℕ} (S : SomeStore lines all) where
 
     closure-number : (x q : ℕ) → x < closuresOf net → q < 3 → closureOf net q x ≡ number (row 3 xs x) q
     closure-number x q l m =
-        let e : 3780 + x * 3 + q ≡ 3780 + (x * 3 + q) = omega arith in
+        let e : 3716 + x * 3 + q ≡ 3716 + (x * 3 + q) = omega arith in
         ap (number net) e ∙ laid .closures (x * 3 + q) (omega (arith, laid .closed)) ∙ sym (row-number 3 xs x q m)
 
     -- the closures of the network are those of the sheet

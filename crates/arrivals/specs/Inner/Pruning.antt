@@ -12,7 +12,7 @@ use Rattle.costs.specs.Costs.{Cost, fig, add, times}
 use Rattle.costs.specs.Priced.{Within}
 use Rattle.costs.specs.Laws.Figures.{fig-add, fig-times}
 use Rattle.arrivals.specs.Rows.{Row}
-use Rattle.arrivals.specs.Inner.Network.{Link, openb, Case, caseOf, since, sinceIn, waitIn, linkOf, linkAt, linksOf, countOf, dearOf, dearInto, Cheap}
+use Rattle.arrivals.specs.Inner.Network.{Link, openb, Case, caseOf, since, sinceIn, waitIn, linkOf, linkAt, linksOf, countOf, dearOf, intoOf, Cheap}
 use Rattle.arrivals.specs.Inner.Network.{links-find, links-any, closureOf, closuresOf, open-of, Lawful, Legal}
 use Rattle.arrivals.specs.Inner.Lent.{Given, link-lawful}
 use Rattle.arrivals.specs.Inner.Filling.{Reaching}
@@ -117,14 +117,14 @@ pub record SteadyIs (net : List ℕ) (v t : ℕ) (r : Bool) : Type 0 where
 pub record NoneInto (net : List ℕ) (v s : ℕ) (r : Bool) : Type 0 where
   pub of : r ≡ true → (x : ℕ) → x < closuresOf net → closureOf net 2 x ≡ s → closureOf net 1 x ≡ v → ⊥
 
-pub steady-of : (net : List ℕ) (v t : ℕ) (r : Bool) → dearInto net v ≡ 0 → NoneInto net v (t - 2) r → SteadyIs net v t r
+pub steady-of : (net : List ℕ) (v t : ℕ) (r : Bool) → (intoOf net v ≡ 2 → ⊥) → NoneInto net v (t - 2) r → SteadyIs net v t r
 steady-of net v t r cheap none =
     record {
       of = λ free given e. record {
         every = λ l m into.
             let q = links-find net (countOf net) m in
             let to : linkOf net 1 (q .at) ≡ v = ap (λ (x : Link). x .to) (q .fits) ∙ into in
-            let z = subst (λ (u : ℕ). dearInto net u ≡ 0) (sym to) cheap in
+            let z = subst (λ (u : ℕ). intoOf net u ≡ 2 → ⊥) (sym to) cheap in
             let o = open-of net (linkOf net 0 (q .at)) (linkOf net 1 (q .at)) (t - 2) (λ x b c. none .of e x b (c .step) (c .to ∙ to)) in
             (subst (Cheap (waitIn net)) (q .fits) (given .steady (q .at) (q .upto) z), subst (λ (x : Link). openb x (t - 2) ≡ true) (q .fits) o);
       };

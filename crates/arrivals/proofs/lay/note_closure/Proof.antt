@@ -27,7 +27,7 @@ same-length : tie.Need-same-length
 same-length c = search needs
 
 returns : tie.Need-returns
-returns c = ap (λ (v : ℕ). set ((c .before .before .before .args) .net .now) (3716 + v) 1) ((c .closure-number) .ensures)
+returns c = ap (λ (v : ℕ). set ((c .before .before .before .args) .net .now) (2116 + v) 1) ((c .closure-number) .ensures)
 
 pub note-closure-spec : {M : Type 1} → statement M
 note-closure-spec = tie.close (tie.spec closure-number-requires cast-v add-net mul-net slice-write-net same-length returns)

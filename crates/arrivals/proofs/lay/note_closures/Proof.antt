@@ -16,9 +16,9 @@ use Rattle.arrivals.proofs.lay.note_closures.Statement.{statement}
 use Rattle.arrivals.proofs.lay.note_closures.Tie as tie
 
 -- one closure more
-module _ {a b : List ℕ} (x : ℕ) (t : Celled a) (l : x < closuresOf a) (e : b ≡ set a (3716 + closureOf a 1 x) 1) where
-  kept : Besides 3716 3780 a b
-  kept = subst (Besides 3716 3780 a) (sym e) (note-besides a (closureOf a 1 x) (t .places x l))
+module _ {a b : List ℕ} (x : ℕ) (t : Celled a) (l : x < closuresOf a) (e : b ≡ set a (2116 + closureOf a 1 x) 1) where
+  kept : Besides 2116 2180 a b
+  kept = subst (Besides 2116 2180 a) (sym e) (note-besides a (closureOf a 1 x) (t .places x l))
 
   count : closuresOf b ≡ closuresOf a
   count = kept .same 2115 (inl (omega arith))
@@ -28,14 +28,14 @@ module _ {a b : List ℕ} (x : ℕ) (t : Celled a) (l : x < closuresOf a) (e : b
       record {
         size = omega (arith, kept .size, t .size);
         few = omega (arith, count, t .few);
-        places = λ y m. omega (arith, kept .same (3780 + y * 3 + 1) (inr (omega arith)), t .places y (omega (arith, count)));
+        places = λ y m. omega (arith, kept .same (3716 + y * 3 + 1) (inr (omega arith)), t .places y (omega (arith, count)));
       }
 
   more : NotedTo a x → NotedTo b (x + 1)
   more n = subst (λ (c : List ℕ). NotedTo c (x + 1)) (sym e) (noted-more a x (omega (arith, t .few)) (t .size) (λ y m. t .places y (omega arith)) n)
 
 abbrev Inv-loop : tie.InvT-loop
-Inv-loop net₀ x₀ x-end net x = (x ≤ closuresOf net₀) × Celled net × (closuresOf net ≡ closuresOf net₀) × NotedTo net x × Besides 3716 3780 net₀ net
+Inv-loop net₀ x₀ x-end net x = (x ≤ closuresOf net₀) × Celled net × (closuresOf net ≡ closuresOf net₀) × NotedTo net x × Besides 2116 2180 net₀ net
 
 abbrev μ-loop : tie.MeasureT-loop
 μ-loop net₀ x₀ x-end net x = closuresOf net₀ - x

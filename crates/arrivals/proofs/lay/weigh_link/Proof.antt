@@ -1,6 +1,7 @@
 -- `arrivals::lay::weigh_link` meets its contract: where waiting is nowhere dearer nothing is noted, and else the corridor and the place.
 -- Assumes nothing.
-use mathlib.Core.Path.{_∙_, sym}
+use mathlib.Core.Path.{refl, _∙_, sym}
+use mathlib.Core.Logic.{inl}
 use native.Mathlib.Omega.{arith}
 use lib.ListN.{length-set}
 use borrow.Author.Needs.{needs}
@@ -29,7 +30,7 @@ same-length : tie.Need-same-length
 same-length c = search needs
 
 returns : tie.Need-returns
-returns c = record { weighed = weighed-cheap (c .before .before .before .before .before .before .before .before .before .before .args .net .now) (c .before .before .before .before .before .before .before .before .before .before .args .j) (cheap-of (c .before .before .before .before .before .before .before .before .before .before .args .net .now) (c .before .before .before .before .before .before .before .before .before .before .args .j) _ _ _ _ (c .before .before .before .before .before .before .before .link-end .ensures) (c .before .before .before .link-end2 .ensures) (c .before .before .before .before .before .wait-of .ensures) (c .before .before .wait-of2 .ensures) (atMostb-true _ _ (sym (c .before .at-most .ensures) ∙ c .if1 .taken))) (c .before .before .before .before .before .before .before .before .before .before .pre .2); others = besides-none _ _ _ }
+returns c = record { weighed = weighed-cheap (c .before .before .before .before .before .before .before .before .before .before .args .net .now) (c .before .before .before .before .before .before .before .before .before .before .args .j) (cheap-of (c .before .before .before .before .before .before .before .before .before .before .args .net .now) (c .before .before .before .before .before .before .before .before .before .before .args .j) _ _ _ _ (c .before .before .before .before .before .before .before .link-end .ensures) (c .before .before .before .link-end2 .ensures) (c .before .before .before .before .before .wait-of .ensures) (c .before .before .wait-of2 .ensures) (atMostb-true _ _ (sym (c .before .at-most .ensures) ∙ c .if1 .taken))) (c .before .before .before .before .before .before .before .before .before .before .pre .2); others = besides-none _ _ _; lifted = record { each = λ v l. inl refl } }
 
 add-net : tie.Need-add-net
 add-net c = search needs

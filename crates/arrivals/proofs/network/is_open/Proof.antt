@@ -4,22 +4,21 @@
 use mathlib.Core.Path.{_∙_, ap, ap₂, sym}
 use Prim.Native.Nat.{ℕ}
 use native.Mathlib.Omega.{arith}
-use borrow.Author.Tests.{not-true}
 use Rattle.arrivals.specs.Inner.Chains.{byCell, cell, lastOf}
-use Rattle.arrivals.specs.Inner.Network.{shutInto, openIn, open-of}
+use Rattle.arrivals.specs.Inner.Network.{intoOf, openIn, open-of}
 use Rattle.arrivals.proofs.network.is_open.Statement.{statement}
 use Rattle.arrivals.proofs.network.is_open.Tie as tie
 
 link-end-requires : tie.Need-link-end-requires
 link-end-requires c κs = ((c .before .pre) .0, omega arith, (c .before .pre) .2 .size)
 
-is-shut-requires : tie.Need-is-shut-requires
-is-shut-requires c κs = (omega (arith, (c .link-end) .ensures, (c .before .before .pre) .1), (c .before .before .pre) .2 .size)
+is-plain-requires : tie.Need-is-plain-requires
+is-plain-requires c κs = (omega (arith, (c .link-end) .ensures, (c .before .before .pre) .1), (c .before .before .pre) .2 .size)
 
 returns : tie.Need-returns
 returns c =
-    let z = ap (shutInto ((c .before .before .before .before .args) .net .now)) (sym ((c .before .before .link-end) .ensures)) ∙ (c .before .is-shut) .ensures (not-true _ ((c .if1) .taken)) in
-    sym (open-of _ _ _ _ (λ i l p. (c .before .before .before .before .pre) .2 .noted i l (ap (shutInto ((c .before .before .before .before .args) .net .now)) (p .to) ∙ z)))
+    let z = ap (intoOf ((c .before .before .before .before .args) .net .now)) (sym ((c .before .before .link-end) .ensures)) ∙ (c .before .is-plain) .ensures ((c .if1) .taken) in
+    sym (open-of _ _ _ _ (λ i l p. (c .before .before .before .before .pre) .2 .noted i l (ap (intoOf ((c .before .before .before .before .args) .net .now)) (p .to) ∙ z)))
 
 cell-of-requires : tie.Need-cell-of-requires
 cell-of-requires c κs = omega (arith, (c .before .before .link-end) .ensures, (c .before .before .before .before .pre) .1)
@@ -48,7 +47,7 @@ is-open-spec =
     tie.close
     (tie.spec
     link-end-requires
-    is-shut-requires
+    is-plain-requires
     returns
     cell-of-requires
     last-shut-requires
