@@ -124,12 +124,12 @@ pub fn closure_number(net: &[u32], x: usize, q: usize) -> u32
     net[CLOSURES + x * 3 + q]
 }
 
-// The cell of place v and step s: sixteen for each place, by the step's remainder.
+// The cell of place v and step s: sixteen for each place, one for each run of sixteen steps.
 pub fn cell_of(v: Place, s: Step) -> usize
     requires { ⌜ v .0 < 64 ⌝ }
     ensures { λ r. ⌜ (r ≡ cell (v .0) (s .0)) × (r < 1024) ⌝ }
 {
-    wide(v.0 * 16 + s.0 % 16)
+    wide(v.0 * 16 + s.0 / 16 % 16)
 }
 
 // One more than the last closure of a cell.
@@ -239,11 +239,11 @@ pub fn is_steady(net: &[u32], v: Place, t: Step) -> bool
     requires { ⌜ (v .0 < 64) × (Closing (now net)) ⌝ }
     ensures { λ r. ⌜ SteadyIs (now (net .entry)) (v .0) (t .0) r ⌝ }
 {
-    if is_plain(net, v) {
-        return true;
-    }
     if net[INTO + v.0 as usize] == 2 {
         return false;
+    }
+    if net[SHUT_COUNT] == 0 {
+        return true;
     }
     if t.0 < 2 {
         return false;

@@ -3,7 +3,7 @@
 use mathlib.Core.Path.{_≡_, sym, ap, ap₂, _∙_, subst}
 use mathlib.Core.List.{List}
 use mathlib.Core.Logic.{_⊎_, inl, inr, ⊎-elim}
-use Prim.Native.Nat.{ℕ, _+_, _*_, _-_, _%_, _≤_, _<_}
+use Prim.Native.Nat.{ℕ, _+_, _*_, _-_, _/_, _%_, _≤_, _<_}
 use native.Mathlib.Omega.{arith}
 use native.Mathlib.Decide.{ℕ-discrete}
 use lib.ListN.{length, getD, set, length-set}
@@ -23,9 +23,9 @@ pub record Chain : Type 0 where
 abbrev pub byPlace : ℕ → Chain
 byPlace q = record { first = 192 + q * 320; keys = 64; at = λ j. 832 + j * 5 + q; by = λ j. 832 + j * 5 + q; of = λ u v. u }
 
--- the cell of a place and a step: sixteen for each place, by the step's remainder
+-- the cell of a place and a step: sixteen for each place, one for each run of sixteen steps
 abbrev pub cell : ℕ → ℕ → ℕ
-cell v s = v * 16 + s % 16
+cell v s = v * 16 + s / 16 % 16
 
 -- the closures by the cell of the place that they lead to and their step
 abbrev pub byCell : Chain

@@ -1,4 +1,4 @@
--- `arrivals::network::cell_of` meets its contract: a place below 64 and a remainder below 16.
+-- `arrivals::network::cell_of` meets its contract: a place below 64, and one of its sixteen cells.
 -- Assumes nothing.
 use mathlib.Core.Path.{_∙_}
 use native.Mathlib.Omega.{arith}
