@@ -12,8 +12,8 @@
  * only if its arrival counts; the arrival step handed back is A.
  *
  * A closure, `X,from,to,step`, between the C and the O lines, closes the corridor from the one place to the other to a
- * cart that would depart by it at that step, 0 to 255; one at the last step or past it has no effect. The other direction is not
- * closed by it: for a bed that is moved towards the cart the sheet names the cart's direction.
+ * cart that would depart by it at that step, 0 to 255; one at the last step or past it has no effect. The other direction
+ * is not closed by it: for a bed that is moved towards the cart the sheet names the cart's direction.
  *
  * Holds for every call:
  * - An array is passed as a pointer and a length, the count of its elements. A pointer is never null, not even where

@@ -285,6 +285,3 @@ filled-start k xs ys f e = filled-as (e ∙ ap (λ (rs : List Row). record { pla
 -- the first step of the start's safe interval at step 0
 pub start-since : (free net : List ℕ) (s f : ℕ) → s ≡ startOf net → f ≡ sinceIn free s 0 → since (caseOf free net) (startOf net) 0 ≡ f
 start-since free net s f e g = sym (g ∙ ap (λ (v : ℕ). sinceIn free v 0) e)
-
-pub not-same : (m n : ℕ) → m ≤ n → (m ≡ n → ⊥) → m < n
-not-same m n l d = ⊎-elim (λ x. x) (λ x. absurd (d (omega arith))) (lt-or-le m n)
