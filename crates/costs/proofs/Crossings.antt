@@ -1,29 +1,28 @@
 -- Corridors, closures and waits in the array: the five numbers at a corridor's line are its ends and its cost, a closure is sought among the lines of
 -- its kind, and the cost of a wait stands in the S line.
 -- Assumes nothing.
-use mathlib.Core.Path.{_≡_, refl, sym, _∙_, ap, subst}
-use mathlib.Core.Bool.{Bool, true, false, not}
+use mathlib.Core.Path.{_≡_, sym, _∙_, ap, subst}
+use mathlib.Core.Bool.{Bool, not}
 use mathlib.Core.List.{List, [], _∷_}
 use Prim.Native.Nat.{ℕ, _+_, _*_, _/_, _<_}
 use native.Mathlib.Omega.{arith}
 use lib.ListN.{length, getD, take}
 use lib.Seq.{take-all}
-use borrow.Author.Tests.{not-true}
 use Rattle.sheet.specs.Lists.{_∈_, number, numbersFrom}
 use Rattle.sheet.specs.Kinds.{width, kindC, kindX}
 use Rattle.sheet.specs.Sheet.{from, to}
 use Rattle.sheet.specs.Store.{baseOf, storeRoom, SomeStore, partOf, sheetIn}
 use Rattle.sheet.specs.Seek.{Seekable, Listed}
-use Rattle.sheet.specs.Laws.Decided.{Decided, holds, fails, no-of, decided-as, from-same}
+use Rattle.sheet.specs.Laws.Decided.{Decided, holds, fails, decided-as, from-same}
 use Rattle.sheet.specs.Laws.Keys.{GroupIs}
 use Rattle.sheet.specs.Laws.Rows.{rows-at}
 use Rattle.sheet.specs.Laws.Store.{part-number, store-valid, store-numbers, store-few, head-number, store-length, store-seekable, store-listed, listed-store}
 use Rattle.sheet.specs.declared.Place.{Place}
 use Rattle.sheet.specs.declared.seek.Group.{Group}
-use Rattle.costs.specs.Costs.{Cost, figures}
+use Rattle.costs.specs.Costs.{figures}
 use Rattle.costs.specs.Moves.{waitOf, costOf, Closed}
 use Rattle.costs.specs.Computed.{waitAt}
-use Rattle.costs.specs.Priced.{CrossingBy, CorridorIs}
+use Rattle.costs.specs.Priced.{CorridorIs}
 use Rattle.costs.specs.Laws.Rows.{row, row-number}
 use Rattle.costs.specs.Laws.Moves.{corridor-count}
 use Rattle.costs.specs.declared.Corridor.{Corridor}

@@ -1,12 +1,12 @@
 -- The lines of a kind in the array, sought by the numbers that they ascend by: at the place of line i stand its numbers, so that the array has a line with
 -- some key exactly where the group has one.
-use mathlib.Core.Path.{_≡_, sym, _∙_, ap, ap₂, subst}
-use mathlib.Core.List.{List, [], _++_}
+use mathlib.Core.Path.{_≡_, sym, _∙_, ap, subst}
+use mathlib.Core.List.{List, []}
 use Prim.Native.Nat.{ℕ, _+_, _*_, _<_}
 use native.Mathlib.Omega.{arith}
-use lib.ListN.{length, getD, take, drop}
+use lib.ListN.{getD, take, drop}
 use lib.Seq.{drop-drop, take-take}
-use Rattle.sheet.specs.Lists.{number, _∈_, flat, Lex}
+use Rattle.sheet.specs.Lists.{number, _∈_, Lex}
 use Rattle.sheet.specs.Kinds.{width}
 use Rattle.sheet.specs.Sheet.{Sheet}
 use Rattle.sheet.specs.Store.{kindCount, kindAt, baseOf}

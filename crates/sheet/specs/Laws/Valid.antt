@@ -13,7 +13,7 @@ use borrow.Author.Tests.{ltb-false, eqb-true, eqb-false, eq-eqb, le-ltb, ne-eqb,
 use Rattle.sheet.specs.Lists.{number, _∈_, any}
 use Rattle.sheet.specs.Kinds.{place, Kind, width, kindS, kindC, kindX, kindO, kinds}
 use Rattle.sheet.specs.Lines.{Line, line}
-use Rattle.sheet.specs.Sheet.{Sheet, places, steps, from, to, departure, first, last, sheetOf, groupsOf, sheetLines, headIn, unpaired, unknown, late}
+use Rattle.sheet.specs.Sheet.{Sheet, places, steps, from, to, first, last, sheetOf, groupsOf, sheetLines, headIn, unpaired, unknown, late}
 use Rattle.sheet.specs.Valid.{ValidCorridor, ValidClosure, ValidOccupancy, Valid}
 use Rattle.sheet.specs.Laws.Order.{and-true, true-and}
 use Rattle.sheet.specs.Laws.Members.{mem-left, mem-map, any-mem, mem-any}
@@ -23,7 +23,7 @@ use Rattle.sheet.specs.Laws.Shape.{AllShaped}
 use Rattle.sheet.specs.Laws.Passed.{passes-inside, passed-fault}
 use Rattle.sheet.specs.Laws.Limits.{In, Within, inside-within, within-inside, within-at, at-within, most-from, five-digits, within-below}
 use Rattle.sheet.specs.Laws.Groups.{later-kinds, sheet-lines, lines-sheet}
-use Rattle.sheet.specs.Laws.Runs.{Lined, AllRuns, passes-runs, runs-shaped, runs-pass}
+use Rattle.sheet.specs.Laws.Runs.{AllRuns, passes-runs, runs-shaped, runs-pass}
 
 -- the runs of a sheet
 abbrev pub Runs : Sheet → Type 0

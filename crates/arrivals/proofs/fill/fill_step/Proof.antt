@@ -1,7 +1,7 @@
 -- `arrivals::fill::fill_step` meets its contract: the places that are not passed over are visited one after another. The loop's invariant: all is filled
 -- in before place v at step t, and v is free, or there is no place left.
 -- Assumes nothing.
-use mathlib.Core.Path.{_≡_, refl, _∙_}
+use mathlib.Core.Path.{_≡_, refl}
 use Prim.Native.Nat.{_-_, _<_}
 use native.Mathlib.Omega.{arith}
 use lib.ListN.{length}

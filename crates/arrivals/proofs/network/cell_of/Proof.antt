@@ -1,6 +1,5 @@
 -- `arrivals::network::cell_of` meets its contract: a place below 64, and one of its sixteen cells.
 -- Assumes nothing.
-use mathlib.Core.Path.{_∙_}
 use native.Mathlib.Omega.{arith}
 use borrow.Author.Needs.{needs}
 use Rattle.arrivals.proofs.network.cell_of.Statement.{statement}

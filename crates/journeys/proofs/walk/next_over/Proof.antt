@@ -7,7 +7,6 @@ use Rattle.sheet.specs.Laws.Store.{store-valid}
 use Rattle.intervals.specs.FirstSteps.{some-derived}
 use Rattle.journeys.specs.Inner.Lookup.{standing}
 use Rattle.journeys.proofs.Choosing.{over-other, lower-decided, lower-place, lower-within, over-not, over-marked, over-unmarked}
-use borrow.Author.Needs.{needs}
 use Rattle.journeys.proofs.walk.next_over.Statement.{statement}
 use Rattle.journeys.proofs.walk.next_over.Tie as tie
 
