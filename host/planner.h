@@ -149,8 +149,7 @@ PlannerSheetRead planner_read(const uint8_t *sheet, size_t sheet_len);
  * Refuses with: 2 (line 0: head_len is not 5, waits_len no multiple of 4, corridors_len none of 5, closures_len or
  * occupancies_len none of 3); 3 to 7, 15 and 16 (the first line at fault, as counted in the sheet to be written); 12
  * (line 0). 3 is for waits alone: a row of another place than the next, or one more than places, at its line; too few,
- * at the line after the last of them, or the number after the last line where none follows. PLANNER_MOST_BYTES bytes
- * are always enough.
+ * at the line after the last of them, also where no line follows. PLANNER_MOST_BYTES bytes are always enough.
  * out: the bytes of the sheet, and past them kept. Refused: kept.
  * Stack: 11,688 bytes measured. */
 PlannerSheetWritten planner_write(const uint32_t *head, size_t head_len, const uint32_t *waits, size_t waits_len,
