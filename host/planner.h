@@ -9,8 +9,8 @@
  * The lines of a sheet come in the order S, W, C, X, O: one S, one W for each place, up to 256 of each other kind.
  *
  * The S line is `S,places,steps,start,goal,u`: the count of places, 1 to 64, the last step, where a journey starts and
- * ends, and the steps that unloading takes, 0 to 99. An arrival at the goal at step A counts only if the goal is free at
- * each step from A to A + u, and A + u is at most the last step. A journey is lawful only if its arrival counts; the
+ * ends, and the steps that unloading takes, 0 to 99. An arrival at the goal at step A counts only if the goal is free
+ * at each step from A to A + u, and A + u is at most the last step. A journey is lawful only if its arrival counts; the
  * arrival step handed back is A.
  *
  * A W line, `W,place,w1,w2,w3`, tells the cost of waiting one step at the place, each figure 0 to 60,000. Every place

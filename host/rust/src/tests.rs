@@ -1,5 +1,5 @@
-//! Document 01's "Sheets to try", sheet D with the journey of document 02, times to unload, closures, and each refusal of
-//! a sheet, through the wrapper; waiting costs by place in tests/waits.rs.
+//! Document 01's "Sheets to try", sheet D with the journey of document 02, times to unload, closures, and each refusal
+//! of a sheet, through the wrapper; waiting costs by place in tests/waits.rs.
 
 mod waits;
 
