@@ -22,20 +22,21 @@ pub extern "C" fn planner_read(sheet: &[u8]) -> SheetRead
     read(sheet)
 }
 
-// Writes the sheet of the four groups into the lent buffer and hands back the count of bytes, or one numbered refusal (2, 4 to 7, 12, 15, 16) with
+// Writes the sheet of the five groups into the lent buffer and hands back the count of bytes, or one numbered refusal (2 to 7, 12, 15, 16) with
 // the line at fault; the buffer past the bytes, and after a refusal all of it, is kept.
 #[no_mangle]
 pub extern "C" fn planner_write(
     head: &[u32],
+    waits: &[u32],
     corridors: &[u32],
     closures: &[u32],
     occupancies: &[u32],
     out: &mut [u8],
 ) -> SheetWritten
     ensures { λ r. ⌜ writeEnd r (now (out .exit))
-        ≡ writeCall (now (head .entry)) (now (corridors .entry)) (now (closures .entry)) (now (occupancies .entry)) (now (out .entry)) ⌝ }
+        ≡ writeCall (now (head .entry)) (now (waits .entry)) (now (corridors .entry)) (now (closures .entry)) (now (occupancies .entry)) (now (out .entry)) ⌝ }
 {
-    write(head, corridors, closures, occupancies, out)
+    write(head, waits, corridors, closures, occupancies, out)
 }
 
 // The front of a sheet: the arrivals table and the front list are filled, zeros to their ends, and the counts are handed back; or one numbered
