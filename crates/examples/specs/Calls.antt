@@ -50,7 +50,11 @@ pub journey-rooms : (journeyA 1 25 6 ∷ journeyA 1 25 4 ∷ journeyA 2 25 1 ∷
 unfolding journeyCall
 journey-rooms = refl
 
--- 256 corridors, 256 closures and 256 occupancies, each number with the most digits that its limit allows
+-- 64 waits, 256 corridors, 256 closures and 256 occupancies, each number with the most digits that its limit and its turn allow
+abbrev pub waitsLongest : ℕ → List ℕ
+waitsLongest zero = []
+waitsLongest (suc n) = waitsLongest n ++ (n ∷ 60000 ∷ 60000 ∷ 60000 ∷ [])
+
 abbrev pub corridorsLongest : ℕ → List ℕ
 corridorsLongest zero = []
 corridorsLongest (suc n) = corridorsLongest n ++ ((10 + n / 48) ∷ (16 + n % 48) ∷ 60000 ∷ 60000 ∷ 60000 ∷ [])
@@ -64,10 +68,10 @@ occupanciesLongest zero = []
 occupanciesLongest (suc n) = occupanciesLongest n ++ ((10 + n / 100) ∷ (100 + n % 100) ∷ 255 ∷ [])
 
 abbrev pub headLongest : List ℕ
-headLongest = 64 ∷ 255 ∷ 10 ∷ 10 ∷ 60000 ∷ 60000 ∷ 60000 ∷ 99 ∷ []
+headLongest = 64 ∷ 255 ∷ 10 ∷ 10 ∷ 99 ∷ []
 
 -- the longest sheet is written, and no sheet is longer
-pub longest-written : writeCall headLongest (corridorsLongest 256) (closuresLongest 256) (occupanciesLongest 256) (replicate longest 7) .answer
+pub longest-written : writeCall headLongest (waitsLongest 64) (corridorsLongest 256) (closuresLongest 256) (occupanciesLongest 256) (replicate longest 7) .answer
     ≡ record { refusal = 0; line = 0; bytes = longest }
 unfolding writeGroups
 longest-written = refl
