@@ -7,14 +7,15 @@
 #define AT(type, field, offset) _Static_assert(offsetof(type, field) == (offset), #type "." #field)
 #define SIZE(type, size, align) _Static_assert(sizeof(type) == (size) && _Alignof(type) == (align), #type)
 
-SIZE(PlannerSheetRead, 11320, 4);
+SIZE(PlannerSheetRead, 12336, 4);
 AT(PlannerSheetRead, refusal, 0);
 AT(PlannerSheetRead, line, 4);
 AT(PlannerSheetRead, lines, 8);
-AT(PlannerSheetRead, head, 24);
-AT(PlannerSheetRead, corridors, 56);
-AT(PlannerSheetRead, closures, 5176);
-AT(PlannerSheetRead, occupancies, 8248);
+AT(PlannerSheetRead, head, 28);
+AT(PlannerSheetRead, waits, 48);
+AT(PlannerSheetRead, corridors, 1072);
+AT(PlannerSheetRead, closures, 6192);
+AT(PlannerSheetRead, occupancies, 9264);
 
 SIZE(PlannerSheetWritten, 12, 4);
 AT(PlannerSheetWritten, refusal, 0);
@@ -40,9 +41,9 @@ int main(void)
     size_t len = fread(text, 1, sizeof text, stdin);
     PlannerSheetRead read = planner_read(text, len);
     PlannerSheetWritten written = planner_write(
-        read.head, PLANNER_HEAD_WIDTH, read.corridors, read.lines[1] * PLANNER_CORRIDOR_WIDTH, read.closures,
-        read.lines[2] * PLANNER_CLOSURE_WIDTH, read.occupancies, read.lines[3] * PLANNER_OCCUPANCY_WIDTH, copy,
-        sizeof copy);
+        read.head, PLANNER_HEAD_WIDTH, read.waits, read.lines[1] * PLANNER_WAIT_WIDTH, read.corridors,
+        read.lines[2] * PLANNER_CORRIDOR_WIDTH, read.closures, read.lines[3] * PLANNER_CLOSURE_WIDTH,
+        read.occupancies, read.lines[4] * PLANNER_OCCUPANCY_WIDTH, copy, sizeof copy);
     if (planner_kind(',') != PLANNER_KIND_COMMA || planner_kind('Z' + 1) != PLANNER_KIND_OTHER)
         return 1;
     if (read.refusal != PLANNER_SERVED || written.refusal != PLANNER_SERVED || read.lines[0] != 1)

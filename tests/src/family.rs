@@ -1,6 +1,6 @@
 //! A family of random sheets, and how its sheets are drawn.
 
-use crate::groups::Groups;
+use crate::groups::{Groups, equal_waits};
 use crate::random::Random;
 use std::collections::BTreeSet;
 
@@ -12,7 +12,7 @@ pub struct Family {
     pub steps: [u32; 2],
     pub corridors: [u32; 2],
     pub crossing: Costs,
-    pub waiting: Costs,
+    pub waiting: Waiting,
     pub occupancies: Occupancies,
     pub ends: Ends,
     pub unloading: Unloading,
@@ -25,6 +25,19 @@ pub enum Costs {
     Figures(&'static [u32]),
     /// The cost is one of these.
     Whole(&'static [[u32; 3]]),
+}
+
+/// How the waiting costs of the places are drawn.
+#[derive(Clone, Copy)]
+pub enum Waiting {
+    /// For each place by itself, or in two of five cases one for all places.
+    Any(Costs),
+    /// One for all places.
+    Equal(Costs),
+    /// For each place by itself.
+    ByPlace(Costs),
+    /// One of the two for the start, the other for all other places.
+    AtStart([[u32; 3]; 2]),
 }
 
 /// The occupancies of a family: how many, and of how many steps.
@@ -71,13 +84,13 @@ impl Family {
         let start = random.from_to(0, places - 1);
         let goal = self.goal(places, start, random);
         let unloading = self.unloading.steps(steps, random);
-        let [w1, w2, w3] = self.waiting.cost(random);
-        let head = vec![places, steps, start, goal, w1, w2, w3, unloading];
+        let head = vec![places, steps, start, goal, unloading];
+        let waits = self.waiting.waits(places, start, random);
         let corridors = self.corridors(places, start, goal, random);
         let mut occupancies = self.occupancies(places, steps, random);
         occupancies.extend(self.ends.occupancies(&head, random));
         let occupancies = occupancies.into_iter().take(256).flatten().collect();
-        Groups { head, corridors, closures: vec![], occupancies }
+        Groups { head, waits, corridors, closures: vec![], occupancies }
     }
 
     /// The goal of a sheet with so many places.
@@ -130,7 +143,7 @@ impl Family {
 impl Ends {
     /// The occupancies that make the start or the goal of a sheet with these numbers special.
     fn occupancies(self, head: &[u32], random: &mut Random) -> Vec<[u32; 3]> {
-        let [steps, start, goal, unloading] = [1, 2, 3, 7].map(|at| head[at]);
+        let [steps, start, goal, unloading] = [1, 2, 3, 4].map(|at| head[at]);
         match self {
             Ends::Any | Ends::GoalAtStart | Ends::Apart => vec![],
             Ends::StartOccupied => vec![occupancy_near([0, 1], start, steps, random)],
@@ -142,6 +155,25 @@ impl Ends {
             Ends::GoalParted | Ends::ApartAndParted | Ends::StartParted => parting(goal, steps, random),
             Ends::StartLeft => vec![[start, random.from_to(1, 4), 255]],
         }
+    }
+}
+
+impl Waiting {
+    /// Random wait lines of so many places.
+    fn waits(self, places: u32, start: u32, random: &mut Random) -> Vec<u32> {
+        let (costs, is_equal) = match self {
+            Waiting::Any(costs) => (costs, random.percent(40)),
+            Waiting::Equal(costs) => (costs, true),
+            Waiting::ByPlace(costs) => (costs, false),
+            Waiting::AtStart([one, other]) => {
+                let cost = |place| if place == start { one } else { other };
+                return (0..places).flat_map(|place| wait(place, cost(place))).collect();
+            }
+        };
+        if is_equal {
+            return equal_waits(places, costs.cost(random));
+        }
+        (0..places).flat_map(|place| wait(place, costs.cost(random))).collect()
     }
 }
 
@@ -163,6 +195,11 @@ impl Costs {
             Costs::Whole(costs) => random.pick(costs),
         }
     }
+}
+
+/// The wait line of a place.
+fn wait(place: u32, [a, b, c]: [u32; 3]) -> [u32; 4] {
+    [place, a, b, c]
 }
 
 /// A time to unload as `Unloading::Any` has it, for a sheet with so many steps.

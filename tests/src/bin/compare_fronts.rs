@@ -13,7 +13,7 @@ use planner_tests::compare_search::{Filled, Tried};
 use planner_tests::damage::of_text::TEXT_DAMAGES;
 use planner_tests::families::{FAMILIES, random_family};
 use planner_tests::page::line_of;
-use planner_tests::program::{self, ByRefusal, Counts, Options};
+use planner_tests::program::{self, ByRefusal, Counts, Options, Tallies};
 use planner_tests::random::Random;
 use planner_tests::small::{damaged_text, small_text};
 use planner_tests::step_by_step::Offer;
@@ -59,26 +59,21 @@ const ROOMS: [&str; 7] = [
 struct Tally {
     front: ByRefusal,
     journey: ByRefusal,
-    families: [u64; FAMILIES.len()],
-    sizes: [u64; SIZES.len()],
+    families: Tallies<{ FAMILIES.len() }>,
+    sizes: Tallies<{ SIZES.len() }>,
     tied: u64,
-    decided: [u64; DECIDED.len()],
+    decided: Tallies<{ DECIDED.len() }>,
     by_unloading: Changed<{ unloading::CHANGES.len() }>,
     by_closures: Changed<{ closures::CHANGES.len() }>,
-    rooms: [u64; ROOMS.len()],
-    damages: [u64; TEXT_DAMAGES.len()],
+    rooms: Tallies<{ ROOMS.len() }>,
+    damages: Tallies<{ TEXT_DAMAGES.len() }>,
 }
 
 /// How many sheets have another front without some of their lines or numbers, and how many meet each of some changes.
+#[derive(Default)]
 struct Changed<const N: usize> {
     fronts: u64,
-    changes: [u64; N],
-}
-
-impl<const N: usize> Default for Changed<N> {
-    fn default() -> Changed<N> {
-        Changed { fronts: 0, changes: [0; N] }
-    }
+    changes: Tallies<N>,
 }
 
 impl<const N: usize> Changed<N> {

@@ -1,7 +1,7 @@
 //! Compares planner_read and planner_write with the reference, on the stored cases and on random inputs, and
 //! planner_kind on all 256 bytes; planner_read also on a sheet with each byte at each position.
 //!
-//! `compare_sheets [--seed N] [--runs N]`: each run is one text for the reader and four groups for the
+//! `compare_sheets [--seed N] [--runs N]`: each run is one text for the reader and five groups for the
 //! writer. The exit status is 0 if all answers agree and each refusal number, size and kind of damage came up often.
 
 use planner_tests::cases::{groups_cases, kinds, sheet_cases};
@@ -9,7 +9,7 @@ use planner_tests::compare::{compare_kind, compare_reading, compare_writing};
 use planner_tests::damage::of_groups::{GROUP_DAMAGES, damage_groups};
 use planner_tests::damage::of_text::{TEXT_DAMAGES, damage_text, random_bytes};
 use planner_tests::groups::{Groups, random_groups};
-use planner_tests::program::{self, ByRefusal, Counts, Options};
+use planner_tests::program::{self, ByRefusal, Counts, Options, Tallies};
 use planner_tests::random::Random;
 use std::process::ExitCode;
 
@@ -18,10 +18,13 @@ const GROUPS_CASES: &str = include_str!("../../cases/groups.txt");
 const KINDS: &str = include_str!("../../cases/kinds.txt");
 
 /// A sheet with a line of each kind, in which each byte is tried at each position.
-const SHORT_SHEET: &[u8] = b"S,12,9,0,11,1,0,5,14\nC,0,10,1,2,3\nX,0,10,4\nO,1,2,30\n";
+const SHORT_SHEET: &[u8] = b"S,12,9,0,11,14\n\
+    W,0,1,0,5\nW,1,0,0,0\nW,2,7,60,0\nW,3,0,0,1\nW,4,1,2,3\nW,5,0,0,0\n\
+    W,6,1,0,5\nW,7,0,9,0\nW,8,7,60,0\nW,9,0,0,1\nW,10,1,2,3\nW,11,0,0,0\n\
+    C,0,10,1,2,3\nX,0,10,4\nO,1,2,30\n";
 
 /// The count of bytes of the longest sheet that is served.
-const LONGEST: usize = 13_092;
+const LONGEST: usize = 14_536;
 
 /// The sizes of texts that must come up.
 const SIZES: [&str; 3] = ["empty", "served with 256 lines of a kind", "served and longest"];
@@ -33,9 +36,9 @@ struct Tally {
     written: ByRefusal,
     closures_read: ByRefusal,
     closures_written: ByRefusal,
-    sizes: [u64; SIZES.len()],
-    text_damages: [u64; TEXT_DAMAGES.len()],
-    group_damages: [u64; GROUP_DAMAGES.len()],
+    sizes: Tallies<{ SIZES.len() }>,
+    text_damages: Tallies<{ TEXT_DAMAGES.len() }>,
+    group_damages: Tallies<{ GROUP_DAMAGES.len() }>,
 }
 
 fn main() -> ExitCode {

@@ -42,7 +42,7 @@ pub fn damage_groups(groups: &mut Groups, random: &mut Random) -> Vec<GroupDamag
     let count = 1 + random.below(3);
     let kinds = &GROUP_DAMAGES[..random.pick(&KINDS)];
     let at_one_line = random.percent(50);
-    let mut kind = random.below(4);
+    let mut kind = random.below(5);
     let mut at = None;
     let mut done = Vec::new();
     for _ in 0..count {
@@ -56,7 +56,7 @@ pub fn damage_groups(groups: &mut Groups, random: &mut Random) -> Vec<GroupDamag
             at = at_one_line.then_some(line);
         }
         if !at_one_line {
-            kind = random.below(4);
+            kind = random.below(5);
         }
     }
     done
@@ -65,9 +65,10 @@ pub fn damage_groups(groups: &mut Groups, random: &mut Random) -> Vec<GroupDamag
 /// The group of a kind, and the count of numbers on its lines.
 fn group_of(groups: &mut Groups, kind: usize) -> (&mut Vec<u32>, usize) {
     match kind {
-        0 => (&mut groups.head, 8),
-        1 => (&mut groups.corridors, 5),
-        2 => (&mut groups.closures, 3),
+        0 => (&mut groups.head, 5),
+        1 => (&mut groups.waits, 4),
+        2 => (&mut groups.corridors, 5),
+        3 => (&mut groups.closures, 3),
         _ => (&mut groups.occupancies, 3),
     }
 }
