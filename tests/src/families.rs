@@ -53,7 +53,15 @@ const PARTED: Family = Family {
 };
 
 /// Sheets with few corridors on which the cart has to wait, and it matters where.
-const WAITING: Family = Family { places: [3, 5], steps: [4, 7], corridors: [3, 9], ..LATE };
+const WAITING: Family = Family {
+    places: [3, 5],
+    steps: [4, 7],
+    corridors: [4, 9],
+    crossing: UNITS,
+    occupancies: Occupancies { count: [0, 1], longest: 2 },
+    unloading: Unloading::Steps(&[0, 0, 1, 1]),
+    ..LATE
+};
 
 /// Costs of one figure, of which many sums are equal.
 const UNITS: Costs = Whole(&[[0, 1, 0], [0, 0, 1]]);
@@ -64,7 +72,7 @@ const WITH_FEW_TIES: usize = 18;
 const WITH_MANY_TIES: usize = 11;
 
 /// The families of small sheets.
-pub const FAMILIES: [Family; 37] = [
+pub const FAMILIES: [Family; 38] = [
     PLAIN,
     Family { name: "one place", places: [1, 1], corridors: [0, 0], ..PLAIN },
     Family { name: "no step", steps: [0, 0], ..PLAIN },
@@ -137,12 +145,12 @@ pub const FAMILIES: [Family; 37] = [
         ..PARTED
     },
     Family { name: "equal costs on parallel corridors", crossing: Figures(&[1]), ..PARALLEL },
-    Family { name: "equal sums on parallel corridors", crossing: UNITS, waiting: Any(Figures(&[0, 1])), ..PARALLEL },
+    Family { name: "equal sums on parallel corridors", crossing: UNITS, waiting: Equal(Figures(&[0, 1])), ..PARALLEL },
     Family { name: "moving costs what waiting costs", crossing: Figures(&[1]), waiting: Any(Figures(&[1])), ..LATE },
     Family {
         name: "moving about until the goal is free",
         crossing: Figures(&[1]),
-        waiting: Any(Figures(&[2, 3])),
+        waiting: Equal(Figures(&[2, 3])),
         places: [4, 5],
         corridors: [8, 14],
         ..LATE
@@ -150,14 +158,14 @@ pub const FAMILIES: [Family; 37] = [
     Family {
         name: "equal sums until the goal is free",
         crossing: Whole(&[[1, 0, 0], [0, 1, 0], [0, 0, 1]]),
-        waiting: Any(Whole(&[[1, 0, 0], [0, 1, 0], [0, 0, 1]])),
+        waiting: Equal(Whole(&[[1, 0, 0], [0, 1, 0], [0, 0, 1]])),
         ..LATE
     },
     Family { name: "free waiting until the goal is free", crossing: UNITS, waiting: Any(Figures(&[0])), ..LATE },
     Family {
         name: "cycles without cost",
         crossing: Whole(&[[0; 3], [0; 3], [0, 1, 0]]),
-        waiting: Any(Whole(&[[0; 3], [0; 3], [1, 0, 0]])),
+        waiting: Equal(Whole(&[[0; 3], [0; 3], [1, 0, 0]])),
         ..LATE
     },
     Family {
@@ -177,7 +185,7 @@ pub const FAMILIES: [Family; 37] = [
     Family {
         name: "equal sums, goal parted",
         crossing: UNITS,
-        waiting: Any(UNITS),
+        waiting: Equal(UNITS),
         ends: Ends::ApartAndParted,
         ..PARTED
     },
@@ -209,6 +217,13 @@ pub const FAMILIES: [Family; 37] = [
     },
     Family { name: "waiting free at the start alone", waiting: AtStart([[0; 3], [5, 0, 0]]), ..WAITING },
     Family { name: "waiting dear at the start alone", waiting: AtStart([[5, 5, 5], [0, 0, 1]]), ..WAITING },
+    Family {
+        name: "waiting dear at the start, beside a store",
+        corridors: [3, 5],
+        waiting: AtStart([[5, 5, 5], [0; 3]]),
+        ends: Ends::BesideStore,
+        ..WAITING
+    },
     Family { name: "waiting for 60,000 everywhere", waiting: Equal(Figures(&[60_000])), ..WAITING },
     Family {
         name: "waiting for 60,000 or free",
@@ -218,13 +233,13 @@ pub const FAMILIES: [Family; 37] = [
     },
 ];
 
-/// The number of a random family: in half of the cases of one with many ties, in a quarter of one with few, else of one
-/// on which the waiting costs of the places matter.
+/// The number of a random family: in half of the cases of one with many ties, in a sixth of one with few, else of one on
+/// which the waiting costs of the places matter.
 pub fn random_family(random: &mut Random) -> usize {
     let rest = FAMILIES.len() - WITH_FEW_TIES - WITH_MANY_TIES;
-    match random.below(4) {
+    match random.below(6) {
         0 => random.below(WITH_FEW_TIES),
-        1..3 => WITH_FEW_TIES + random.below(WITH_MANY_TIES),
+        1..4 => WITH_FEW_TIES + random.below(WITH_MANY_TIES),
         _ => WITH_FEW_TIES + WITH_MANY_TIES + random.below(rest),
     }
 }

@@ -30,7 +30,7 @@ pub enum Costs {
 /// How the waiting costs of the places are drawn.
 #[derive(Clone, Copy)]
 pub enum Waiting {
-    /// For each place by itself, or in two of five cases one for all places.
+    /// For each place by itself, or in half of the cases one for all places.
     Any(Costs),
     /// One for all places.
     Equal(Costs),
@@ -67,6 +67,8 @@ pub enum Ends {
     Apart,
     /// The same, and the goal is occupied from step 0 to one in the second half, mostly so that unloading can end.
     ApartAndLate,
+    /// Corridors lead from the start to the goal, occupied as late, and to a third place and back, but not on to the goal.
+    BesideStore,
     /// Occupancies of the goal part its steps into short safe intervals.
     GoalParted,
     /// No corridor leads from the start to the goal, and the goal's steps are parted.
@@ -97,14 +99,23 @@ impl Family {
     fn goal(&self, places: u32, start: u32, random: &mut Random) -> u32 {
         match self.ends {
             Ends::GoalAtStart | Ends::StartParted => start,
-            _ if self.is_apart() || random.percent(90) => (start + random.from_to(1, places.max(2) - 1)) % places,
+            _ if self.has_third() || random.percent(90) => (start + random.from_to(1, places.max(2) - 1)) % places,
             _ => random.from_to(0, places - 1),
         }
     }
 
-    /// Whether the goal is another place than the start and is reached by a third one.
-    fn is_apart(&self) -> bool {
-        [Ends::Apart, Ends::ApartAndLate, Ends::ApartAndParted].contains(&self.ends)
+    /// Whether the goal is another place than the start, and corridors lead to a third one.
+    fn has_third(&self) -> bool {
+        [Ends::Apart, Ends::ApartAndLate, Ends::ApartAndParted, Ends::BesideStore].contains(&self.ends)
+    }
+
+    /// The corridors that a third place asks for, and the one that it rules out.
+    fn by_third(&self, start: u32, goal: u32, third: u32) -> (Vec<[u32; 2]>, [u32; 2]) {
+        if self.ends == Ends::BesideStore {
+            (vec![[start, third], [third, start], [start, goal]], [third, goal])
+        } else {
+            (vec![[start, third], [third, goal]], [start, goal])
+        }
     }
 
     /// Random corridor lines in ascending order.
@@ -112,14 +123,16 @@ impl Family {
         let [least, most] = self.corridors;
         let mut count = random.from_to(least, most).min(places * (places - 1)) as usize;
         let mut ends = BTreeSet::new();
-        if self.is_apart() {
+        let mut ruled_out = None;
+        if self.has_third() {
             count = count.min((places * (places - 1) - 1) as usize);
-            let between = other_than([start, goal], places, random);
-            ends.extend([[start, between], [between, goal]]);
+            let (given, other) = self.by_third(start, goal, other_than([start, goal], places, random));
+            ends.extend(given);
+            ruled_out = Some(other);
         }
         while ends.len() < count {
             let [from, to] = [0, 1].map(|_| random.from_to(0, places - 1));
-            if from != to && !(self.is_apart() && [from, to] == [start, goal]) {
+            if from != to && Some([from, to]) != ruled_out {
                 ends.insert([from, to]);
             }
         }
@@ -148,7 +161,7 @@ impl Ends {
             Ends::Any | Ends::GoalAtStart | Ends::Apart => vec![],
             Ends::StartOccupied => vec![occupancy_near([0, 1], start, steps, random)],
             Ends::GoalOccupied => vec![occupancy_near([0, steps], goal, steps, random)],
-            Ends::ApartAndLate => {
+            Ends::ApartAndLate | Ends::BesideStore => {
                 let least = steps / 2;
                 vec![[goal, 0, random.from_to(least, least.max(steps.saturating_sub(1 + unloading)))]]
             }
@@ -162,7 +175,7 @@ impl Waiting {
     /// Random wait lines of so many places.
     fn waits(self, places: u32, start: u32, random: &mut Random) -> Vec<u32> {
         let (costs, is_equal) = match self {
-            Waiting::Any(costs) => (costs, random.percent(40)),
+            Waiting::Any(costs) => (costs, random.percent(50)),
             Waiting::Equal(costs) => (costs, true),
             Waiting::ByPlace(costs) => (costs, false),
             Waiting::AtStart([one, other]) => {

@@ -7,7 +7,7 @@ use std::iter::{once, repeat};
 use std::ops::RangeInclusive;
 
 /// A cost: three figures, added and compared place by place.
-type Cost = [u32; 3];
+pub type Cost = [u32; 3];
 
 /// The sum of two costs.
 fn sum(one: Cost, other: Cost) -> Cost {
@@ -15,12 +15,12 @@ fn sum(one: Cost, other: Cost) -> Cost {
 }
 
 /// Whether no figure of a cost is greater than the other's.
-fn is_within(one: Cost, other: Cost) -> bool {
+pub fn is_within(one: Cost, other: Cost) -> bool {
     one.iter().zip(other).all(|(&figure, most)| figure <= most)
 }
 
 /// Whether a cost dominates another: no figure is greater and one is smaller.
-fn dominates(one: Cost, other: Cost) -> bool {
+pub fn dominates(one: Cost, other: Cost) -> bool {
     is_within(one, other) && one != other
 }
 
