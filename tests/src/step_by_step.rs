@@ -110,16 +110,18 @@ impl Sheet {
         self.intervals[place as usize].iter().any(|run| run.contains(&one) && run.contains(&other))
     }
 
+    /// The cost of an arrival after waiting at its place until a step.
+    fn waited(&self, one: &Arrival, until: u32) -> Cost {
+        sum(one.cost, self.waiting_at(one.place).map(|figure| figure * (until - one.step)))
+    }
+
     /// Whether an arrival leads another one: by waiting it would be there at no greater cost.
     fn leads(&self, one: &Arrival, other: &Arrival) -> bool {
         one != other
             && one.place == other.place
             && self.in_one_interval(one.place, one.step, other.step)
             && one.step <= other.step
-            && is_within(
-                sum(one.cost, self.waiting_at(one.place).map(|figure| figure * (other.step - one.step))),
-                other.cost,
-            )
+            && is_within(self.waited(one, other.step), other.cost)
     }
 
     /// The arrivals that no other leads.

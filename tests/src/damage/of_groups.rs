@@ -1,7 +1,7 @@
 //! Damage to the groups lent to the writer.
 
 use super::{NumberDamage, OrderDamage, damage_order, damaged_number, random_line};
-use crate::groups::Groups;
+use crate::groups::{Groups, LINES};
 use crate::random::Random;
 
 /// Numbers that a sheet's five digits cannot say: only a host program lends them.
@@ -13,13 +13,15 @@ pub enum GroupDamage {
     Order(OrderDamage),
     Number(NumberDamage),
     NumberBeyond,
+    /// The lines from one on are missing, in its group and in those after it.
+    Cut,
     NumberAdded,
     NumberRemoved,
     GroupEmptied,
 }
 
 /// Every kind of damage to groups: first to numbers, then to the order of lines, then to the lengths.
-pub const GROUP_DAMAGES: [GroupDamage; 12] = [
+pub const GROUP_DAMAGES: [GroupDamage; 13] = [
     GroupDamage::Number(NumberDamage::AtBoundary),
     GroupDamage::Number(NumberDamage::Nudged),
     GroupDamage::Number(NumberDamage::Copied),
@@ -29,20 +31,21 @@ pub const GROUP_DAMAGES: [GroupDamage; 12] = [
     GroupDamage::Order(OrderDamage::LinesSwapped),
     GroupDamage::Order(OrderDamage::LineMoved),
     GroupDamage::Order(OrderDamage::LineAppended),
+    GroupDamage::Cut,
     GroupDamage::NumberAdded,
     GroupDamage::NumberRemoved,
     GroupDamage::GroupEmptied,
 ];
 
 /// So many kinds are drawn from: to numbers alone, to whole lines alone, or all.
-const KINDS: [usize; 3] = [4, 9, 12];
+const KINDS: [usize; 3] = [4, 10, 13];
 
 /// Damages groups one to three times, in half of the cases at one and the same line; hands back what was done.
 pub fn damage_groups(groups: &mut Groups, random: &mut Random) -> Vec<GroupDamage> {
     let count = 1 + random.below(3);
     let kinds = &GROUP_DAMAGES[..random.pick(&KINDS)];
     let at_one_line = random.percent(50);
-    let mut kind = random.below(5);
+    let mut kind = random.below(LINES.len());
     let mut at = None;
     let mut done = Vec::new();
     for _ in 0..count {
@@ -51,15 +54,22 @@ pub fn damage_groups(groups: &mut Groups, random: &mut Random) -> Vec<GroupDamag
         if !group.is_empty() {
             let lines = group.len().div_ceil(width);
             let line = at.unwrap_or_else(|| random_line(random, lines)).min(lines - 1);
-            damage_group(group, width, line, damage, random);
+            damage_group(groups, kind, line, damage, random);
             done.push(damage);
             at = at_one_line.then_some(line);
         }
         if !at_one_line {
-            kind = random.below(5);
+            kind = random.below(LINES.len());
         }
     }
     done
+}
+
+/// Removes the lines of a group from one on, and all later groups.
+fn cut(groups: &mut Groups, kind: usize, line: usize) {
+    let (group, width) = group_of(groups, kind);
+    group.truncate(line * width);
+    (kind + 1..LINES.len()).for_each(|later| group_of(groups, later).0.clear());
 }
 
 /// The group of a kind, and the count of numbers on its lines.
@@ -74,7 +84,8 @@ fn group_of(groups: &mut Groups, kind: usize) -> (&mut Vec<u32>, usize) {
 }
 
 /// Damages a group that is not empty at one of its lines.
-fn damage_group(group: &mut Vec<u32>, width: usize, line: usize, damage: GroupDamage, random: &mut Random) {
+fn damage_group(groups: &mut Groups, kind: usize, line: usize, damage: GroupDamage, random: &mut Random) {
+    let (group, width) = group_of(groups, kind);
     let first = line * width;
     let last = group.len().min(first + width) - 1;
     let at = random.from_to(first as u32, last as u32) as usize;
@@ -94,5 +105,6 @@ fn damage_group(group: &mut Vec<u32>, width: usize, line: usize, damage: GroupDa
             group.remove(at);
         }
         GroupDamage::GroupEmptied => group.clear(),
+        GroupDamage::Cut => cut(groups, kind, line),
     }
 }

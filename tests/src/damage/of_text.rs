@@ -40,7 +40,7 @@ pub enum TextDamage {
 
 /// Every kind of damage to a text: first to numbers, then to the order of lines, then to closures, then to waits, then all
 /// that makes a line ill-formed.
-pub const TEXT_DAMAGES: [TextDamage; 44] = [
+pub const TEXT_DAMAGES: [TextDamage; 45] = [
     TextDamage::Number(NumberDamage::AtBoundary),
     TextDamage::Number(NumberDamage::Nudged),
     TextDamage::Number(NumberDamage::Copied),
@@ -60,6 +60,7 @@ pub const TEXT_DAMAGES: [TextDamage; 44] = [
     TextDamage::Wait(WaitDamage::FirstMissing),
     TextDamage::Wait(WaitDamage::OneMissing),
     TextDamage::Wait(WaitDamage::LastMissing),
+    TextDamage::Wait(WaitDamage::Cut),
     TextDamage::Wait(WaitDamage::Doubled),
     TextDamage::Wait(WaitDamage::Swapped),
     TextDamage::Wait(WaitDamage::OneTooMany),
@@ -89,7 +90,7 @@ pub const TEXT_DAMAGES: [TextDamage; 44] = [
 
 /// So many kinds are drawn from: to numbers alone, to well-formed lines alone, without closures, with them and with waits
 /// too, or all. The tests after 2, and the order among them, show only on well-formed lines.
-const KINDS: [usize; 6] = [3, 8, 16, 26, 44, 44];
+const KINDS: [usize; 6] = [3, 8, 16, 27, 45, 45];
 
 /// A text of up to 40 random bytes, often the empty one.
 pub fn random_bytes(random: &mut Random) -> Vec<u8> {

@@ -10,6 +10,8 @@ pub enum WaitDamage {
     /// One of them is missing, mostly neither the first nor the last.
     OneMissing,
     LastMissing,
+    /// The text ends before one of them.
+    Cut,
     Doubled,
     /// One has changed places with the next.
     Swapped,
@@ -52,6 +54,7 @@ fn damage_at(lines: &mut Vec<String>, at: usize, damage: WaitDamage, random: &mu
         WaitDamage::FirstMissing | WaitDamage::OneMissing | WaitDamage::LastMissing => {
             lines.remove(at);
         }
+        WaitDamage::Cut => lines.truncate(at),
         WaitDamage::Doubled => lines.insert(at, lines[at].clone()),
         WaitDamage::Swapped => {
             let next = (at + 1) % lines.len();
