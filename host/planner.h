@@ -2,18 +2,23 @@
  *
  * The sheet, the front, the tie rule and the refusals are those of document 01, "The corridor sheet and the journeys
  * it offers", with what document 02 changed (E2: the time to unload; E4: the kinds of bytes; E5: the closures; E6:
- * PLANNER_LATE; E9: the tie rule); their open points are decided in docs/DECISIONS.md. What each call hands back and
- * leaves in every lent buffer is proved of the calls in crates/planner/src/lib.rt. That this header declares those
- * calls is not proved; tests/host runs each of them through it.
+ * PLANNER_LATE; E8: waiting costs by place; E9: the tie rule); their open points are decided in docs/DECISIONS.md. What
+ * each call hands back and leaves in every lent buffer is proved of the calls in crates/planner/src/lib.rt. That this
+ * header declares those calls is not proved; tests/host runs each of them through it.
  *
- * The S line is `S,places,steps,start,goal,w1,w2,w3,u`: the count of places, the last step, where a journey starts and
- * ends, the cost of waiting one step, and the steps that unloading takes, 0 to 99. An arrival at the goal at step A
- * counts only if the goal is free at each step from A to A + u, and A + u is at most the last step. A journey is lawful
- * only if its arrival counts; the arrival step handed back is A.
+ * The lines of a sheet come in the order S, W, C, X, O: one S, one W for each place, up to 256 of each other kind.
+ *
+ * The S line is `S,places,steps,start,goal,u`: the count of places, 1 to 64, the last step, where a journey starts and
+ * ends, and the steps that unloading takes, 0 to 99. An arrival at the goal at step A counts only if the goal is free
+ * at each step from A to A + u, and A + u is at most the last step. A journey is lawful only if its arrival counts; the
+ * arrival step handed back is A.
+ *
+ * A W line, `W,place,w1,w2,w3`, tells the cost of waiting one step at the place, each figure 0 to 60,000. Every place
+ * has one, 0 first, then 1, and so on to the last.
  *
  * A closure, `X,from,to,step`, between the C and the O lines, closes the corridor from the one place to the other to a
- * cart that would depart by it at that step, 0 to 255; one at the last step or past it has no effect. The other direction
- * is not closed by it: for a bed that is moved towards the cart the sheet names the cart's direction.
+ * cart that would depart by it at that step, 0 to 255; one at the last step or past it has no effect. The other
+ * direction is not closed by it: for a bed that is moved towards the cart the sheet names the cart's direction.
  *
  * Holds for every call:
  * - An array is passed as a pointer and a length, the count of its elements. A pointer is never null, not even where
@@ -41,12 +46,14 @@ extern "C" {
 #endif
 
 #define PLANNER_MOST_BYTES 16384    /* of a sheet that is read; every sheet that can be written fits too */
+#define PLANNER_MOST_PLACES 64      /* of a sheet */
 #define PLANNER_MOST_LINES 256      /* of corridors, of closures, and of occupancies */
 #define PLANNER_MOST_PATH 256       /* places of a journey: steps 0 to 255 */
 #define PLANNER_MOST_TABLE 41943039 /* numbers of an arrivals table; past them the search is hundreds of times slower */
 #define PLANNER_MOST_STACK 200000   /* bytes of stack of any call */
 #define PLANNER_FIGURES 3           /* of a cost: charge, noise, doors */
-#define PLANNER_HEAD_WIDTH 8        /* places, steps, start, goal, w1, w2, w3, u */
+#define PLANNER_HEAD_WIDTH 5        /* places, steps, start, goal, u */
+#define PLANNER_WAIT_WIDTH 4        /* place, w1, w2, w3 */
 #define PLANNER_CORRIDOR_WIDTH 5    /* from, to, c1, c2, c3 */
 #define PLANNER_CLOSURE_WIDTH 3     /* from, to, step */
 #define PLANNER_OCCUPANCY_WIDTH 3   /* place, first, last */
@@ -55,15 +62,17 @@ extern "C" {
 
 /* The refusals of the sheet, 1 to 7, 15 and 16, and those of the host, 8 to 12. PLANNER_TOO_LONG comes first; then the
  * first faulty line is named, tested in the order 2, 3, 7, 4, 6, 15, 16, 5; then 8 and 9, or 8, 10 and 11 for a
- * journey. The writer: 2, then 7, 4, 6, 15, 16, 5 line by line, then 12. */
+ * journey. The writer: 2, then 3, 7, 4, 6, 15, 16, 5 line by line, then 12. */
 enum PlannerRefusal {
     PLANNER_SERVED = 0,           /* no refusal */
     /* of the sheet: caused by its writer */
     PLANNER_TOO_LONG = 1,         /* more than PLANNER_MOST_BYTES bytes; line 0 */
-    PLANNER_MALFORMED = 2,        /* a first field other than S, C, X, O; a wrong count of fields; a bad number; an
-                                     empty line; a line feed missing */
-    PLANNER_OUT_OF_ORDER = 3,     /* no S line first, a second S, C after X or O, or X after O; empty input, at
-                                     line 1 */
+    PLANNER_MALFORMED = 2,        /* a first field other than S, W, C, X, O; a wrong count of fields; a bad number;
+                                     an empty line; a line feed missing */
+    PLANNER_OUT_OF_ORDER = 3,     /* no S line first, or a second S; a line after one of a later kind; a W line of
+                                     another place than the next, or one more than places; a C, X or O line before
+                                     the last W line; input that ends before it, at the number after its last line
+                                     (empty input: 1) */
     PLANNER_OUT_OF_RANGE = 4,     /* a number outside its range */
     PLANNER_NOT_ASCENDING = 5,    /* a C, X or O line not above the one of its kind before */
     PLANNER_REVERSED = 6,         /* a corridor or a closure from a place to itself, or last below first */
@@ -88,12 +97,13 @@ enum PlannerKind {
     PLANNER_KIND_OTHER = 4       /* every other byte */
 };
 
-/* What planner_read hands back: the sheet as four groups of numbers, zeros past the last line of each. */
+/* What planner_read hands back: the sheet as five groups of numbers, zeros past the last line of each. */
 typedef struct {
     uint32_t refusal;
     uint32_t line;
-    uint32_t lines[4];                                                   /* count of S (1), C, X and O lines */
+    uint32_t lines[5];                                                   /* count of S (1), W, C, X and O lines */
     uint32_t head[PLANNER_HEAD_WIDTH];                                   /* the S line */
+    uint32_t waits[PLANNER_MOST_PLACES * PLANNER_WAIT_WIDTH];            /* the W lines, one after the other */
     uint32_t corridors[PLANNER_MOST_LINES * PLANNER_CORRIDOR_WIDTH];     /* the C lines, one after the other */
     uint32_t closures[PLANNER_MOST_LINES * PLANNER_CLOSURE_WIDTH];       /* the X lines, one after the other */
     uint32_t occupancies[PLANNER_MOST_LINES * PLANNER_OCCUPANCY_WIDTH];  /* the O lines, one after the other */
@@ -124,25 +134,28 @@ typedef struct {
 
 /* Reads a sheet.
  *
- * Hands back: the four groups by value, which planner_write turns back into the same bytes.
+ * Hands back: the five groups by value, which planner_write turns back into the same bytes.
  * Refuses with: the refusals of the sheet, 1 at line 0, the others at the first line at fault.
  * Lent to be written: nothing.
  * Stack: 37,112 bytes measured. */
 PlannerSheetRead planner_read(const uint8_t *sheet, size_t sheet_len);
 
-/* Writes the sheet of four groups: the S line's eight numbers, five for each corridor, three for each closure, three
- * for each occupancy. The lengths are counts of numbers, of a read sheet: PLANNER_HEAD_WIDTH,
- * lines[1] * PLANNER_CORRIDOR_WIDTH, lines[2] * PLANNER_CLOSURE_WIDTH and lines[3] * PLANNER_OCCUPANCY_WIDTH.
+/* Writes the sheet of five groups: the S line's five numbers, four for each place's waiting cost, five for each
+ * corridor, three for each closure, three for each occupancy. The lengths are counts of numbers, of a read sheet:
+ * PLANNER_HEAD_WIDTH, lines[1] * PLANNER_WAIT_WIDTH, lines[2] * PLANNER_CORRIDOR_WIDTH,
+ * lines[3] * PLANNER_CLOSURE_WIDTH and lines[4] * PLANNER_OCCUPANCY_WIDTH.
  *
  * Hands back: the count of bytes written; planner_read turns them back into the same groups.
- * Refuses with: 2 (line 0: head_len is not 8, corridors_len no multiple of 5, closures_len or occupancies_len none of
- * 3); 4 to 7, 15 and 16 (the first line at fault, as counted in the sheet to be written); 12 (line 0).
- * PLANNER_MOST_BYTES bytes are always enough.
+ * Refuses with: 2 (line 0: head_len is not 5, waits_len no multiple of 4, corridors_len none of 5, closures_len or
+ * occupancies_len none of 3); 3 to 7, 15 and 16 (the first line at fault, as counted in the sheet to be written); 12
+ * (line 0). 3 is for waits alone: a row of another place than the next, or one more than places, at its line; too few,
+ * at the line after the last of them, also where no line follows. PLANNER_MOST_BYTES bytes are always enough.
  * out: the bytes of the sheet, and past them kept. Refused: kept.
  * Stack: 11,688 bytes measured. */
-PlannerSheetWritten planner_write(const uint32_t *head, size_t head_len, const uint32_t *corridors,
-                                  size_t corridors_len, const uint32_t *closures, size_t closures_len,
-                                  const uint32_t *occupancies, size_t occupancies_len, uint8_t *out, size_t out_len);
+PlannerSheetWritten planner_write(const uint32_t *head, size_t head_len, const uint32_t *waits, size_t waits_len,
+                                  const uint32_t *corridors, size_t corridors_len, const uint32_t *closures,
+                                  size_t closures_len, const uint32_t *occupancies, size_t occupancies_len,
+                                  uint8_t *out, size_t out_len);
 
 /* Works out the front of a sheet: every cost of a lawful journey that no lawful journey's cost dominates, each once.
  * Room for arrivals is arrivals_len / PLANNER_ARRIVAL_WIDTH, for costs list_len / PLANNER_COST_WIDTH, rounded down.

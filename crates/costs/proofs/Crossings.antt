@@ -1,22 +1,24 @@
 -- Corridors, closures and waits in the array: the five numbers at a corridor's line are its ends and its cost, a closure is sought among the lines of
--- its kind, and the cost of a wait stands in the S line.
+-- its kind, and the cost of a wait stands in the W line of its place.
 -- Assumes nothing.
 use mathlib.Core.Path.{_≡_, sym, _∙_, ap, subst}
 use mathlib.Core.Bool.{Bool, not}
 use mathlib.Core.List.{List, [], _∷_}
-use Prim.Native.Nat.{ℕ, _+_, _*_, _/_, _<_}
+use mathlib.Core.Logic.{_⊎_, inl, inr}
+use Prim.Native.Nat.{ℕ, _+_, _*_, _-_, _/_, _≤_, _<_}
 use native.Mathlib.Omega.{arith}
-use lib.ListN.{length, getD, take}
-use lib.Seq.{take-all}
-use Rattle.sheet.specs.Lists.{_∈_, number, numbersFrom}
-use Rattle.sheet.specs.Kinds.{width, kindC, kindX}
-use Rattle.sheet.specs.Sheet.{from, to}
+use lib.ListN.{length, getD, take, drop, replicate, List·getD-append, List·getD-eq-default}
+use lib.Seq.{take-all, getD-take, getD-drop}
+use Rattle.sheet.specs.Lists.{_∈_, number, numbersFrom, filled, flat}
+use Rattle.sheet.specs.Kinds.{width, kindW, kindC, kindX}
+use Rattle.sheet.specs.Sheet.{Sheet, from, to}
 use Rattle.sheet.specs.Store.{baseOf, storeRoom, SomeStore, partOf, sheetIn}
 use Rattle.sheet.specs.Seek.{Seekable, Listed}
-use Rattle.sheet.specs.Laws.Decided.{Decided, holds, fails, decided-as, from-same}
+use Rattle.sheet.specs.Laws.Decided.{Decided, holds, fails, decided-as, lt-or-le, from-same}
 use Rattle.sheet.specs.Laws.Keys.{GroupIs}
-use Rattle.sheet.specs.Laws.Rows.{rows-at}
-use Rattle.sheet.specs.Laws.Store.{part-number, store-valid, store-numbers, store-few, head-number, store-length, store-seekable, store-listed, listed-store}
+use Rattle.sheet.specs.Laws.Rows.{Wide, rows-at, flat-length, flat-at}
+use Rattle.sheet.specs.Laws.Stores.{filled-past}
+use Rattle.sheet.specs.Laws.Store.{part-number, store-valid, store-numbers, store-few, store-full, store-sheet, store-length, store-seekable, store-listed, listed-store}
 use Rattle.sheet.specs.declared.Place.{Place}
 use Rattle.sheet.specs.declared.seek.Group.{Group}
 use Rattle.costs.specs.Costs.{figures}
@@ -106,6 +108,35 @@ module _ {lines all : List ℕ} (S : SomeStore lines all) where
         back : Closed (sheetIn lines all) u w t → Listed all g v
         back m = listed-store (S .store) (kindX .order) (omega arith) G v (u ∷ w ∷ t ∷ []) m (sym e)
 
-  pub wait-cost : (v : Place) → numbersFrom figures 4 all ≡ waitAt (sheetIn lines all) v
+  -- the W lines, where they stand in the array, zeros past the last
+  module _ (v : ℕ) (l : v < 64) where
+    abbrev waits : List (List ℕ)
+    waits = S .sheet .waits
+
+    filled-wait : (j : ℕ) → j < 4 → number (filled 256 (flat waits)) (v * 4 + j) ≡ number (getD waits v []) j
+    filled-wait j m = go (lt-or-le v (length waits))
+      where
+        wide : Wide 4 waits
+        wide w i = S .store .valid .waits w i .wide
+
+        go : (v < length waits) ⊎ (length waits ≤ v) → number (filled 256 (flat waits)) (v * 4 + j) ≡ number (getD waits v []) j
+        go (inl b) =
+            List·getD-append (flat waits) (replicate (256 - length (flat waits)) 0) 0 (v * 4 + j) (omega (arith, flat-length 4 waits wide))
+            ∙ flat-at 4 waits wide v j b m
+        go (inr b) = rw (List·getD-eq-default waits [] b) (filled-past 256 (flat waits) (v * 4 + j) (omega (arith, flat-length 4 waits wide)))
+
+    wait-number : (j : ℕ) → j < 4 → number all (baseOf (kindW .order) + (v * 4 + j)) ≡ number (getD (sheetIn lines all .waits) v []) j
+    wait-number j m =
+        sym (getD-drop (baseOf (kindW .order)) all (v * 4 + j) 0)
+        ∙ sym (getD-take 256 (drop (baseOf (kindW .order)) all) (v * 4 + j) 0 (omega arith))
+        ∙ ap (λ (x : List ℕ). number x (v * 4 + j)) (store-full (S .store) (kindW .order) (omega arith))
+        ∙ filled-wait j m
+        ∙ ap (λ (s : Sheet). number (getD (s .waits) v []) j) (sym (store-sheet (S .store)))
+
+  pub wait-cost : (v : Place) → v .0 < 64 → numbersFrom figures (baseOf (kindW .order) + v .0 * 4 + 1) all ≡ waitAt (sheetIn lines all) v
   unfolding waitAt waitOf
-  wait-cost v = from-same figures 4 4 all (partOf lines all 0) (λ j l. head-number (S .store) (4 + j) (omega arith))
+  wait-cost v l =
+      from-same figures (baseOf (kindW .order) + v .0 * 4 + 1) 1 all (getD (sheetIn lines all .waits) (v .0) [])
+      (λ j m.
+      let e : baseOf (kindW .order) + v .0 * 4 + 1 + j ≡ baseOf (kindW .order) + (v .0 * 4 + (1 + j)) = omega arith in
+      ap (number all) e ∙ wait-number (v .0) l (1 + j) (omega arith))

@@ -1,15 +1,16 @@
--- The cost of waiting at a place and of crossing a corridor at a step (document 01, "The sheet": w1 to w3, c1 to c3; document 02, E5: closures).
--- Waiting costs the same at every place.
+-- The cost of waiting at a place and of crossing a corridor at a step (document 01, "The sheet": w1 to w3, c1 to c3; document 02, E5: closures, and E8:
+-- "Each wait costs what its place says").
 use mathlib.Core.Path.{_≡_}
 use mathlib.Core.List.{List, [], _∷_}
 use Prim.Native.Nat.{ℕ}
+use lib.ListN.{getD}
 use Rattle.sheet.specs.Lists.{_∈_, numbersFrom}
 use Rattle.sheet.specs.Sheet.{Sheet, from, to}
 use Rattle.costs.specs.Costs.{Cost, figures}
 
--- the cost of waiting one step at place v: w1 to w3 of the S line
+-- the cost of waiting one step at place v: w1 to w3 of its W line, which stands at position v (Laws.Moves.wait-line)
 unfoldable pub waitOf : Sheet → ℕ → Cost
-waitOf s v = numbersFrom figures 4 (s .head)
+waitOf s v = numbersFrom figures 1 (getD (s .waits) v [])
 
 -- the cost of a corridor: c1 to c3 of its C line
 unfoldable pub costOf : List ℕ → Cost

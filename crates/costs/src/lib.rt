@@ -18,6 +18,8 @@ use sheet::kinds::CLOSURE;
 use sheet::kinds::CORRIDOR;
 use sheet::kinds::FIRST_CLOSURE;
 use sheet::kinds::FIRST_CORRIDOR;
+use sheet::kinds::FIRST_WAIT;
+use sheet::kinds::WAIT;
 use sheet::kinds::X_LINE;
 use sheet::seek::Group;
 use sheet::seek::holds;
@@ -103,10 +105,10 @@ pub fn cost_from(numbers: &[u32], at: usize) -> [u32; 3]
 
 // The cost of waiting one step at v, on the sheet in the array.
 pub fn wait_at(lines: &[u32], all: &[u32], v: Place) -> [u32; 3]
-    requires { ⌜ SomeStore (now lines) (now all) ⌝ }
+    requires { ⌜ (SomeStore (now lines) (now all)) × (v .0 < 64) ⌝ }
     ensures { λ r. ⌜ r ≡ waitAt (sheetIn (now (lines .entry)) (now (all .entry))) v ⌝ }
 {
-    cost_from(all, 4)
+    cost_from(all, FIRST_WAIT + v.0 as usize * WAIT + 1)
 }
 
 // Whether the way from u to v is closed for a cart that departs at step t, on the sheet in the array.

@@ -15,6 +15,7 @@ use Rattle.sheet.specs.Sheet.{Sheet, to}
 use Rattle.sheet.specs.Store.{SomeStore, sheetIn}
 use Rattle.sheet.specs.Laws.Decided.{false-not-true, lt-or-le, from-length}
 use Rattle.sheet.specs.Laws.Order.{and-true, true-and}
+use Rattle.sheet.specs.Laws.Members.{mem-at}
 use Rattle.sheet.specs.Laws.Store.{store-valid}
 use Rattle.costs.specs.Costs.{Cost, figures, add, times, AtMost}
 use Rattle.costs.specs.Moves.{waitOf, Crossing}
@@ -28,7 +29,7 @@ use Rattle.intervals.specs.FirstSteps.{Derived}
 use Rattle.intervals.specs.Laws.Runs.{run-join, since-run}
 use Rattle.arrivals.specs.Arrivals.{Arrival, keyOf}
 use Rattle.arrivals.specs.Computed.{arrival}
-use Rattle.arrivals.specs.Laws.Bounds.{arrives-bounded}
+use Rattle.arrivals.specs.Laws.Bounds.{arrives-bounded, arrives-place}
 use Rattle.journeys.specs.Inner.Lookup.{markAt, standAt, Sorted}
 use Rattle.journeys.specs.Inner.Waits.{Rowed, WaitingRow}
 use Rattle.journeys.specs.Inner.Marks.{Raised, CrossesBy, CrossesLater, Settled, Enterable, Onto, OntoAny, Passed, Passable}
@@ -43,6 +44,13 @@ from-low {lines} {all} d {k} {u} {v} {t} {c} x =
     let h = store-valid (d .store) in
     let y = by-crossing (sheetIn lines all) k u v t c x in
     omega (arith, y .leaves, h .corridors (y .line) (y .listed) .from-place, h .most-places)
+
+-- and to one
+pub to-low : {lines all : List ℕ} → SomeStore lines all → (l : ℕ) → l < number lines (kindC .order) → to (getD (sheetIn lines all .corridors) l []) < 64
+to-low {lines} {all} d l h =
+    let v = store-valid (d .store) in
+    let m = mem-at [] (sheetIn lines all .corridors) l (omega (arith, corridor-count d)) in
+    omega (arith, v .corridors (getD (sheetIn lines all .corridors) l []) m .to-place, v .most-places)
 
 kept-three : (s : Sheet) (xs : List ℕ) (k t : ℕ) → length (kept s (standAt xs k) t) ≡ figures
 kept-three s xs k t =
@@ -303,6 +311,11 @@ row-counted {lines} {all} {since} {n} {table} d {k} h e =
     let s = sheetIn lines all in
     subst (λ (a : Arrival). Within 1000000000 (a .cost)) (sym e)
     (record { every = λ i. omega (arith, arrives-bounded s (store-valid (d .derived .store)) (standAt table k) (d .rows .each k h .arrives) i) })
+
+pub row-low : {lines all since : List ℕ} {n : ℕ} {table : List ℕ} → Rowed lines all since n table → {k : ℕ} → k < n → {x : Arrival} → x ≡ standAt table k → x .place < 64
+row-low {lines} {all} {since} {n} {table} d {k} h e =
+    let v = store-valid (d .derived .store) in
+    omega (arith, arrives-place (sheetIn lines all) v (standAt table k) (d .rows .each k h .arrives), v .most-places, ap (λ (a : Arrival). a .place) e)
 
 pub waits-counted : {n : ℕ} {w r : Cost} → n ≤ 255 → Within 60000 w → r ≡ times n w → Within 1000000000 r
 waits-counted {n} {w} h x e = subst (Within 1000000000) (sym e) (within-more (n * 60000) 1000000000 (times n w) (omega arith) (within-times n 60000 w x))

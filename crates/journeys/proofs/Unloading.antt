@@ -23,7 +23,7 @@ countable {lines} {all} {since} d =
         size = d .firsts .size;
         place = omega (arith, head-number (d .store) 3 (omega arith), v .goal-place, v .most-places);
         day = omega (arith, head-number (d .store) 1 (omega arith), v .most-steps);
-        short = omega (arith, head-number (d .store) 7 (omega arith), v .most-unload);
+        short = omega (arith, head-number (d .store) 4 (omega arith), v .most-unload);
       };
     }
 
@@ -31,7 +31,7 @@ one-is : (b : Bool) → eqb (pick b 1 0) 1 ≡ b
 one-is true = refl
 one-is false = refl
 
-pub counting-in : {all since r : List ℕ} → StayTable since (number all 3) (number all 1) (number all 7) r → CountingIn all since r
+pub counting-in : {all since r : List ℕ} → StayTable since (number all 3) (number all 1) (number all 4) r → CountingIn all since r
 unfolding countsb
 counting-in {all} {since} {r} k = record { of = λ lines d. counting lines d }
   where
@@ -40,8 +40,8 @@ counting-in {all} {since} {r} k = record { of = λ lines d. counting lines d }
         let s = sheetIn lines all in
         let g : number all 3 ≡ goal s = head-number (d .store) 3 (omega arith) in
         let l : number all 1 ≡ steps s = head-number (d .store) 1 (omega arith) in
-        let u : number all 7 ≡ unload s = head-number (d .store) 7 (omega arith) in
-        record { of = λ t. ap (λ (m : ℕ). eqb m 1) (k .of _ (d .firsts) s refl t) ∙ one-is (stayb s (number all 3) (number all 1) (number all 7) t) ∙ same t g l u }
+        let u : number all 4 ≡ unload s = head-number (d .store) 4 (omega arith) in
+        record { of = λ t. ap (λ (m : ℕ). eqb m 1) (k .of _ (d .firsts) s refl t) ∙ one-is (stayb s (number all 3) (number all 1) (number all 4) t) ∙ same t g l u }
       where
         same : (t : ℕ) {g g′ l l′ u u′ : ℕ} → g ≡ g′ → l ≡ l′ → u ≡ u′ → stayb (sheetIn lines all) g l u t ≡ stayb (sheetIn lines all) g′ l′ u′ t
         same t p q r = λ i. stayb (sheetIn lines all) (p i) (q i) (r i) t

@@ -24,5 +24,5 @@ pub fn counting_of(all: &[u32], since: &[u16]) -> [u8; 256]
     requires { ⌜ Countable (now all) (now since) ⌝ }
     ensures { λ r. ⌜ CountingIn (now (all .entry)) (now (since .entry)) r ⌝ }
 {
-    stays(since, Place(all[3]), Step(all[1]), all[7])
+    stays(since, Place(all[3]), Step(all[1]), all[4])
 }

@@ -60,7 +60,8 @@ fn crosses_later(
     l: usize,
     t: Step,
 ) -> bool
-    requires { ⌜ (Derived (now lines) (now all) (now since)) × (u .0 < 64) × (l < number (now lines) (kindC .order)) × (t .0 ≤ 255) ⌝ }
+    requires { ⌜ (Derived (now lines) (now all) (now since)) × (u .0 < 64) × (l < number (now lines) (kindC .order)) × (t .0 ≤ 255)
+        × (v .0 < 64) ⌝ }
     ensures { λ r. ⌜ (r ≡ true → (settled ≡ true) × CrossesLater (sheetIn (now (lines .entry)) (now (all .entry))) l (u .0) (v .0) (t .0)) ⌝ }
 {
     if !settled {

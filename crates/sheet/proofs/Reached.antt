@@ -72,9 +72,9 @@ module _ {end : Outcome} {lines all : List ℕ} {n : ℕ} where
   pub reached-bad : {todo : List (Option Line)} → Reached end (none ∷ todo) lines all n → end ≡ refused 2 n
   reached-bad {todo = todo} R = sym (R .same) ∙ judge-none (R .before) todo ∙ ap (refused 2) (sym (R .next))
 
-  pub reached-short : {b : Bool} → Reached end [] lines all n → LacksIs lines b → b ≡ true → end ≡ refused 3 n
+  pub reached-short : {b : Bool} → Reached end [] lines all n → LacksIs lines all b → b ≡ true → end ≡ refused 3 n
   reached-short R h e =
-      sym (R .same) ∙ judge-lacking (R .before) (sym (h .of (R .before) all (R .stored)) ∙ e) ∙ ap (refused 3) (sym (R .next))
+      sym (R .same) ∙ judge-lacking (R .before) (sym (h .of (R .before) (R .stored)) ∙ e) ∙ ap (refused 3) (sym (R .next))
 
   -- the verdict on lines that were judged with no refusal
   module _ {todo : List (Option Line)} {v : Verdict} where

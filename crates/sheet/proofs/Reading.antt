@@ -54,7 +54,7 @@ stored-sheet [] lines all s e = absurd (true≢false e)
 stored-sheet (l ∷ ls) lines all s e =
     let g = passes-groups (l ∷ ls) (s .shaped) (s .passes) (omega arith) in
     record {
-      valid = passes-valid (l ∷ ls) (s .shaped) (s .passes) (omega arith);
+      valid = passes-valid (l ∷ ls) (s .shaped) (s .passes) e;
       counts = s .counts ∙ ap (map length) (sym g);
       cells = s .cells ∙ ap (λ (gs : List (List (List ℕ))). spread kinds gs) (sym g);
     }
@@ -67,10 +67,10 @@ loaded-end before e = rw e
 pub verdict-refused : {end : Outcome} {lines all : List ℕ} (k n : ℕ) → 1 ≤ k → end ≡ refused k n → VerdictIs end lines all (record { refusal = k; line = n })
 verdict-refused k n h e = record { refuses = λ z. e; holds = λ z. absurd (omega (arith, h)) }
 
-pub verdict-holds : {end : Outcome} {lines all : List ℕ} {n : ℕ} → Reached end [] lines all n → (b : Bool) → LacksIs lines b → b ≡ false
+pub verdict-holds : {end : Outcome} {lines all : List ℕ} {n : ℕ} → Reached end [] lines all n → (b : Bool) → LacksIs lines all b → b ≡ false
     → VerdictIs end lines all (record { refusal = 0; line = 0 })
 verdict-holds {end} {lines} {all} r b l e =
-    let z : lacking (r .before) ≡ false = sym (l .of (r .before) all (r .stored)) ∙ e in
+    let z : lacking (r .before) ≡ false = sym (l .of (r .before) (r .stored)) ∙ e in
     record {
       refuses = λ y. absurd (y refl);
       holds = λ y. (sheetOf (r .before), sym (r .same) ∙ loaded-end (r .before) z, stored-sheet (r .before) lines all (r .stored) z);

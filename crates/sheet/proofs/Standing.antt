@@ -7,16 +7,17 @@ use mathlib.Core.Option.{some}
 use Prim.Native.Nat.{ℕ, zero, suc, _+_, _*_, _-_, _≤_, _<_}
 use native.Mathlib.Omega.{arith}
 use native.Mathlib.Nat.{suc-mul, zero-mul}
-use lib.Dec.{eqb}
-use lib.ListN.{length, getD, take, drop}
+use mathlib.Core.Bool.{Bool, true, false}
+use lib.Dec.{ltb, eqb}
+use lib.ListN.{length, getD, take, drop, replicate, List·getD-append}
 use lib.Seq.{take-at, drop-append-add, drop-drop}
 use borrow.Author.Tests.{eq-eqb}
-use Rattle.sheet.specs.Lists.{number, _∈_, filter, flat}
-use Rattle.sheet.specs.Kinds.{Kind, width, kindS, kindC, kinds}
+use Rattle.sheet.specs.Lists.{pick, number, _∈_, filter, flat}
+use Rattle.sheet.specs.Kinds.{Kind, width, room, kindS, kindC, kinds}
 use Rattle.sheet.specs.Lines.{Line}
 use Rattle.sheet.specs.Sheet.{Sheet, group, linesFrom, headIn, latest, lacking}
-use Rattle.sheet.specs.Laws.Groups.{isKind, groupsIn, head-group, passes-sorted, lines-groups}
-use Rattle.sheet.specs.Store.{kindCount, kindAt, baseOf, storeRoom}
+use Rattle.sheet.specs.Laws.Groups.{isKind, groupsIn, first-head, head-group, passes-sorted, lines-groups}
+use Rattle.sheet.specs.Store.{kindCount, kindAt, baseOf, storeRoom, spread}
 use Rattle.sheet.specs.Inner.{Stored, RowIs, RowFits}
 use Rattle.sheet.specs.Laws.Members.{mem-filter, mem-map}
 use Rattle.sheet.specs.Laws.Rows.{Wide}
@@ -54,9 +55,20 @@ group-at before [] k h = absurd (omega arith)
 group-at before (j ∷ ks) zero h = refl
 group-at before (j ∷ ks) (suc k) h = group-at before ks k (omega arith)
 
+-- there is no line
+abbrev pub isNone : List Line → Bool
+isNone [] = true
+isNone (l ∷ ls) = false
+
+-- zeros at the front
+zeros-at : (n : ℕ) (rest : List ℕ) (i : ℕ) → i < n → number (replicate n 0 ++ rest) i ≡ 0
+zeros-at zero rest i h = absurd (omega arith)
+zeros-at (suc n) rest zero h = refl
+zeros-at (suc n) rest (suc i) h = zeros-at n rest i (omega arith)
+
 -- a sheet with the S line and the corridors of the lines so far
 abbrev soFar : List Line → Sheet
-soFar ls = record { head = headIn ls; corridors = group kindC ls; closures = []; occupancies = [] }
+soFar ls = record { head = headIn ls; waits = []; corridors = group kindC ls; closures = []; occupancies = [] }
 
 module _ {before : List Line} {lines all : List ℕ} (S : Stored before lines all) where
   pub stored-held : Held (soFar before) (groupsIn kinds before) lines all
@@ -111,7 +123,25 @@ module _ {before : List Line} {lines all : List ℕ} (S : Stored before lines al
         latest-row w i (group (kindAt k) before) (part-is .0) group-wide (omega (arith, count-is))
         ∙ ap (λ (l : List ℕ). some (take w l)) (ap (drop (i * w)) (sym (part-is .1)) ∙ drop-drop (i * w) (baseOf k) all)
 
--- something is lacking exactly where no line of the first kind is counted
-pub head-count : {before : List Line} {lines all : List ℕ} → Stored before lines all → eqb (number lines 0) 0 ≡ lacking before
+-- no line of the first kind is counted exactly where there is no line
+pub head-count : {before : List Line} {lines all : List ℕ} → Stored before lines all → eqb (number lines 0) 0 ≡ isNone before
 head-count {before = []} S = rw (count-is S {k = 0} (omega arith))
 head-count {before = m ∷ before} S = rw (count-is S {k = 0} (omega arith), head-group m before (S .shaped) (S .passes))
+
+-- number i of the S line, which stands first in the array; zeros where there is none
+pub head-number : {before : List Line} {lines all : List ℕ} → Stored before lines all → (i : ℕ) → i < width kindS → number (headIn before) i ≡ number all i
+head-number {before = []} S i b = sym (ap (λ (l : List ℕ). number l i) (S .cells) ∙ zeros-at (room kindS) (drop (room kindS) (spread kinds (groupsIn kinds []))) i b)
+head-number {before = m ∷ before} S i b =
+    let f : m .kind ≡ kindS = first-head m before (S .shaped) (S .passes) in
+    let q = part-is S {k = 0} (omega arith) in
+    let g = head-group m before (S .shaped) (S .passes) in
+    let w : i < length (m .numbers) = omega (arith, S .shaped m (inl refl) .count, ap width f) in
+    sym
+    (ap (λ (l : List ℕ). number l i) (q .1 ∙ ap (λ (x : List (List ℕ)). flat x ++ q .0) g ∙ append-assoc (m .numbers) [] (q .0))
+    ∙ List·getD-append (m .numbers) (q .0) 0 i w)
+
+-- something is lacking exactly where no line of the first kind is counted, or fewer of the second than places
+pub lacks-count : {before : List Line} {lines all : List ℕ} → Stored before lines all
+    → lacking before ≡ pick (eqb (number lines 0) 0) true (ltb (number lines 1) (number all 0))
+lacks-count {before = []} S = rw (head-count S)
+lacks-count {before = m ∷ before} S = rw (head-count S, count-is S {k = 1} (omega arith), head-number S 0 (omega arith))

@@ -13,23 +13,24 @@ use lib.Seq.{getD-take, getD-drop, take-take}
 use borrow.Author.Tests.{ltb-true, ltb-false, eq-eqb, ne-eqb, eqb-true, eqb-false, not-false}
 use Rattle.sheet.specs.Lists.{pick, number, any, flat}
 use Rattle.sheet.specs.Computed.{lexb}
-use Rattle.sheet.specs.Kinds.{width, kindS, kindC, kindX, kindO}
+use Rattle.sheet.specs.Kinds.{width, kindS, kindW, kindC, kindX, kindO}
 use Rattle.sheet.specs.Lines.{Line}
-use Rattle.sheet.specs.Sheet.{from, to, first, group, misplaced, tooMany, outside, headIn, unpaired, unknown, late, latest, notAbove}
+use Rattle.sheet.specs.Sheet.{from, to, first, group, outOfTurn, misplaced, tooMany, outside, headIn, unpaired, unknown, late, latest, notAbove}
 use Rattle.sheet.specs.Store.{kindCount, kindAt}
 use Rattle.sheet.specs.Seek.{Listed}
-use Rattle.sheet.specs.Inner.{limitAt, pairAt, lineAt, misplacedBy, lateBy, notAboveBy, RowIs, Stored}
+use Rattle.sheet.specs.Inner.{limitAt, pairAt, lineAt, turnBy, misplacedBy, lateBy, notAboveBy, RowIs, Stored}
 use Rattle.sheet.specs.Laws.Order.{and-true, true-and, bool-same}
 use Rattle.sheet.specs.Laws.Decided.{Decided, yes-of, is-yes}
 use Rattle.sheet.specs.Laws.Members.{any-mem, mem-any}
 use Rattle.sheet.specs.Laws.Keys.{GroupIs, listed-in, in-listed}
 use Rattle.sheet.specs.Laws.Passed.{or-false, any-false, false-any}
+use Rattle.sheet.specs.Laws.Turns.{other-turn}
 use Rattle.sheet.specs.Laws.Kinds.{order-at, kind-at, order-below, key-inside}
 use Rattle.sheet.specs.Laws.Groups.{group-none, first-head, head-group}
 use Rattle.sheet.specs.declared.kinds.Row.{Row}
 use Rattle.sheet.specs.declared.seek.Group.{Group}
 use Rattle.sheet.proofs.Passing.{counted}
-use Rattle.sheet.proofs.Standing.{group-some, stored-held, group-wide, count-is, lines-length, last-is, part-is, head-count}
+use Rattle.sheet.proofs.Standing.{group-some, stored-held, group-wide, count-is, lines-length, last-is, head-number, head-count}
 
 -- two tests that fail alike
 same-fails : (a b : Bool) → (a ≡ false → b ≡ false) → (b ≡ false → a ≡ false) → a ≡ b
@@ -83,18 +84,36 @@ later-counted {before = before} {lines = lines} S k =
     counted-below lines k o e (omega (arith, lines-length S))
     (rw (count-is S b, kind-at (m .kind) (S .shaped m j .known)) (group-some m before j))))
 
+-- test 3, by the turn
+turn-is : {before : List Line} {lines all : List ℕ} → Stored before lines all → {k : ℕ} → k < kindCount → (v : List ℕ)
+    → outOfTurn before (lineAt k v) ≡ turnBy lines all k v
+turn-is {before} {lines} {all} S {k} h v =
+    rw (order-at k h, count-is S {k = 1} (omega arith), head-number S 0 (omega arith)) (go (eqb k (kindW .order)) refl)
+  where
+    t : Bool
+    t = ltb (length (group kindW before)) (number all 0)
+
+    go : (b : Bool) → eqb k (kindW .order) ≡ b
+        → pick b (not (t && eqb (number (take (width (kindAt k)) v) 0) (length (group kindW before)))) t ≡ pick b (not (t && eqb (number v 0) (length (group kindW before)))) t
+    go true q =
+        let w : 0 < width (kindAt k) = omega (arith, ap (λ (j : ℕ). width (kindAt j)) (eqb-true k (kindW .order) q)) in
+        rw (getD-take (width (kindAt k)) v 0 0 w)
+    go false q = refl
+
 -- test 3
 pub misplaced-is : {before : List Line} {lines all : List ℕ} → Stored before lines all → {k : ℕ} → k < kindCount → (v : List ℕ)
-    → misplaced before (lineAt k v) ≡ misplacedBy lines k
-misplaced-is {before = []} S {k = k} h v = rw (order-at k h, head-count S) (go (eqb k 0))
+    → misplaced before (lineAt k v) ≡ misplacedBy lines all k v
+misplaced-is {before = []} {lines = lines} {all = all} S {k = k} h v =
+    rw (order-at k h, head-count S) (go (eqb k 0) refl)
   where
-    go : (b : Bool) → not b ≡ pick b false true
-    go true = refl
-    go false = refl
-misplaced-is {before = m ∷ before} {lines = lines} S {k = k} h v =
-    rw (order-at k h, head-count S, later-counted S k) (go (eqb k 0) (any counted (drop (suc k) lines)))
+    go : (b : Bool) → eqb k 0 ≡ b → not b ≡ pick b false true || turnBy lines all k v
+    go true q = sym (sym (turn-is S h v) ∙ other-turn [] (lineAt k v) (λ e. omega (arith, order-at k h, eqb-true k 0 q)))
+    go false q = refl
+misplaced-is {before = m ∷ before} {lines = lines} {all = all} S {k = k} h v =
+    ap (λ (t : Bool). eqb (kindAt k .order) 0 || any (λ l. ltb (kindAt k .order) (l .kind .order)) (m ∷ before) || t) (turn-is S h v)
+    ∙ rw (order-at k h, head-count S, later-counted S k) (go (eqb k 0) (any counted (drop (suc k) lines)))
   where
-    go : (b r : Bool) → b || r ≡ pick b true r
+    go : (b r : Bool) → b || r || turnBy lines all k v ≡ pick b true r || turnBy lines all k v
     go true r = refl
     go false r = refl
 
@@ -131,14 +150,9 @@ head-is {before = []} S {k = k} h v i b e =
     let z : k ≡ 0 = sym (order-at k h) ∙ eqb-true (kindAt k .order) 0 (not-false (eqb (kindAt k .order) 0) e) in
     rw (eq-eqb k 0 z) (getD-take (width (kindAt k)) v i 0 (omega (arith, b, ap (λ (j : ℕ). width (kindAt j)) z)))
 head-is {before = m ∷ before} S {k = k} h v i b e =
-    let f : m .kind ≡ kindS = first-head m before (S .shaped) (S .passes) in
-    let q = part-is S {k = 0} (omega arith) in
-    let g = head-group m before (S .shaped) (S .passes) in
-    let w : i < length (m .numbers) = omega (arith, S .shaped m (inl refl) .count, ap width f) in
-    rw (ne-eqb k 0 (λ z. eqb-false (kindAt k .order) 0 (or-false (eqb (kindAt k .order) 0) _ e .0) (order-at k h ∙ z)))
-    (sym
-    (ap (λ (l : List ℕ). number l i) (q .1 ∙ ap (λ (x : List (List ℕ)). flat x ++ q .0) g ∙ append-assoc (m .numbers) [] (q .0))
-    ∙ List·getD-append (m .numbers) (q .0) 0 i w))
+    let o = any (λ j. ltb (kindAt k .order) (j .kind .order)) (m ∷ before) in
+    let f = or-false (eqb (kindAt k .order) 0 || o) (outOfTurn (m ∷ before) (lineAt k v)) e .0 in
+    rw (ne-eqb k 0 (λ z. eqb-false (kindAt k .order) 0 (or-false (eqb (kindAt k .order) 0) o f .0) (order-at k h ∙ z))) (head-number S i b)
 
 -- test 4
 pub outside-is : {before : List Line} {lines all : List ℕ} → Stored before lines all → {k : ℕ} → k < kindCount → {r : Row} → RowIs k r → (v : List ℕ) {p : ℕ}

@@ -113,26 +113,34 @@ module _ (g : Groups) (e : length (g .head) ≡ width kindS) where
   map-append [] ms rest = refl
   map-append (l ∷ ls) ms rest = ap (λ (k : List (Option Line)). some l ∷ k) (map-append ls ms rest)
 
+  abbrev pub ws : List Line
+  ws = groupLines 1 (g .waits)
+
   abbrev pub cs : List Line
-  cs = groupLines 1 (g .corridors)
+  cs = groupLines 2 (g .corridors)
 
   abbrev pub xs : List Line
-  xs = groupLines 2 (g .closures)
+  xs = groupLines 3 (g .closures)
 
   abbrev pub os : List Line
-  os = groupLines 3 (g .occupancies)
+  os = groupLines 4 (g .occupancies)
 
-  lines-of : map some (sheetLines (sheetOfGroups g)) ≡ map some (groupLines 0 (g .head)) ++ (map some cs ++ (map some xs ++ (map some os ++ [])))
+  -- the lines after the S line, judged one after another
+  abbrev pub later : List (Option Line)
+  later = map some ws ++ (map some cs ++ (map some xs ++ (map some os ++ [])))
+
+  lines-of : map some (sheetLines (sheetOfGroups g)) ≡ map some (groupLines 0 (g .head)) ++ later
   lines-of =
-      ap (λ (ls : List Line). map some (ls ++ (cs ++ (xs ++ (os ++ []))))) (sym head-lines)
-      ∙ sym (append-nil (map some (groupLines 0 (g .head) ++ (cs ++ (xs ++ (os ++ []))))))
-      ∙ map-append (groupLines 0 (g .head)) (cs ++ (xs ++ (os ++ []))) []
-      ∙ ap (λ (ls : List (Option Line)). map some (groupLines 0 (g .head)) ++ ls) (map-append cs (xs ++ (os ++ [])) []
+      ap (λ (ls : List Line). map some (ls ++ (ws ++ (cs ++ (xs ++ (os ++ [])))))) (sym head-lines)
+      ∙ sym (append-nil (map some (groupLines 0 (g .head) ++ (ws ++ (cs ++ (xs ++ (os ++ [])))))))
+      ∙ map-append (groupLines 0 (g .head)) (ws ++ (cs ++ (xs ++ (os ++ [])))) []
+      ∙ ap (λ (ls : List (Option Line)). map some (groupLines 0 (g .head)) ++ ls) (map-append ws (cs ++ (xs ++ (os ++ []))) []
+      ∙ ap (λ (ls : List (Option Line)). map some ws ++ ls) (map-append cs (xs ++ (os ++ [])) []
       ∙ ap (λ (ls : List (Option Line)). map some cs ++ ls) (map-append xs (os ++ []) []
-      ∙ ap (λ (ls : List (Option Line)). map some xs ++ ls) (ap (λ (ls : List Line). map some ls ++ []) (append-nil os))))
+      ∙ ap (λ (ls : List (Option Line)). map some xs ++ ls) (ap (λ (ls : List Line). map some ls ++ []) (append-nil os)))))
 
   pub groups-start : {lines all : List ℕ} {v : Verdict} → Blank lines all → NoneSoFar v 1
-      → SoFar (judgedGroups g) (map some (groupLines 0 (g .head)) ++ (map some cs ++ (map some xs ++ (map some os ++ [])))) lines all v
+      → SoFar (judgedGroups g) (map some (groupLines 0 (g .head)) ++ later) lines all v
   unfolding judgedGroups
   groups-start {lines} {all} {v} b e =
       subst (λ (t : List (Option Line)). SoFar (judgedGroups g) t lines all v) lines-of (so-far (reached-start b (map some (sheetLines (sheetOfGroups g)))) e)

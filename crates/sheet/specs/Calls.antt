@@ -7,20 +7,21 @@ use Prim.Native.Nat.{ℕ, _*_, _/_, _%_}
 use lib.Dec.{ltb, eqb}
 use lib.ListN.{length, take, drop}
 use Rattle.sheet.specs.Lists.{pick, number, filled, rows, flat}
-use Rattle.sheet.specs.Kinds.{Kind, width, room, kindS, kindC, kindX, kindO, kinds}
+use Rattle.sheet.specs.Kinds.{Kind, width, room, kindS, kindW, kindC, kindX, kindO, kinds}
 use Rattle.sheet.specs.Sheet.{Sheet, sheetLines, Outcome, refused, loaded, told, judge, readOf}
 use Rattle.sheet.specs.Text.{sheetText}
 use Rattle.sheet.specs.declared.SheetRead.{SheetRead}
 use Rattle.sheet.specs.declared.SheetWritten.{SheetWritten}
 
 -- an answer of the reader: the groups by value, each as long as the most lines of its kind, zeros past the last line
-abbrev pub readEnd : ℕ → ℕ → List ℕ → List ℕ → List ℕ → List ℕ → List ℕ → SheetRead
-readEnd k n ls h cs xs os =
+abbrev pub readEnd : ℕ → ℕ → List ℕ → List ℕ → List ℕ → List ℕ → List ℕ → List ℕ → SheetRead
+readEnd k n ls h ws cs xs os =
     record {
       refusal = k;
       line = n;
       lines = filled (length kinds) ls;
       head = filled (room kindS) h;
+      waits = filled (room kindW) ws;
       corridors = filled (room kindC) cs;
       closures = filled (room kindX) xs;
       occupancies = filled (room kindO) os;
@@ -28,9 +29,10 @@ readEnd k n ls h cs xs os =
 
 -- after a refusal zeros in all of them
 unfoldable pub readAnswer : Outcome → SheetRead
-readAnswer (refused k n) = readEnd k n [] [] [] [] []
+readAnswer (refused k n) = readEnd k n [] [] [] [] [] []
 readAnswer (loaded s) =
-    readEnd 0 0 (1 ∷ length (s .corridors) ∷ length (s .closures) ∷ length (s .occupancies) ∷ []) (s .head) (flat (s .corridors)) (flat (s .closures)) (flat (s .occupancies))
+    readEnd 0 0 (1 ∷ length (s .waits) ∷ length (s .corridors) ∷ length (s .closures) ∷ length (s .occupancies) ∷ []) (s .head) (flat (s .waits)) (flat (s .corridors))
+    (flat (s .closures)) (flat (s .occupancies))
 
 unfoldable pub readCall : List ℕ → SheetRead
 unfolding readAnswer readOf
@@ -39,18 +41,19 @@ readCall b = readAnswer (readOf b)
 -- the groups that the writer takes: the numbers of the lines of each kind, one after another
 pub record Groups : Type 0 where
   pub head : List ℕ
+  pub waits : List ℕ
   pub corridors : List ℕ
   pub closures : List ℕ
   pub occupancies : List ℕ
 
-abbrev pub groups : List ℕ → List ℕ → List ℕ → List ℕ → Groups
-groups h cs xs os = record { head = h; corridors = cs; closures = xs; occupancies = os }
+abbrev pub groups : List ℕ → List ℕ → List ℕ → List ℕ → List ℕ → Groups
+groups h ws cs xs os = record { head = h; waits = ws; corridors = cs; closures = xs; occupancies = os }
 
 -- the groups that the reader handed back: of each the numbers up to its last line
 abbrev pub groupsRead : SheetRead → Groups
 groupsRead r =
-    groups (r .head) (take (number (r .lines) 1 * width kindC) (r .corridors)) (take (number (r .lines) 2 * width kindX) (r .closures))
-    (take (number (r .lines) 3 * width kindO) (r .occupancies))
+    groups (r .head) (take (number (r .lines) 1 * width kindW) (r .waits)) (take (number (r .lines) 2 * width kindC) (r .corridors))
+    (take (number (r .lines) 3 * width kindX) (r .closures)) (take (number (r .lines) 4 * width kindO) (r .occupancies))
 
 -- the numbers of a group do not make whole lines of the kind
 abbrev pub leftOver : Kind → List ℕ → Bool
@@ -58,14 +61,22 @@ leftOver k l = not (eqb (length l % width k) 0)
 
 -- the first group is not exactly one S line's numbers, or another has numbers left over after its last whole line
 abbrev pub uneven : Groups → Bool
-uneven g = not (eqb (length (g .head)) (width kindS)) || leftOver kindC (g .corridors) || leftOver kindX (g .closures) || leftOver kindO (g .occupancies)
+uneven g =
+    not (eqb (length (g .head)) (width kindS)) || leftOver kindW (g .waits) || leftOver kindC (g .corridors) || leftOver kindX (g .closures) || leftOver kindO (g .occupancies)
 
 -- the lines of a group
 abbrev pub groupRows : Kind → List ℕ → List (List ℕ)
 groupRows k l = rows (width k) (length l / width k) l
 
 abbrev pub sheetOfGroups : Groups → Sheet
-sheetOfGroups g = record { head = g .head; corridors = groupRows kindC (g .corridors); closures = groupRows kindX (g .closures); occupancies = groupRows kindO (g .occupancies) }
+sheetOfGroups g =
+    record {
+      head = g .head;
+      waits = groupRows kindW (g .waits);
+      corridors = groupRows kindC (g .corridors);
+      closures = groupRows kindX (g .closures);
+      occupancies = groupRows kindO (g .occupancies);
+    }
 
 -- the lines of the groups, by the reader's tests
 unfoldable pub judgedGroups : Groups → Outcome
@@ -96,5 +107,5 @@ unfolding judgedGroups written
 writeGroups g out = pick (uneven g) (writeRefused out 2 0) (told (writeRefused out) (written out) (judgedGroups g))
 
 -- the call that writes a sheet
-abbrev pub writeCall : List ℕ → List ℕ → List ℕ → List ℕ → List ℕ → WriteEnd
-writeCall head corridors closures occupancies out = writeGroups (groups head corridors closures occupancies) out
+abbrev pub writeCall : List ℕ → List ℕ → List ℕ → List ℕ → List ℕ → List ℕ → WriteEnd
+writeCall head waits corridors closures occupancies out = writeGroups (groups head waits corridors closures occupancies) out

@@ -11,7 +11,7 @@ use Rattle.sheet.specs.Lists.{pick, number, any, rows, bind}
 use Rattle.sheet.specs.Computed.{lexb}
 use Rattle.sheet.specs.Bytes.{kindOf, comma, split}
 use Rattle.sheet.specs.Decimal.{digitsFrom, numberOf, mostDigits}
-use Rattle.sheet.specs.Kinds.{Limit, between, place, cost, Pair, alone, different, ordered, Kind, width, kindS, kindC, kindO, kinds}
+use Rattle.sheet.specs.Kinds.{Limit, between, place, cost, Pair, alone, different, ordered, Kind, width, kindS, kindW, kindC, kindO, kinds}
 use Rattle.sheet.specs.Lines.{Line, line, lineOf}
 use Rattle.sheet.specs.Sheet.{Sheet, group, unknown, fault, lacking, Outcome, refused, loaded, judge}
 use Rattle.sheet.specs.Text.{lineText, sheetText}
@@ -51,10 +51,17 @@ pub record RowIs (k : ℕ) (r : Row) : Type 0 where
 abbrev pub lineAt : ℕ → List ℕ → Line
 lineAt k v = line (kindAt k) (take (width (kindAt k)) v)
 
--- test 3, from the counts of lines; test 16, from the S line; test 5, from the last row of n
-abbrev pub misplacedBy : List ℕ → ℕ → Bool
-misplacedBy lines k =
+-- test 3, from the counts of lines and the places: by the kind, and by the turn; test 16, from the S line; test 5, from the last row of n
+abbrev pub behindBy : List ℕ → ℕ → Bool
+behindBy lines k =
     pick (eqb k 0) (not (eqb (number lines 0) 0)) (eqb (number lines 0) 0 || any (λ n. not (eqb n 0)) (drop (suc k) lines))
+
+abbrev pub turnBy : List ℕ → List ℕ → ℕ → List ℕ → Bool
+turnBy lines all k v =
+    pick (eqb k (kindW .order)) (not (ltb (number lines 1) (number all 0) && eqb (number v 0) (number lines 1))) (ltb (number lines 1) (number all 0))
+
+abbrev pub misplacedBy : List ℕ → List ℕ → ℕ → List ℕ → Bool
+misplacedBy lines all k v = behindBy lines k || turnBy lines all k v
 
 abbrev pub lateBy : List ℕ → ℕ → List ℕ → Bool
 lateBy all k v = eqb k (kindO .order) && ltb (number all 1) (number v 1)
@@ -90,8 +97,8 @@ pub record UnknownIs (lines all : List ℕ) (k : ℕ) (v : List ℕ) (b : Bool) 
   pub of : (before : List Line) → Stored before lines all → b ≡ unknown (group kindC before) (lineAt k v)
 
 -- b tells whether something is missing where the input ends
-pub record LacksIs (lines : List ℕ) (b : Bool) : Type 0 where
-  pub of : (before : List Line) (all : List ℕ) → Stored before lines all → b ≡ lacking before
+pub record LacksIs (lines all : List ℕ) (b : Bool) : Type 0 where
+  pub of : (before : List Line) → Stored before lines all → b ≡ lacking before
 
 -- r is the fault of the line l after the lines in the array; where it is 0, the array holds the line too
 pub record Takes (lines all : List ℕ) (l : Line) (lines′ all′ : List ℕ) (r : ℕ) : Type 0 where
@@ -119,8 +126,8 @@ pub record SoFar (end : Outcome) (rest : List (Option Line)) (lines all : List �
   pub reaches : v .refusal ≡ 0 → Reached end rest lines all (v .line)
 
 -- r tells how the input is judged that ends after the lines that v tells of
-pub record EndedIs (lines : List ℕ) (v r : Verdict) : Type 0 where
-  pub of : (end : Outcome) (all : List ℕ) → SoFar end [] lines all v → VerdictIs end lines all r
+pub record EndedIs (lines all : List ℕ) (v r : Verdict) : Type 0 where
+  pub of : (end : Outcome) → SoFar end [] lines all v → VerdictIs end lines all r
 
 -- the array holds lines, and n is the number of the next one
 pub record GroupReached (lines all : List ℕ) (n : ℕ) : Type 0 where

@@ -1,8 +1,9 @@
--- The kinds of lines, one row each, as document 01, "The sheet", lists them, with u by document 02, E2, and X lines by E5:
---   `S,places,steps,start,goal,w1,w2,w3,u`   once, first
---   `C,from,to,c1,c2,c3`                     up to 256, strictly ascending by (from, to)
---   `X,from,to,step`                         up to 256, strictly ascending by (from, to, step), between C and O
---   `O,place,first,last`                     up to 256, strictly ascending by (place, first, last)
+-- The kinds of lines, one row each, as document 01, "The sheet", lists them, with u by document 02, E2, X lines by E5 and W lines by E8:
+--   `S,places,steps,start,goal,u`   once, first
+--   `W,place,w1,w2,w3`              one for each place in ascending order, between S and C
+--   `C,from,to,c1,c2,c3`            up to 256, strictly ascending by (from, to)
+--   `X,from,to,step`                up to 256, strictly ascending by (from, to, step), between C and O
+--   `O,place,first,last`            up to 256, strictly ascending by (place, first, last)
 use mathlib.Core.List.{List, [], _∷_}
 use Prim.Native.Nat.{ℕ, _*_}
 use lib.ListN.{length}
@@ -49,16 +50,19 @@ abbrev pub unloading : Limit
 unloading = between 0 99
 
 abbrev pub kindS : Kind
-kindS = record { letter = 83; limits = between 1 64 ∷ step ∷ place ∷ place ∷ cost ∷ cost ∷ cost ∷ unloading ∷ []; most = 1; pair = alone; key = 0; order = 0 }
+kindS = record { letter = 83; limits = between 1 64 ∷ step ∷ place ∷ place ∷ unloading ∷ []; most = 1; pair = alone; key = 0; order = 0 }
+
+abbrev pub kindW : Kind
+kindW = record { letter = 87; limits = place ∷ cost ∷ cost ∷ cost ∷ []; most = 64; pair = alone; key = 1; order = 1 }
 
 abbrev pub kindC : Kind
-kindC = record { letter = 67; limits = place ∷ place ∷ cost ∷ cost ∷ cost ∷ []; most = 256; pair = different 0 1; key = 2; order = 1 }
+kindC = record { letter = 67; limits = place ∷ place ∷ cost ∷ cost ∷ cost ∷ []; most = 256; pair = different 0 1; key = 2; order = 2 }
 
 abbrev pub kindX : Kind
-kindX = record { letter = 88; limits = place ∷ place ∷ step ∷ []; most = 256; pair = different 0 1; key = 3; order = 2 }
+kindX = record { letter = 88; limits = place ∷ place ∷ step ∷ []; most = 256; pair = different 0 1; key = 3; order = 3 }
 
 abbrev pub kindO : Kind
-kindO = record { letter = 79; limits = place ∷ step ∷ step ∷ []; most = 256; pair = ordered 1 2; key = 3; order = 3 }
+kindO = record { letter = 79; limits = place ∷ step ∷ step ∷ []; most = 256; pair = ordered 1 2; key = 3; order = 4 }
 
 abbrev pub kinds : List Kind
-kinds = kindS ∷ kindC ∷ kindX ∷ kindO ∷ []
+kinds = kindS ∷ kindW ∷ kindC ∷ kindX ∷ kindO ∷ []

@@ -14,8 +14,9 @@ pub mod Printed
 pub mod LineText
 pub mod Passed
 pub mod Limits
-pub mod Runs
 pub mod Groups
+pub mod Turns
+pub mod Runs
 pub mod Valid
 pub mod Cells
 pub mod Keys

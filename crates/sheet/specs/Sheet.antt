@@ -1,4 +1,4 @@
--- The sheet: its groups, the tests of a line, and what bytes read as (document 01, "The sheet" and "Who causes which refusal"; document 02, E2, E5 and E6).
+-- The sheet: its groups, the tests of a line, and what bytes read as (document 01, "The sheet" and "Who causes which refusal"; document 02, E2, E5, E6 and E8).
 -- The lines before a line are given whole, in the order of the sheet.
 use mathlib.Core.Bool.{Bool, true, false, not, _&&_, _||_}
 use mathlib.Core.List.{List, [], _∷_, _++_, map}
@@ -9,17 +9,18 @@ use lib.ListN.{length, take}
 use Rattle.sheet.specs.Lists.{pick, number, filter, any, flat}
 use Rattle.sheet.specs.Computed.{lexb}
 use Rattle.sheet.specs.Decimal.{mostDigits}
-use Rattle.sheet.specs.Kinds.{Limit, between, place, Pair, alone, different, ordered, Kind, kindS, kindC, kindX, kindO, kinds}
+use Rattle.sheet.specs.Kinds.{Limit, between, place, Pair, alone, different, ordered, Kind, kindS, kindW, kindC, kindX, kindO, kinds}
 use Rattle.sheet.specs.Lines.{Line, line, textLines}
 
--- the four groups: the numbers of the S line, of each C line, of each X line and of each O line
+-- the five groups: the numbers of the S line, of each W line, of each C line, of each X line and of each O line
 pub record Sheet : Type 0 where
   pub head : List ℕ
+  pub waits : List (List ℕ)
   pub corridors : List (List ℕ)
   pub closures : List (List ℕ)
   pub occupancies : List (List ℕ)
 
--- `S,places,steps,start,goal,w1,w2,w3,u`
+-- `S,places,steps,start,goal,u`
 abbrev pub places : Sheet → ℕ
 places s = number (s .head) 0
 
@@ -33,7 +34,7 @@ abbrev pub goal : Sheet → ℕ
 goal s = number (s .head) 3
 
 abbrev pub unload : Sheet → ℕ
-unload s = number (s .head) 7
+unload s = number (s .head) 4
 
 -- `C,from,to,c1,c2,c3`, and `X,from,to,step`
 abbrev pub from : List ℕ → ℕ
@@ -45,7 +46,7 @@ to k = number k 1
 abbrev pub departure : List ℕ → ℕ
 departure x = number x 2
 
--- `O,place,first,last`
+-- `W,place,w1,w2,w3`, and `O,place,first,last`
 abbrev pub placeOf : List ℕ → ℕ
 placeOf o = number o 0
 
@@ -61,11 +62,11 @@ group k ls = map (λ l. l .numbers) (filter (λ l. eqb (l .kind .order) (k .orde
 
 -- the sheet with these lines
 abbrev pub sheetOf : List Line → Sheet
-sheetOf ls = record { head = flat (group kindS ls); corridors = group kindC ls; closures = group kindX ls; occupancies = group kindO ls }
+sheetOf ls = record { head = flat (group kindS ls); waits = group kindW ls; corridors = group kindC ls; closures = group kindX ls; occupancies = group kindO ls }
 
 -- the groups of a sheet, in the order of kinds
 abbrev pub groupsOf : Sheet → List (List (List ℕ))
-groupsOf s = (s .head ∷ []) ∷ s .corridors ∷ s .closures ∷ s .occupancies ∷ []
+groupsOf s = (s .head ∷ []) ∷ s .waits ∷ s .corridors ∷ s .closures ∷ s .occupancies ∷ []
 
 -- the lines of groups, one group for each kind
 abbrev pub linesFrom : List Kind → List (List (List ℕ)) → List Line
@@ -73,14 +74,28 @@ linesFrom [] gs = []
 linesFrom (k ∷ ks) [] = []
 linesFrom (k ∷ ks) (g ∷ gs) = map (line k) g ++ linesFrom ks gs
 
--- the lines of a sheet: S, then the C lines, then the X lines, then the O lines
+-- the lines of a sheet: S, then the W lines, then the C lines, then the X lines, then the O lines
 abbrev pub sheetLines : Sheet → List Line
 sheetLines s = linesFrom kinds (groupsOf s)
 
--- test 3: no S line first, a second S, or a line after one of a later kind
+-- the numbers of the S line of the sheet that begins with these lines: the first of them is its places, the second its last step
+abbrev pub headIn : List Line → List ℕ
+headIn [] = []
+headIn (l ∷ ls) = l .numbers
+
+-- a W line is still to come (document 02, E8): there are fewer of them than places
+abbrev pub waiting : List Line → Bool
+waiting ls = ltb (length (group kindW ls)) (number (headIn ls) 0)
+
+-- out of its turn: a W line that is not the next place's, and any other line while one is still to come
+abbrev pub outOfTurn : List Line → Line → Bool
+outOfTurn before l =
+    pick (eqb (l .kind .order) (kindW .order)) (not (waiting before && eqb (placeOf (l .numbers)) (length (group kindW before)))) (waiting before)
+
+-- test 3: no S line first, a second S, a line after one of a later kind, or a line out of its turn
 abbrev pub misplaced : List Line → Line → Bool
 misplaced [] l = not (eqb (l .kind .order) 0)
-misplaced (m ∷ before) l = eqb (l .kind .order) 0 || any (λ k. ltb (l .kind .order) (k .kind .order)) (m ∷ before)
+misplaced (m ∷ before) l = eqb (l .kind .order) 0 || any (λ k. ltb (l .kind .order) (k .kind .order)) (m ∷ before) || outOfTurn (m ∷ before) l
 
 -- test 7: one line more than its kind may have
 abbrev pub tooMany : List Line → Line → Bool
@@ -96,11 +111,6 @@ abbrev pub outside : ℕ → List Limit → List ℕ → Bool
 outside p [] ns = false
 outside p (x ∷ xs) [] = false
 outside p (x ∷ xs) (n ∷ ns) = beyond p x n || outside p xs ns
-
--- the numbers of the S line of the sheet that begins with these lines: the first of them is its places, the second its last step
-abbrev pub headIn : List Line → List ℕ
-headIn [] = []
-headIn (l ∷ ls) = l .numbers
 
 -- test 6: a corridor or a closure from a place to itself, or last below first
 abbrev pub unpaired : Pair → List ℕ → Bool
@@ -159,10 +169,10 @@ abbrev pub told {ℓ} : {A : Type ℓ} → (ℕ → ℕ → A) → (Sheet → A)
 told refuse serve (refused k n) = refuse k n
 told refuse serve (loaded s) = serve s
 
--- what is missing where the input ends after these lines (refusal 3): the S line
+-- what is missing where the input ends after these lines (refusal 3): the S line, or a W line
 abbrev pub lacking : List Line → Bool
 lacking [] = true
-lacking (l ∷ before) = false
+lacking (l ∷ before) = waiting (l ∷ before)
 
 -- the lines one after another, each judged after those before it: the first faulty line is named, lines counting from 1
 unfoldable pub judge : List Line → List (Option Line) → Outcome

@@ -50,7 +50,7 @@ partOf lines all k = take (number lines k * width (kindAt k)) (drop (baseOf k) a
 
 -- the sheet that stands in the array (Laws.Store.store-sheet)
 abbrev pub sheetIn : List ℕ → List ℕ → Sheet
-sheetIn lines all = sheetOfGroups (groups (partOf lines all 0) (partOf lines all 1) (partOf lines all 2) (partOf lines all 3))
+sheetIn lines all = sheetOfGroups (groups (partOf lines all 0) (partOf lines all 1) (partOf lines all 2) (partOf lines all 3) (partOf lines all 4))
 
 -- some valid sheet stands in the array
 pub record SomeStore (lines all : List ℕ) : Type 0 where

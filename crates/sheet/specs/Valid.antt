@@ -1,13 +1,24 @@
--- A valid sheet: what document 01, "The sheet", and document 02, E2, E5 and E6, ask of its numbers. Every sheet that is read is one (Laws.Valid).
+-- A valid sheet: what document 01, "The sheet", and document 02, E2, E5, E6 and E8, ask of its numbers. Every sheet that is read is one (Laws.Valid).
 use mathlib.Core.Path.{_≡_}
 use mathlib.Core.Logic.{_≢_}
-use mathlib.Core.List.{List}
-use Prim.Native.Nat.{ℕ, _≤_, _<_}
+use mathlib.Core.List.{List, [], _∷_}
+use Prim.Native.Nat.{ℕ, suc, _≤_, _<_}
 use lib.ListN.{length, take}
 use Rattle.sheet.specs.Lists.{number, _∈_}
 use Rattle.sheet.specs.Sorting.{Ascending}
-use Rattle.sheet.specs.Kinds.{width, kindS, kindC, kindX, kindO}
+use Rattle.sheet.specs.Kinds.{width, kindS, kindW, kindC, kindX, kindO}
 use Rattle.sheet.specs.Sheet.{Sheet, places, steps, start, goal, unload, from, to, departure, placeOf, first, last}
+
+-- what waiting costs at a place, no figure above 60,000
+pub record ValidWait (s : Sheet) (w : List ℕ) : Type 0 where
+  pub wide : length w ≡ width kindW
+  pub place : placeOf w < places s
+  pub cost : (i : ℕ) → 1 ≤ i → number w i ≤ 60000
+
+-- the places of W lines, one after another from i on
+abbrev pub Turned : ℕ → List (List ℕ) → Type 0
+Turned i [] = Unit {0}
+Turned i (w ∷ ws) = (placeOf w ≡ i) × Turned (suc i) ws
 
 -- a corridor between two places, no figure above 60,000
 pub record ValidCorridor (s : Sheet) (k : List ℕ) : Type 0 where
@@ -41,8 +52,10 @@ pub record Valid (s : Sheet) : Type 0 where
   pub most-steps : steps s ≤ 255
   pub start-place : start s < places s
   pub goal-place : goal s < places s
-  pub wait : (i : ℕ) → 4 ≤ i → i < 7 → number (s .head) i ≤ 60000
   pub most-unload : unload s ≤ 99
+  pub waits : (w : List ℕ) → w ∈ s .waits → ValidWait s w
+  pub waits-turn : Turned 0 (s .waits)
+  pub each-place : length (s .waits) ≡ places s
   pub corridors : (k : List ℕ) → k ∈ s .corridors → ValidCorridor s k
   pub most-corridors : length (s .corridors) ≤ kindC .most
   pub corridors-ascend : Ascending (take (kindC .key)) (s .corridors)

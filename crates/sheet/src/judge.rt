@@ -1,14 +1,14 @@
-// The tests of a line after the lines before it (document 01, "Who causes which refusal"; document 02, E5 and E6): 3, 7, 4, 6, 15, 16, 5. The lines before
+// The tests of a line after the lines before it (document 01, "Who causes which refusal"; document 02, E5, E6 and E8): 3, 7, 4, 6, 15, 16, 5. The lines before
 // stand in the array of all groups, so that a test may look at each of them.
 ghost use mathlib.Core.Path.{_≡_};
 ghost use mathlib.Core.List.{map};
 ghost use Prim.Native.Nat.{_+_, _≤_, _<_};
-ghost use lib.Dec.{eqb};
+ghost use lib.Dec.{ltb, eqb};
 ghost use lib.ListN.{length, getD, take};
-ghost use Rattle.sheet.specs.Lists.{pick};
+ghost use Rattle.sheet.specs.Lists.{pick, number};
 ghost use Rattle.sheet.specs.Sheet.{beyond, outside, unpaired};
 ghost use Rattle.sheet.specs.Store.{kindCount};
-ghost use Rattle.sheet.specs.Inner.{limitAt, pairAt, lineAt, misplacedBy, UnknownIs, lateBy, notAboveBy, RowFits, Kept, LacksIs, FaultIs};
+ghost use Rattle.sheet.specs.Inner.{limitAt, pairAt, lineAt, behindBy, turnBy, misplacedBy, UnknownIs, lateBy, notAboveBy, RowFits, Kept, LacksIs, FaultIs};
 use crate::kinds::ALONE;
 use crate::kinds::C_LINE;
 use crate::kinds::CORRIDOR;
@@ -21,16 +21,17 @@ use crate::kinds::O_LINE;
 use crate::kinds::PLACE;
 use crate::kinds::Row;
 use crate::kinds::S_LINE;
+use crate::kinds::W_LINE;
 use crate::kinds::X_LINE;
 use crate::kinds::row_of;
 use crate::seek::Group;
 use crate::seek::holds;
 use crate::seek::is_before;
 
-// Test 3: no S line first, a second S, or a line after one of a later kind.
-fn is_misplaced(lines: &[u32], kind: usize) -> bool
+// Test 3, by the kind: no S line first, a second S, or a line after one of a later kind.
+fn is_behind(lines: &[u32], kind: usize) -> bool
     requires { ⌜ (length (now lines) ≡ kindCount) × (kind < kindCount) ⌝ }
-    ensures { λ r. ⌜ r ≡ misplacedBy (now (lines .entry)) kind ⌝ }
+    ensures { λ r. ⌜ r ≡ behindBy (now (lines .entry)) kind ⌝ }
 {
     if kind == S_LINE {
         return lines[S_LINE] != 0;
@@ -46,6 +47,37 @@ fn is_misplaced(lines: &[u32], kind: usize) -> bool
         j += 1;
     }
     false
+}
+
+// Whether a W line is still to come: there are fewer of them than places.
+fn is_waiting(lines: &[u32], all: &[u32]) -> bool
+    requires { ⌜ (length (now lines) ≡ kindCount) × (1 ≤ length (now all)) ⌝ }
+    ensures { λ r. ⌜ r ≡ ltb (number (now (lines .entry)) 1) (number (now (all .entry)) 0) ⌝ }
+{
+    lines[W_LINE] < all[0]
+}
+
+// Test 3, by the turn: a W line that is not the next place's, or any other line while one is still to come.
+fn is_out_of_turn(lines: &[u32], all: &[u32], kind: usize, values: [u32; 8]) -> bool
+    requires { ⌜ (length (now lines) ≡ kindCount) × (1 ≤ length (now all)) ⌝ }
+    ensures { λ r. ⌜ r ≡ turnBy (now (lines .entry)) (now (all .entry)) kind values ⌝ }
+{
+    let to_come = is_waiting(lines, all);
+    if kind == W_LINE {
+        return !(to_come & (values[0] == lines[W_LINE]));
+    }
+    to_come
+}
+
+// Test 3.
+fn is_misplaced(lines: &[u32], all: &[u32], kind: usize, values: [u32; 8]) -> bool
+    requires { ⌜ (length (now lines) ≡ kindCount) × (1 ≤ length (now all)) × (kind < kindCount) ⌝ }
+    ensures { λ r. ⌜ r ≡ misplacedBy (now (lines .entry)) (now (all .entry)) kind values ⌝ }
+{
+    if is_behind(lines, kind) {
+        return true;
+    }
+    is_out_of_turn(lines, all, kind, values)
 }
 
 // Whether n is outside the limit, on a sheet of `places` places.
@@ -149,7 +181,7 @@ pub fn fault_of(lines: &[u32], all: &[u32], kind: usize, values: [u32; 8]) -> u3
     let row = row_of(kind);
     let n = lines[kind];
     let limits = row.limits;
-    if is_misplaced(lines, kind) {
+    if is_misplaced(lines, all, kind, values) {
         return 3;
     }
     if row.most <= n {
@@ -173,10 +205,13 @@ pub fn fault_of(lines: &[u32], all: &[u32], kind: usize, values: [u32; 8]) -> u3
     0
 }
 
-// Whether something is missing where the input ends after the lines in the array: the S line.
-pub fn lacks(lines: &[u32]) -> bool
-    requires { ⌜ length (now lines) ≡ kindCount ⌝ }
-    ensures { λ r. ⌜ LacksIs (now (lines .entry)) r ⌝ }
+// Whether something is missing where the input ends after the lines in the array: the S line, or a W line.
+pub fn lacks(lines: &[u32], all: &[u32]) -> bool
+    requires { ⌜ (length (now lines) ≡ kindCount) × (1 ≤ length (now all)) ⌝ }
+    ensures { λ r. ⌜ LacksIs (now (lines .entry)) (now (all .entry)) r ⌝ }
 {
-    lines[S_LINE] == 0
+    if lines[S_LINE] == 0 {
+        return true;
+    }
+    is_waiting(lines, all)
 }

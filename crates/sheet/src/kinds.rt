@@ -7,16 +7,20 @@ ghost use Rattle.sheet.specs.Inner.{RowIs};
 // The number of each kind, its `order` in specs/Kinds.antt, and how many kinds there are.
 pub const S_LINE: usize = 0;
 
-pub const C_LINE: usize = 1;
+pub const W_LINE: usize = 1;
 
-pub const X_LINE: usize = 2;
+pub const C_LINE: usize = 2;
 
-pub const O_LINE: usize = 3;
+pub const X_LINE: usize = 3;
 
-pub const KINDS: usize = 4;
+pub const O_LINE: usize = 4;
+
+pub const KINDS: usize = 5;
 
 // The numbers of a line of each kind, and of the most lines of it.
-pub const HEAD: usize = 8;
+pub const HEAD: usize = 5;
+
+pub const WAIT: usize = 4;
 
 pub const CORRIDOR: usize = 5;
 
@@ -24,14 +28,18 @@ pub const CLOSURE: usize = 3;
 
 pub const OCCUPANCY: usize = 3;
 
+pub const WAITS: usize = 64 * WAIT;
+
 pub const CORRIDORS: usize = 256 * CORRIDOR;
 
 pub const CLOSURES: usize = 256 * CLOSURE;
 
 pub const OCCUPANCIES: usize = 256 * OCCUPANCY;
 
-// Where the groups of C, X and O lines begin in the array of all groups, and its length.
-pub const FIRST_CORRIDOR: usize = HEAD;
+// Where the groups of W, C, X and O lines begin in the array of all groups, and its length.
+pub const FIRST_WAIT: usize = HEAD;
+
+pub const FIRST_CORRIDOR: usize = FIRST_WAIT + WAITS;
 
 pub const FIRST_CLOSURE: usize = FIRST_CORRIDOR + CORRIDORS;
 
@@ -85,7 +93,7 @@ fn head_row() -> Row
     Row {
         letter: b'S',
         width: HEAD,
-        limits: [COUNT, STEP, PLACE, PLACE, COST, COST, COST, UNLOAD],
+        limits: [COUNT, STEP, PLACE, PLACE, UNLOAD, 0, 0, 0],
         most: 1,
         pair: ALONE,
         one: 0,
@@ -95,9 +103,26 @@ fn head_row() -> Row
     }
 }
 
+// The row of W lines.
+fn wait_row() -> Row
+    ensures { λ r. ⌜ RowIs 1 r ⌝ }
+{
+    Row {
+        letter: b'W',
+        width: WAIT,
+        limits: [PLACE, COST, COST, COST, 0, 0, 0, 0],
+        most: 64,
+        pair: ALONE,
+        one: 0,
+        other: 0,
+        key: 1,
+        base: FIRST_WAIT,
+    }
+}
+
 // The row of C lines.
 fn corridor_row() -> Row
-    ensures { λ r. ⌜ RowIs 1 r ⌝ }
+    ensures { λ r. ⌜ RowIs 2 r ⌝ }
 {
     Row {
         letter: b'C',
@@ -114,7 +139,7 @@ fn corridor_row() -> Row
 
 // The row of X lines.
 fn closure_row() -> Row
-    ensures { λ r. ⌜ RowIs 2 r ⌝ }
+    ensures { λ r. ⌜ RowIs 3 r ⌝ }
 {
     Row {
         letter: b'X',
@@ -131,7 +156,7 @@ fn closure_row() -> Row
 
 // The row of O lines.
 fn occupancy_row() -> Row
-    ensures { λ r. ⌜ RowIs 3 r ⌝ }
+    ensures { λ r. ⌜ RowIs 4 r ⌝ }
 {
     Row {
         letter: b'O',
@@ -153,6 +178,9 @@ pub fn row_of(k: usize) -> Row
 {
     if k == S_LINE {
         return head_row();
+    }
+    if k == W_LINE {
+        return wait_row();
     }
     if k == C_LINE {
         return corridor_row();

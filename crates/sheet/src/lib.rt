@@ -16,6 +16,7 @@ use crate::kinds::CORRIDORS;
 use crate::kinds::HEAD;
 use crate::kinds::KINDS;
 use crate::kinds::OCCUPANCIES;
+use crate::kinds::WAITS;
 
 // A place of the sheet, numbered from 0: the source's node (001).
 pub struct Place(pub u32);
@@ -30,6 +31,7 @@ pub struct SheetRead {
     pub line: u32,
     pub lines: [u32; KINDS],
     pub head: [u32; HEAD],
+    pub waits: [u32; WAITS],
     pub corridors: [u32; CORRIDORS],
     pub closures: [u32; CLOSURES],
     pub occupancies: [u32; OCCUPANCIES],

@@ -1,5 +1,6 @@
 // The reader: from the bytes of a sheet to its groups.
 ghost use mathlib.Core.Path.{_≡_};
+ghost use Prim.Native.Nat.{_≤_};
 ghost use lib.ListN.{length};
 ghost use Rattle.sheet.specs.Kinds.{kinds};
 ghost use Rattle.sheet.specs.Sheet.{refused, readOf};
@@ -15,11 +16,13 @@ use crate::kinds::DIGITS;
 use crate::kinds::FIRST_CLOSURE;
 use crate::kinds::FIRST_CORRIDOR;
 use crate::kinds::FIRST_OCCUPANCY;
+use crate::kinds::FIRST_WAIT;
 use crate::kinds::HEAD;
 use crate::kinds::KINDS;
 use crate::kinds::MOST_BYTES;
 use crate::kinds::OCCUPANCIES;
 use crate::kinds::STORE;
+use crate::kinds::WAITS;
 use crate::kinds::row_of;
 use crate::line_reader::LineEnd;
 use crate::line_reader::after_line;
@@ -51,14 +54,14 @@ pub fn passed(n: u32) -> Verdict
 }
 
 // How the input is judged that ends after the lines judged so far: refused as they are, or with 3 where something is missing; or 0, and no line.
-pub fn ended(lines: &[u32], judged: Verdict) -> Verdict
-    requires { ⌜ length (now lines) ≡ kindCount ⌝ }
-    ensures { λ r. ⌜ EndedIs (now (lines .entry)) judged r ⌝ }
+pub fn ended(lines: &[u32], all: &[u32], judged: Verdict) -> Verdict
+    requires { ⌜ (length (now lines) ≡ kindCount) × (1 ≤ length (now all)) ⌝ }
+    ensures { λ r. ⌜ EndedIs (now (lines .entry)) (now (all .entry)) judged r ⌝ }
 {
     if judged.refusal != 0 {
         return judged;
     }
-    if lacks(lines) {
+    if lacks(lines, all) {
         return Verdict {
             refusal: 3,
             line: judged.line,
@@ -185,7 +188,7 @@ pub fn read_into(src: &[u8], lines: &mut [u32], all: &mut [u32]) -> Verdict
         refusal: t.refusal,
         line: t.line,
     };
-    ended(lines, judged)
+    ended(lines, all, judged)
 }
 
 // A refusal: its number, its line, and zeros.
@@ -197,6 +200,7 @@ fn refuse(number: u32, line: u32) -> SheetRead
         line,
         lines: [0u32; KINDS],
         head: [0u32; HEAD],
+        waits: [0u32; WAITS],
         corridors: [0u32; CORRIDORS],
         closures: [0u32; CLOSURES],
         occupancies: [0u32; OCCUPANCIES],
@@ -221,10 +225,12 @@ fn handed_back(lines: [u32; KINDS], all: &[u32]) -> SheetRead
     ensures { λ r. ⌜ AnswerIs lines (now (all .entry)) r ⌝ }
 {
     let mut head = [0u32; HEAD];
+    let mut waits = [0u32; WAITS];
     let mut corridors = [0u32; CORRIDORS];
     let mut closures = [0u32; CLOSURES];
     let mut occupancies = [0u32; OCCUPANCIES];
-    copy(&all[..FIRST_CORRIDOR], &mut head);
+    copy(&all[..FIRST_WAIT], &mut head);
+    copy(&all[FIRST_WAIT..FIRST_CORRIDOR], &mut waits);
     copy(&all[FIRST_CORRIDOR..FIRST_CLOSURE], &mut corridors);
     copy(&all[FIRST_CLOSURE..FIRST_OCCUPANCY], &mut closures);
     copy(&all[FIRST_OCCUPANCY..STORE], &mut occupancies);
@@ -233,6 +239,7 @@ fn handed_back(lines: [u32; KINDS], all: &[u32]) -> SheetRead
         line: 0,
         lines,
         head,
+        waits,
         corridors,
         closures,
         occupancies,

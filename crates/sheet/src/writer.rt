@@ -17,6 +17,8 @@ use crate::kinds::O_LINE;
 use crate::kinds::OCCUPANCY;
 use crate::kinds::S_LINE;
 use crate::kinds::STORE;
+use crate::kinds::W_LINE;
+use crate::kinds::WAIT;
 use crate::kinds::X_LINE;
 use crate::kinds::row_of;
 use crate::reader::Verdict;
@@ -72,6 +74,7 @@ fn take_group(lines: &mut [u32], all: &mut [u32], k: usize, g: &[u32], judged: V
 // Takes the groups as the lines of a sheet into the array of all groups, with the counts of lines: 0, or a refusal with the line at fault.
 fn take_groups(
     head: &[u32],
+    waits: &[u32],
     corridors: &[u32],
     closures: &[u32],
     occupancies: &[u32],
@@ -79,14 +82,16 @@ fn take_groups(
     all: &mut [u32],
 ) -> Verdict
     requires { ⌜ (length (now head) ≡ width kindS) × (Blank (now lines) (now all)) ⌝ }
-    ensures { λ r. ⌜ VerdictIs (judgedGroups (groups (now (head .entry)) (now (corridors .entry)) (now (closures .entry)) (now (occupancies .entry))))
+    ensures { λ r. ⌜ VerdictIs
+        (judgedGroups (groups (now (head .entry)) (now (waits .entry)) (now (corridors .entry)) (now (closures .entry)) (now (occupancies .entry))))
         (now (lines .exit)) (now (all .exit)) r ⌝ }
 {
     let s = take_group(lines, all, S_LINE, head, passed(1));
-    let c = take_group(lines, all, C_LINE, corridors, s);
+    let w = take_group(lines, all, W_LINE, waits, s);
+    let c = take_group(lines, all, C_LINE, corridors, w);
     let x = take_group(lines, all, X_LINE, closures, c);
     let o = take_group(lines, all, O_LINE, occupancies, x);
-    ended(lines, o)
+    ended(lines, all, o)
 }
 
 fn refuse(number: u32, line: u32) -> SheetWritten
@@ -116,19 +121,21 @@ pub fn write_stored(lines: &[u32], all: &[u32], out: &mut [u8]) -> SheetWritten
     }
 }
 
-// Writes the sheet of the groups: the S line's numbers, and those of each corridor, of each closure and of each occupancy. Hands back the count of bytes, or one
-// numbered refusal with the line at fault; the buffer past the bytes is kept, and a refusal writes nothing.
+// Writes the sheet of the groups: the S line's numbers, and those of each place's wait, of each corridor, of each closure and of each occupancy. Hands back the
+// count of bytes, or one numbered refusal with the line at fault; the buffer past the bytes is kept, and a refusal writes nothing.
 pub fn write(
     head: &[u32],
+    waits: &[u32],
     corridors: &[u32],
     closures: &[u32],
     occupancies: &[u32],
     out: &mut [u8],
 ) -> SheetWritten
     ensures { λ r. ⌜ writeEnd r (now (out .exit))
-        ≡ writeCall (now (head .entry)) (now (corridors .entry)) (now (closures .entry)) (now (occupancies .entry)) (now (out .entry)) ⌝ }
+        ≡ writeCall (now (head .entry)) (now (waits .entry)) (now (corridors .entry)) (now (closures .entry)) (now (occupancies .entry)) (now (out .entry)) ⌝ }
 {
     if (head.len() != HEAD)
+        | (waits.len() % WAIT != 0)
         | (corridors.len() % CORRIDOR != 0)
         | (closures.len() % CLOSURE != 0)
         | (occupancies.len() % OCCUPANCY != 0)
@@ -137,7 +144,15 @@ pub fn write(
     }
     let mut lines = [0u32; KINDS];
     let mut all = [0u32; STORE];
-    let v = take_groups(head, corridors, closures, occupancies, &mut lines, &mut all);
+    let v = take_groups(
+        head,
+        waits,
+        corridors,
+        closures,
+        occupancies,
+        &mut lines,
+        &mut all,
+    );
     if v.refusal != 0 {
         return refuse(v.refusal, v.line);
     }

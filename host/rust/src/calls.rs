@@ -9,10 +9,12 @@ pub struct SheetRead {
     pub refusal: u32,
     /// The line at fault, from 1; 0 where no line is at fault.
     pub line: u32,
-    /// The count of S, C, X and O lines.
-    pub lines: [u32; 4],
+    /// The count of S, W, C, X and O lines.
+    pub lines: [u32; 5],
     /// The numbers of the S line.
-    pub head: [u32; 8],
+    pub head: [u32; 5],
+    /// The numbers of the W lines, four for each.
+    pub waits: [u32; 256],
     /// The numbers of the C lines, five for each.
     pub corridors: [u32; 1280],
     /// The numbers of the X lines, three for each.
@@ -27,27 +29,33 @@ impl SheetRead {
         SheetRead {
             refusal,
             line,
-            lines: [0; 4],
-            head: [0; 8],
+            lines: [0; 5],
+            head: [0; 5],
+            waits: [0; 256],
             corridors: [0; 1280],
             closures: [0; 768],
             occupancies: [0; 768],
         }
     }
 
+    /// The numbers of the lines of waiting costs.
+    pub fn wait_numbers(&self) -> &[u32] {
+        &self.waits[..4 * self.lines[1] as usize]
+    }
+
     /// The numbers of the corridor lines.
     pub fn corridor_numbers(&self) -> &[u32] {
-        &self.corridors[..5 * self.lines[1] as usize]
+        &self.corridors[..5 * self.lines[2] as usize]
     }
 
     /// The numbers of the closure lines.
     pub fn closure_numbers(&self) -> &[u32] {
-        &self.closures[..3 * self.lines[2] as usize]
+        &self.closures[..3 * self.lines[3] as usize]
     }
 
     /// The numbers of the occupancy lines.
     pub fn occupancy_numbers(&self) -> &[u32] {
-        &self.occupancies[..3 * self.lines[3] as usize]
+        &self.occupancies[..3 * self.lines[4] as usize]
     }
 }
 
@@ -111,6 +119,8 @@ unsafe extern "C" {
     fn planner_write(
         head: *const u32,
         head_len: usize,
+        waits: *const u32,
+        waits_len: usize,
         corridors: *const u32,
         corridors_len: usize,
         closures: *const u32,
@@ -149,14 +159,23 @@ pub fn read(sheet: &[u8]) -> SheetRead {
     unsafe { planner_read(sheet.as_ptr(), sheet.len()) }
 }
 
-/// Writes the sheet of four groups into the buffer, which is kept past the bytes written. Refuses with 2, 4 to 7, 12,
-/// 15 and 16; the buffer is kept then.
-pub fn write(head: &[u32], corridors: &[u32], closures: &[u32], occupancies: &[u32], out: &mut [u8]) -> SheetWritten {
+/// Writes the sheet of five groups into the buffer, which is kept past the bytes written. Refuses with 2 to 7, 12, 15
+/// and 16; the buffer is kept then.
+pub fn write(
+    head: &[u32],
+    waits: &[u32],
+    corridors: &[u32],
+    closures: &[u32],
+    occupancies: &[u32],
+    out: &mut [u8],
+) -> SheetWritten {
     // Safety: as for the reader; the buffer is borrowed for this call alone, so it overlaps nothing.
     unsafe {
         planner_write(
             head.as_ptr(),
             head.len(),
+            waits.as_ptr(),
+            waits.len(),
             corridors.as_ptr(),
             corridors.len(),
             closures.as_ptr(),
@@ -169,8 +188,8 @@ pub fn write(head: &[u32], corridors: &[u32], closures: &[u32], occupancies: &[u
     }
 }
 
-/// Fills the arrivals table and the front list of a sheet, with zeros to their ends. Refuses with the sheet's refusals, 8
-/// and 9; the list is kept then, the table is kept with the sheet's and all zeros with 8 and 9.
+/// Fills the arrivals table and the front list of a sheet, with zeros to their ends. Refuses with the sheet's refusals,
+/// 8 and 9; the list is kept then, the table is kept with the sheet's and all zeros with 8 and 9.
 pub fn front(sheet: &[u8], arrivals: &mut [u32], list: &mut [u32]) -> FrontAnswer {
     // Safety: as for the writer; the two buffers are borrowed apart.
     unsafe {
@@ -179,8 +198,8 @@ pub fn front(sheet: &[u8], arrivals: &mut [u32], list: &mut [u32]) -> FrontAnswe
 }
 
 /// Fills the arrivals table of a sheet and the path of the journey with a number in the front, from 0, with zeros to
-/// their ends. Refuses with the sheet's refusals, 8, 10 and 11; the path is kept then, the table is kept with the sheet's
-/// and all zeros with the rest.
+/// their ends. Refuses with the sheet's refusals, 8, 10 and 11; the path is kept then, the table is kept with the
+/// sheet's and all zeros with the rest.
 pub fn journey(sheet: &[u8], number: u32, arrivals: &mut [u32], path: &mut [u32]) -> JourneyAnswer {
     // Safety: as for the front.
     unsafe {
@@ -210,11 +229,11 @@ mod tests {
     /// The numbers that tests/header.c holds the C structs against.
     #[test]
     fn the_structs_are_laid_out_as_in_c() {
-        assert_eq!((size_of::<SheetRead>(), align_of::<SheetRead>()), (11320, 4));
+        assert_eq!((size_of::<SheetRead>(), align_of::<SheetRead>()), (12336, 4));
         assert_eq!([offset_of!(SheetRead, refusal), offset_of!(SheetRead, line)], [0, 4]);
-        assert_eq!([offset_of!(SheetRead, lines), offset_of!(SheetRead, head)], [8, 24]);
-        assert_eq!([offset_of!(SheetRead, corridors), offset_of!(SheetRead, closures)], [56, 5176]);
-        assert_eq!(offset_of!(SheetRead, occupancies), 8248);
+        assert_eq!([offset_of!(SheetRead, lines), offset_of!(SheetRead, head)], [8, 28]);
+        assert_eq!([offset_of!(SheetRead, waits), offset_of!(SheetRead, corridors)], [48, 1072]);
+        assert_eq!([offset_of!(SheetRead, closures), offset_of!(SheetRead, occupancies)], [6192, 9264]);
 
         assert_eq!((size_of::<SheetWritten>(), align_of::<SheetWritten>()), (12, 4));
         assert_eq!([offset_of!(SheetWritten, refusal), offset_of!(SheetWritten, line)], [0, 4]);

@@ -1,10 +1,11 @@
 //! The planner of journeys for supply carts, from Rust: a safe wrapper of the calls in host/planner.h.
 //!
 //! A corridor sheet is a text in the format of document 01, "The corridor sheet and the journeys it offers", with the
-//! time to unload ([`Sheet::unloading`]) and the closures ([`Sheet::closures`]) of document 02. [`front`] hands back every
-//! cost of a lawful journey that nothing beats, [`journey`] the journey of one such cost, [`read()`] the sheet's values and
-//! [`write()`](fn@write) the text of a sheet. Each gives a result or one numbered [`Refusal`]. [`calls`] has the calls
-//! themselves, on buffers that the caller lends.
+//! time to unload ([`Sheet::unloading`]), the waiting costs by place ([`Sheet::waits`]) and the closures
+//! ([`Sheet::closures`]) of document 02. [`front`] hands back every cost of a lawful journey that nothing beats,
+//! [`journey`] the journey of one such cost, [`read()`] the sheet's values and [`write()`](fn@write) the text of a
+//! sheet. Each gives a result or one numbered [`Refusal`]. [`calls`] has the calls themselves, on buffers that the
+//! caller lends.
 //!
 //! The functions keep nothing between calls and may run on several threads at once. Each uses up to 200,000 bytes of
 //! stack in the planner (measured; docs/DECISIONS.md, "Stack"); the arrivals table and the front list are on the heap.
@@ -23,7 +24,7 @@ mod tests;
 
 pub use offers::{Arrival, Front, Journey, Offer, Room, front, journey};
 pub use refusal::Refusal;
-pub use sheet::{Closure, Corridor, Occupancy, Sheet, read, write};
+pub use sheet::{Closure, Corridor, Occupancy, Sheet, Wait, read, write};
 
 use std::fmt;
 

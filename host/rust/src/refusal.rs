@@ -24,7 +24,7 @@ impl Refusal {
         match self.number {
             1 => "the sheet has more than 16,384 bytes",
             2 => "the line is malformed: its letter, its count of fields, a number or its line feed",
-            3 => "the line is out of order: S comes first and once, then C, then X, then O",
+            3 => "a line is out of turn or missing: one S, one W for each place from 0 up, then C, X, O",
             4 => "a number is outside its range",
             5 => "the line is not above the line before",
             6 => "a corridor or a closure leads from a place to itself, or an occupancy ends before it begins",

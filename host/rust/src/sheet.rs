@@ -16,17 +16,26 @@ pub struct Sheet {
     pub start: Place,
     /// Where a journey ends.
     pub goal: Place,
-    /// The cost of waiting one step.
-    pub waiting: Cost,
     /// Steps that unloading takes, 0 to 99. An arrival at the goal counts only if the goal is free from its step to so
     /// many steps after it, and the last of them is not after the sheet's last step.
     pub unloading: u32,
+    /// One for each place, from 0 on in turn.
+    pub waits: Vec<Wait>,
     /// Up to 256, strictly ascending by (from, to).
     pub corridors: Vec<Corridor>,
     /// Up to 256, strictly ascending by (from, to, step).
     pub closures: Vec<Closure>,
     /// Up to 256, strictly ascending by (place, first, last).
     pub occupancies: Vec<Occupancy>,
+}
+
+/// The cost of waiting at a place.
+#[derive(Clone, Copy, Debug, PartialEq, Eq)]
+pub struct Wait {
+    /// The place.
+    pub place: Place,
+    /// The cost of waiting there one step.
+    pub cost: Cost,
 }
 
 /// A one-way corridor, crossed in one step.
@@ -66,31 +75,31 @@ pub struct Occupancy {
 pub fn read(text: &[u8]) -> Result<Sheet, Refusal> {
     let answer = calls::read(text);
     Refusal::check(answer.refusal, answer.line)?;
-    let [_, corridors, closures, occupancies] = answer.lines.map(|count| count as usize);
-    let [places, steps, start, goal, waiting @ .., unloading] = answer.head;
+    let [_, waits, corridors, closures, occupancies] = answer.lines.map(|count| count as usize);
+    let [places, steps, start, goal, unloading] = answer.head;
     Ok(Sheet {
         places,
         steps: Step(steps),
         start: Place(start),
         goal: Place(goal),
-        waiting,
         unloading,
+        waits: rows(&answer.waits, waits).map(wait).collect(),
         corridors: rows(&answer.corridors, corridors).map(corridor).collect(),
         closures: rows(&answer.closures, closures).map(closure).collect(),
         occupancies: rows(&answer.occupancies, occupancies).map(occupancy).collect(),
     })
 }
 
-/// The text of a sheet, which reads back as the same values. Refuses with 4 to 7, 15 and 16; the line is the one that
-/// the text would have.
+/// The text of a sheet, which reads back as the same values. Refuses with 3 to 7, 15 and 16; the line is the one that
+/// the text would have. 3 is for the waits alone, where they are not one for each place in turn.
 pub fn write(sheet: &Sheet) -> Result<Vec<u8>, Refusal> {
-    let [w1, w2, w3] = sheet.waiting;
-    let head = [sheet.places, sheet.steps.0, sheet.start.0, sheet.goal.0, w1, w2, w3, sheet.unloading];
+    let head = [sheet.places, sheet.steps.0, sheet.start.0, sheet.goal.0, sheet.unloading];
+    let waits: Vec<u32> = sheet.waits.iter().flat_map(wait_numbers).collect();
     let corridors: Vec<u32> = sheet.corridors.iter().flat_map(corridor_numbers).collect();
     let closures: Vec<u32> = sheet.closures.iter().flat_map(closure_numbers).collect();
     let occupancies: Vec<u32> = sheet.occupancies.iter().flat_map(occupancy_numbers).collect();
     let mut text = vec![0; MOST_BYTES];
-    let answer = calls::write(&head, &corridors, &closures, &occupancies, &mut text);
+    let answer = calls::write(&head, &waits, &corridors, &closures, &occupancies, &mut text);
     Refusal::check(answer.refusal, answer.line)?;
     text.truncate(answer.bytes as usize);
     Ok(text)
@@ -99,6 +108,15 @@ pub fn write(sheet: &Sheet) -> Result<Vec<u8>, Refusal> {
 /// The first rows of an array, each of `N` numbers.
 pub(crate) fn rows<const N: usize>(numbers: &[u32], count: usize) -> impl Iterator<Item = [u32; N]> {
     numbers.as_chunks().0[..count].iter().copied()
+}
+
+fn wait([place, cost @ ..]: [u32; 4]) -> Wait {
+    Wait { place: Place(place), cost }
+}
+
+fn wait_numbers(wait: &Wait) -> [u32; 4] {
+    let [w1, w2, w3] = wait.cost;
+    [wait.place.0, w1, w2, w3]
 }
 
 fn corridor([from, to, cost @ ..]: [u32; 5]) -> Corridor {

@@ -1,14 +1,20 @@
-//! Document 01's "Sheets to try", sheet D with the journey of document 02, times to unload, closures, and each refusal of a
-//! sheet, through the wrapper.
+//! Document 01's "Sheets to try", sheet D with the journey of document 02, times to unload, closures, and each refusal
+//! of a sheet, through the wrapper; waiting costs by place in tests/waits.rs.
 
-use crate::{Closure, Cost, Place, Refusal, Room, Step, front, journey, read, write};
+mod waits;
 
-const A: &str = "S,4,6,0,3,1,0,0,0\nC,0,1,1,0,4\nC,0,2,1,3,0\nC,1,3,1,0,4\nC,2,3,1,3,0\nO,1,1,2\n";
-const B: &str = "S,5,4,0,4,1,0,0,0\nC,0,1,1,0,0\nC,0,3,1,0,0\nC,1,2,1,0,0\nC,2,3,0,0,0\nC,3,4,0,0,0\nO,4,0,3\n";
-const D: &str = "S,6,3,0,5,0,0,0,0\nC,0,1,1,0,0\nC,0,2,1,0,0\nC,1,4,1,0,0\nC,2,3,1,0,0\nC,3,5,1,0,0\nC,4,5,1,0,0\n";
+use crate::{Closure, Cost, Place, Refusal, Room, Step, Wait, front, journey, read, write};
+
+const A: &str = "S,4,6,0,3,0\nW,0,1,0,0\nW,1,1,0,0\nW,2,1,0,0\nW,3,1,0,0\n\
+    C,0,1,1,0,4\nC,0,2,1,3,0\nC,1,3,1,0,4\nC,2,3,1,3,0\nO,1,1,2\n";
+const B: &str = "S,5,4,0,4,0\nW,0,1,0,0\nW,1,1,0,0\nW,2,1,0,0\nW,3,1,0,0\nW,4,1,0,0\n\
+    C,0,1,1,0,0\nC,0,3,1,0,0\nC,1,2,1,0,0\nC,2,3,0,0,0\nC,3,4,0,0,0\nO,4,0,3\n";
+const D: &str = "S,6,3,0,5,0\nW,0,0,0,0\nW,1,0,0,0\nW,2,0,0,0\nW,3,0,0,0\nW,4,0,0,0\nW,5,0,0,0\n\
+    C,0,1,1,0,0\nC,0,2,1,0,0\nC,1,4,1,0,0\nC,2,3,1,0,0\nC,3,5,1,0,0\nC,4,5,1,0,0\n";
 
 /// The bed of document 02, E5, stands at 2 at step 0 and at 1 at step 1; the cart goes from 1 to 2.
-const BED: &str = "S,3,4,1,2,1,0,0,0\nC,0,1,1,0,0\nC,1,0,1,0,0\nC,1,2,1,0,0\nC,2,1,1,0,0\nO,1,1,1\nO,2,0,0\n";
+const BED: &str = "S,3,4,1,2,0\nW,0,1,0,0\nW,1,1,0,0\nW,2,1,0,0\n\
+    C,0,1,1,0,0\nC,1,0,1,0,0\nC,1,2,1,0,0\nC,2,1,1,0,0\nO,1,1,1\nO,2,0,0\n";
 
 /// A journey's cost, arrival step and places.
 type Told<'a> = (Cost, u32, &'a [u32]);
@@ -106,18 +112,18 @@ fn sheet_d() {
 
 #[test]
 fn a_with_2_steps_to_unload() {
-    let text = a_with("1,0,0,0", "1,0,0,2");
+    let text = a_with("S,4,6,0,3,0", "S,4,6,0,3,2");
     assert_offers(&text, 5, &[([2, 6, 0], 2, &[0, 2, 3]), ([4, 0, 8], 4, &[0, 0, 0, 1, 3])]);
 }
 
 #[test]
 fn a_with_3_steps_to_unload() {
-    assert_offers(&a_with("1,0,0,0", "1,0,0,3"), 5, &[([2, 6, 0], 2, &[0, 2, 3])]);
+    assert_offers(&a_with("S,4,6,0,3,0", "S,4,6,0,3,3"), 5, &[([2, 6, 0], 2, &[0, 2, 3])]);
 }
 
 #[test]
 fn a_with_the_goal_occupied_before_the_first_arrival_has_unloaded() {
-    let text = a_with("O,1,1,2\n", "O,1,1,2\nO,3,3,3\n").replace("1,0,0,0", "1,0,0,1");
+    let text = a_with("O,1,1,2\n", "O,1,1,2\nO,3,3,3\n").replace("S,4,6,0,3,0", "S,4,6,0,3,1");
     assert_offers(&text, 6, &[([4, 0, 8], 4, &[0, 0, 0, 1, 3]), ([4, 6, 0], 4, &[0, 0, 0, 2, 3])]);
 }
 
@@ -144,7 +150,7 @@ fn a_with_closures_after_its_last_step() {
 #[test]
 fn a_sheet_read_and_written_gives_its_own_bytes() {
     let closed = a_with("O,1,1,2", "X,0,2,0\nX,0,2,255\nX,2,3,1\nO,1,1,2");
-    for text in [A, B, D, &a_with("1,0,0,0", "1,0,0,99"), &closed] {
+    for text in [A, B, D, &a_with("S,4,6,0,3,0", "S,4,6,0,3,99"), &closed] {
         let sheet = read(text.as_bytes()).expect("the sheet is served");
         assert_eq!(write(&sheet), Ok(text.as_bytes().to_vec()));
     }
@@ -154,8 +160,8 @@ fn a_sheet_read_and_written_gives_its_own_bytes() {
 fn the_values_of_b() {
     let sheet = read(B.as_bytes()).expect("the sheet is served");
     assert_eq!((sheet.places, sheet.steps, sheet.start, sheet.goal), (5, Step(4), Place(0), Place(4)));
-    assert_eq!((sheet.waiting, sheet.corridors.len(), sheet.occupancies.len()), ([1, 0, 0], 5, 1));
-    assert_eq!(sheet.unloading, 0);
+    assert_eq!((sheet.unloading, sheet.corridors.len(), sheet.occupancies.len()), (0, 5, 1));
+    assert_eq!(sheet.waits, [0, 1, 2, 3, 4].map(|place| Wait { place: Place(place), cost: [1, 0, 0] }));
     let (corridor, occupancy) = (sheet.corridors[2], sheet.occupancies[0]);
     assert_eq!((corridor.from, corridor.to, corridor.cost), (Place(1), Place(2), [1, 0, 0]));
     assert_eq!((occupancy.place, occupancy.first, occupancy.last), (Place(4), Step(0), Step(3)));
@@ -175,21 +181,21 @@ fn a_closure_of_no_corridor_is_told_when_written() {
     sheet.closures.push(Closure { from: Place(0), to: Place(2), step: Step(7) });
     assert_eq!(write(&sheet), Ok(a_with("O,1,1,2", "X,0,2,7\nO,1,1,2").into_bytes()));
     sheet.closures[0].to = Place(3);
-    assert_eq!(write(&sheet), Err(Refusal { number: 15, line: 6 }));
+    assert_eq!(write(&sheet), Err(Refusal { number: 15, line: 10 }));
 }
 
 #[test]
 fn the_writer_names_the_line_that_the_text_would_have() {
     let mut sheet = read(A.as_bytes()).expect("the sheet is served");
     sheet.corridors[1].to = Place(0);
-    assert_eq!(write(&sheet), Err(Refusal { number: 6, line: 3 }));
+    assert_eq!(write(&sheet), Err(Refusal { number: 6, line: 7 }));
 }
 
 #[test]
 fn a_time_to_unload_is_written_up_to_99_steps() {
     let mut sheet = read(A.as_bytes()).expect("the sheet is served");
     sheet.unloading = 99;
-    assert_eq!(write(&sheet), Ok(a_with("1,0,0,0", "1,0,0,99").into_bytes()));
+    assert_eq!(write(&sheet), Ok(a_with("S,4,6,0,3,0", "S,4,6,0,3,99").into_bytes()));
     sheet.unloading = 100;
     assert_eq!(write(&sheet), Err(Refusal { number: 4, line: 1 }));
 }
@@ -201,7 +207,7 @@ fn a_horizon_typed_too_short_is_told_when_written() {
     sheet.occupancies[0].last = Step(9);
     assert!(write(&sheet).is_ok());
     sheet.steps = Step(3);
-    assert_eq!(write(&sheet), Err(Refusal { number: 16, line: 7 }));
+    assert_eq!(write(&sheet), Err(Refusal { number: 16, line: 12 }));
 }
 
 #[test]
@@ -209,32 +215,32 @@ fn the_refusals_of_a_sheet() {
     let refused = |text: &str| refused(text, Room::default());
     assert_eq!(refused(&"\n".repeat(16_385)), (1, 0));
     assert_eq!(refused(&"\n".repeat(16_384)), (2, 1));
-    assert_eq!(refused(&a_with("O,1,1,2", "O,1,007,2")), (2, 6));
-    assert_eq!(refused(&a_with("1,0,0,0", "1,0,0")), (2, 1));
-    assert_eq!(refused(&a_with("1,0,0,0", "1,0,0,0,0")), (2, 1));
+    assert_eq!(refused(&a_with("O,1,1,2", "O,1,007,2")), (2, 10));
+    assert_eq!(refused(&a_with("S,4,6,0,3,0", "S,4,6,0,3")), (2, 1));
+    assert_eq!(refused(&a_with("S,4,6,0,3,0", "S,4,6,0,3,1,0,0,0")), (2, 1));
     assert_eq!(refused(""), (3, 1));
-    assert_eq!(refused(&a_with("O,1,1,2", "O,4,1,2")), (4, 6));
-    assert_eq!(refused(&a_with("1,0,0,0", "1,0,0,100")), (4, 1));
-    assert_eq!(refused(&a_with("C,0,2,", "C,0,1,")), (5, 3));
-    assert_eq!(refused(&a_with("O,1,1,2", "O,1,5,4")), (6, 6));
+    assert_eq!(refused(&a_with("O,1,1,2", "O,4,1,2")), (4, 10));
+    assert_eq!(refused(&a_with("S,4,6,0,3,0", "S,4,6,0,3,100")), (4, 1));
+    assert_eq!(refused(&a_with("C,0,2,", "C,0,1,")), (5, 7));
+    assert_eq!(refused(&a_with("O,1,1,2", "O,1,5,4")), (6, 10));
     let occupied: String = (0..257).map(|n| format!("O,{},0,{}\n", n / 100, n % 100)).collect();
-    assert_eq!(refused(&format!("S,4,6,0,3,1,0,0,0\n{occupied}")), (7, 258));
-    assert_eq!(refused(&a_with("O,1,1,2", "O,1,7,7")), (16, 6));
+    assert_eq!(refused(&a_with("O,1,1,2\n", &occupied)), (7, 266));
+    assert_eq!(refused(&a_with("O,1,1,2", "O,1,7,7")), (16, 10));
 }
 
 #[test]
 fn the_refusals_of_a_closure() {
     let refused = |closures: &str| refused(&a_with("O,1,1,2", &format!("{closures}\nO,1,1,2")), Room::default());
-    assert_eq!(refused("X,0,2"), (2, 6));
-    assert_eq!(refused("X,0,2,0\nC,3,0,1,0,0"), (3, 7));
-    assert_eq!(refused("O,1,0,0\nX,0,2,0"), (3, 7));
-    assert_eq!(refused("X,0,2,256"), (4, 6));
-    assert_eq!(refused("X,0,2,0\nX,0,2,0"), (5, 7));
-    assert_eq!(refused("X,2,2,0"), (6, 6));
+    assert_eq!(refused("X,0,2"), (2, 10));
+    assert_eq!(refused("X,0,2,0\nC,3,0,1,0,0"), (3, 11));
+    assert_eq!(refused("O,1,0,0\nX,0,2,0"), (3, 11));
+    assert_eq!(refused("X,0,2,256"), (4, 10));
+    assert_eq!(refused("X,0,2,0\nX,0,2,0"), (5, 11));
+    assert_eq!(refused("X,2,2,0"), (6, 10));
     let closed: Vec<String> = (0..257).map(|n| format!("X,0,{},{}", 1 + n / 256, n % 256)).collect();
-    assert_eq!(refused(&closed.join("\n")), (7, 262));
-    assert_eq!(refused("X,2,0,0"), (15, 6));
-    assert_eq!(refused("X,0,3,0"), (15, 6));
+    assert_eq!(refused(&closed.join("\n")), (7, 266));
+    assert_eq!(refused("X,2,0,0"), (15, 10));
+    assert_eq!(refused("X,0,3,0"), (15, 10));
 }
 
 #[test]

@@ -8,7 +8,7 @@ use lib.ListN.{length, getD}
 use Rattle.sheet.specs.Lists.{_∈_, number}
 use Rattle.sheet.specs.Kinds.{kindC, kindX, kindO}
 use Rattle.sheet.specs.Sheet.{Sheet, places, steps, start, from, to}
-use Rattle.sheet.specs.Store.{kindCount, storeRoom, SomeStore, partOf, sheetIn}
+use Rattle.sheet.specs.Store.{kindCount, baseOf, storeRoom, SomeStore, partOf, sheetIn}
 use Rattle.sheet.specs.Valid.{Valid}
 use Rattle.sheet.specs.Laws.Store.{part-number, store-valid, store-few, store-numbers, store-counts, store-length, head-number}
 use Rattle.sheet.specs.Laws.Decided.{false-not-true, In, from-same, from-of}
@@ -82,7 +82,7 @@ module _ {lines all : List ℕ} (S : SomeStore lines all) where
       }
 
   -- the numbers that are copied are those of the group
-  pub links-copied : {a b : List ℕ} → Copied 8 832 (number lines (kindC .order) * 5) all a b → LinksLaid cs a b
+  pub links-copied : {a b : List ℕ} → Copied (baseOf (kindC .order)) 832 (number lines (kindC .order) * 5) all a b → LinksLaid cs a b
   links-copied c =
       record {
         numbers = λ i l.
@@ -91,7 +91,7 @@ module _ {lines all : List ℕ} (S : SomeStore lines all) where
         others = besides-wide 832 2112 (omega arith) (omega (arith, few-lines)) (c .others);
       }
 
-  pub closures-copied : {a b : List ℕ} → Copied 1288 3716 (number lines (kindX .order) * 3) all a b → ClosuresLaid xs a b
+  pub closures-copied : {a b : List ℕ} → Copied (baseOf (kindX .order)) 3716 (number lines (kindX .order) * 3) all a b → ClosuresLaid xs a b
   closures-copied c =
       record {
         numbers = λ i l.

@@ -77,7 +77,7 @@ leading-alike s r h =
 
 -- the sheet with another goal and another time to unload there
 unfoldable pub withGoal : Sheet → ℕ → ℕ → Sheet
-withGoal s g u = record { head = set (set (s .head) 3 g) 7 u; corridors = s .corridors; closures = s .closures; occupancies = s .occupancies }
+withGoal s g u = record { head = set (set (s .head) 3 g) 4 u; waits = s .waits; corridors = s .corridors; closures = s .closures; occupancies = s .occupancies }
 
 -- a crossing on a sheet with the same corridors, where it is not closed
 same-crossing : (s r : Sheet) → s .corridors ≡ r .corridors → (u v t : ℕ) (c : Cost) → (Closed r u v t → Closed s u v t) → Crossing s u v t c → Crossing r u v t c
@@ -97,16 +97,13 @@ goal-alike s g u =
     record {
       starts = other 2 (λ e. omega arith) (omega arith);
       within = record { horizon = other 1 (λ e. omega arith) (omega arith); free = λ v t l. refl };
-      wait = λ v. (let a = w 4 (omega arith) (omega arith) in let b = w 5 (omega arith) (omega arith) in let c = w 6 (omega arith) (omega arith) in cc);
+      wait = λ v. refl;
       forth = λ p q t c l. same-crossing (withGoal s g u) s refl p q t c (λ m. m);
       back = λ p q t c l. same-crossing s (withGoal s g u) refl p q t c (λ m. m);
     }
   where
-    other : (i : ℕ) → (i ≡ 3 → ⊥) → i < 7 → number (set (set (s .head) 3 g) 7 u) i ≡ number (s .head) i
-    other i n h = getD-set-other (set (s .head) 3 g) 7 i u 0 (λ e. omega arith) ∙ getD-set-other (s .head) 3 i g 0 n
-
-    w : (i : ℕ) → 4 ≤ i → i < 7 → number (set (set (s .head) 3 g) 7 u) i ≡ number (s .head) i
-    w i l h = other i (λ e. omega arith) h
+    other : (i : ℕ) → (i ≡ 3 → ⊥) → i < 4 → number (set (set (s .head) 3 g) 4 u) i ≡ number (s .head) i
+    other i n h = getD-set-other (set (s .head) 3 g) 4 i u 0 (λ e. omega arith) ∙ getD-set-other (s .head) 3 i g 0 n
 
 -- the goal and the time to unload play no part
 pub leading-any-goal : (s : Sheet) (g u : ℕ) → leading (withGoal s g u) ≡ leading s

@@ -3,20 +3,23 @@
 use mathlib.Core.Path.{_≡_, refl, sym, _∙_, ap, subst}
 use mathlib.Core.Bool.{Bool, true, false, not, _&&_, true≢false}
 use mathlib.Core.List.{List, [], _∷_}
+use mathlib.Core.Logic.{_⊎_, inl, inr}
 use Prim.Native.Nat.{ℕ, zero, suc, _/_, _+_, _≤_, _<_}
 use native.Mathlib.Omega.{arith}
 use lib.Dec.{eqb}
-use lib.ListN.{length, getD, take}
+use native.Mathlib.Nat.{zero-add}
+use lib.ListN.{length, getD, take, List·getD-eq-default}
 use borrow.Author.Tests.{eqb-true, eq-eqb, not-true}
 use Rattle.sheet.specs.Lists.{_∈_, number, numbersFrom}
 use Rattle.sheet.specs.Kinds.{width, kindC}
-use Rattle.sheet.specs.Sheet.{Sheet, from, to}
+use Rattle.sheet.specs.Sheet.{Sheet, places, placeOf, from, to}
 use Rattle.sheet.specs.Valid.{Valid}
 use Rattle.sheet.specs.Store.{SomeStore, partOf, sheetIn}
 use Rattle.sheet.specs.Laws.Order.{and-true, true-and}
 use Rattle.sheet.specs.Laws.Members.{filter-mem, mem-filter, any-mem, mem-any, mem-at, position-of}
 use Rattle.sheet.specs.Laws.Ascending.{ascending-once}
-use Rattle.sheet.specs.Laws.Decided.{yes-of, is-yes, from-length}
+use Rattle.sheet.specs.Laws.Decided.{yes-of, is-yes, lt-or-le, from-length}
+use Rattle.sheet.specs.Laws.Turns.{turned-at}
 use Rattle.sheet.specs.Laws.Rows.{rows-count}
 use Rattle.sheet.specs.Laws.Store.{store-numbers}
 use Rattle.costs.specs.Costs.{Cost, figures, fig}
@@ -28,7 +31,13 @@ use Rattle.costs.specs.declared.Corridor.{Corridor}
 
 pub wait-three : (s : Sheet) (v : ℕ) → length (waitOf s v) ≡ figures
 unfolding waitOf
-wait-three s v = from-length figures 4 (s .head)
+wait-three s v = from-length figures 1 (getD (s .waits) v [])
+
+-- the W line at position v is that of place v
+pub wait-line : (s : Sheet) → Valid s → (v : ℕ) → v < places s → (getD (s .waits) v [] ∈ s .waits) × (placeOf (getD (s .waits) v []) ≡ v)
+wait-line s h v l =
+    let b : v < length (s .waits) = omega (arith, h .each-place) in
+    (mem-at [] (s .waits) v b, turned-at 0 (s .waits) (h .waits-turn) v b ∙ zero-add v)
 
 pub cost-three : (k : List ℕ) → length (costOf k) ≡ figures
 unfolding costOf
@@ -73,7 +82,11 @@ from-within (suc n) i m l h (suc j) = from-within n (suc i) m l (λ k p q. h k (
 -- no figure of a valid sheet is above 60,000
 pub wait-bounded : (s : Sheet) → Valid s → (v i : ℕ) → fig (waitOf s v) i ≤ 60000
 unfolding waitOf
-wait-bounded s h v i = from-within figures 4 60000 (s .head) (h .wait) i
+wait-bounded s h v i = from-within figures 1 60000 (getD (s .waits) v []) (λ j p q. small j p (lt-or-le v (length (s .waits)))) i
+  where
+    small : (j : ℕ) → 1 ≤ j → (v < length (s .waits)) ⊎ (length (s .waits) ≤ v) → number (getD (s .waits) v []) j ≤ 60000
+    small j p (inl b) = h .waits (getD (s .waits) v []) (mem-at [] (s .waits) v b) .cost j p
+    small j p (inr b) = rw (List·getD-eq-default (s .waits) [] b) (omega arith)
 
 pub crossing-bounded : (s : Sheet) → Valid s → (u v t : ℕ) (c : Cost) → Crossing s u v t c → (i : ℕ) → fig c i ≤ 60000
 unfolding costOf

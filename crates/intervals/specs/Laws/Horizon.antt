@@ -54,6 +54,7 @@ unfoldable pub withinHorizon : Sheet → Sheet
 withinHorizon s =
     record {
       head = s .head;
+      waits = s .waits;
       corridors = s .corridors;
       closures = filter (λ x. ltb (departure x) (steps s)) (s .closures);
       occupancies = map (cutOff (steps s)) (s .occupancies);

@@ -14,7 +14,7 @@ use Rattle.journeys.specs.Inner.{countsAt}
 -- the numbers of an S line, at the front of the array, and a table of first steps
 pub record Countable (all since : List ℕ) : Type 0 where
   pub head : width kindS ≤ length all
-  pub goal : Stayable since (number all 3) (number all 1) (number all 7)
+  pub goal : Stayable since (number all 3) (number all 1) (number all 4)
 
 -- the array tells which arrivals at the goal of s count
 pub record CountingOf (s : Sheet) (counting : List ℕ) : Type 0 where

@@ -4,7 +4,7 @@
 -- `groupsOf` and `sheetOf`.
 use mathlib.Core.Path.{_≡_, refl, sym, _∙_, ap, ap₂, subst}
 use mathlib.Core.Logic.{_⊎_, inl, inr, _≢_, ⊎-elim}
-use mathlib.Core.Bool.{Bool, true, false, not}
+use mathlib.Core.Bool.{Bool, true, false, not, _||_}
 use mathlib.Core.List.{List, [], _∷_, _++_, map, append-nil}
 use Prim.Native.Nat.{ℕ, _≤_, _<_}
 use native.Mathlib.Omega.{arith}
@@ -15,7 +15,7 @@ use Rattle.sheet.specs.Lists.{_∈_, keep, filter, any, flat}
 use Rattle.sheet.specs.Sorting.{Ascending}
 use Rattle.sheet.specs.Kinds.{Kind, kindS, kinds}
 use Rattle.sheet.specs.Lines.{Line, line}
-use Rattle.sheet.specs.Sheet.{Sheet, group, sheetOf, groupsOf, linesFrom, sheetLines, misplaced}
+use Rattle.sheet.specs.Sheet.{Sheet, group, sheetOf, groupsOf, linesFrom, sheetLines, outOfTurn, misplaced}
 use Rattle.sheet.specs.Laws.Members.{mem-left, mem-right, mem-append, mem-map, filter-mem, mem-filter}
 use Rattle.sheet.specs.Laws.Ascending.{before-all}
 use Rattle.sheet.specs.Laws.Kinds.{orderKey, kinds-ascend, kind-by-order}
@@ -98,37 +98,43 @@ groups-lines (k ∷ ks) (g ∷ gs) a e =
         ∙ ap (λ (x : List (List ℕ)). x ++ group j (linesFrom ks gs)) (group-other j k g (λ q. omega (arith, later-kinds k ks a j m)))
 
 -- a sheet group by group, behind one S line
-pub sheet-path : {h : List ℕ} {c d x y o p : List (List ℕ)} → c ≡ d → x ≡ y → o ≡ p
-    → _≡_ {A = Sheet} (record { head = h; corridors = c; closures = x; occupancies = o }) (record { head = h; corridors = d; closures = y; occupancies = p })
-sheet-path {h} e f g = λ i. record { head = h; corridors = e i; closures = f i; occupancies = g i }
+pub sheet-path : {h : List ℕ} {w v c d x y o p : List (List ℕ)} → w ≡ v → c ≡ d → x ≡ y → o ≡ p
+    → _≡_ {A = Sheet} (record { head = h; waits = w; corridors = c; closures = x; occupancies = o })
+    (record { head = h; waits = v; corridors = d; closures = y; occupancies = p })
+sheet-path {h} b e f g = λ i. record { head = h; waits = b i; corridors = e i; closures = f i; occupancies = g i }
 
 -- the sheet with these groups
 abbrev pub sheetFrom : List (List (List ℕ)) → Sheet
-sheetFrom gs = record { head = flat (getD gs 0 []); corridors = getD gs 1 []; closures = getD gs 2 []; occupancies = getD gs 3 [] }
+sheetFrom gs = record { head = flat (getD gs 0 []); waits = getD gs 1 []; corridors = getD gs 2 []; closures = getD gs 3 []; occupancies = getD gs 4 [] }
 
 pub sheet-from : (s : Sheet) → sheetFrom (groupsOf s) ≡ s
-sheet-from s = ap (λ (h : List ℕ). record { head = h; corridors = s .corridors; closures = s .closures; occupancies = s .occupancies }) (append-nil (s .head))
+sheet-from s = ap (λ (h : List ℕ). record { head = h; waits = s .waits; corridors = s .corridors; closures = s .closures; occupancies = s .occupancies }) (append-nil (s .head))
 
 pub from-sheet : (gs : List (List (List ℕ))) → length gs ≡ length kinds → (n : List ℕ) → getD gs 0 [] ≡ n ∷ [] → groupsOf (sheetFrom gs) ≡ gs
-from-sheet (g ∷ c ∷ x ∷ o ∷ []) e n z = ap (λ (h : List (List ℕ)). h ∷ c ∷ x ∷ o ∷ []) (rw z (ap (λ (m : List ℕ). m ∷ []) (append-nil n)))
+from-sheet (g ∷ w ∷ c ∷ x ∷ o ∷ []) e n z = ap (λ (h : List (List ℕ)). h ∷ w ∷ c ∷ x ∷ o ∷ []) (rw z (ap (λ (m : List ℕ). m ∷ []) (append-nil n)))
 from-sheet [] e n z = absurd (omega arith)
 from-sheet (g ∷ []) e n z = absurd (omega arith)
-from-sheet (g ∷ c ∷ []) e n z = absurd (omega arith)
-from-sheet (g ∷ c ∷ x ∷ []) e n z = absurd (omega arith)
-from-sheet (g ∷ c ∷ x ∷ o ∷ h ∷ gs) e n z = absurd (omega arith)
+from-sheet (g ∷ w ∷ []) e n z = absurd (omega arith)
+from-sheet (g ∷ w ∷ c ∷ []) e n z = absurd (omega arith)
+from-sheet (g ∷ w ∷ c ∷ x ∷ []) e n z = absurd (omega arith)
+from-sheet (g ∷ w ∷ c ∷ x ∷ o ∷ h ∷ gs) e n z = absurd (omega arith)
 
 pub sheet-lines : (s : Sheet) → sheetOf (sheetLines s) ≡ s
 sheet-lines s = ap sheetFrom (groups-lines kinds (groupsOf s) kinds-ascend refl) ∙ sheet-from s
 
 -- after the first line no order is 0, and orders never fall
 module _ (m : Line) (before : List Line) (l : Line) (h : misplaced (m ∷ before) l ≡ false) where
+  in-order : eqb (l .kind .order) 0 || any (λ k. ltb (l .kind .order) (k .kind .order)) (m ∷ before) ≡ false
+  in-order = or-false (eqb (l .kind .order) 0 || any (λ k. ltb (l .kind .order) (k .kind .order)) (m ∷ before)) (outOfTurn (m ∷ before) l) h .0
+
   not-first : l .kind .order ≢ 0
-  not-first = eqb-false (l .kind .order) 0 (or-false (eqb (l .kind .order) 0) (any (λ k. ltb (l .kind .order) (k .kind .order)) (m ∷ before)) h .0)
+  not-first = eqb-false (l .kind .order) 0 (or-false (eqb (l .kind .order) 0) (any (λ k. ltb (l .kind .order) (k .kind .order)) (m ∷ before)) in-order .0)
 
   not-fallen : (k : Line) → k ∈ (m ∷ before) → k .kind .order ≤ l .kind .order
   not-fallen k i =
       ltb-false (l .kind .order) (k .kind .order)
-      (any-false (λ k. ltb (l .kind .order) (k .kind .order)) (m ∷ before) (or-false (eqb (l .kind .order) 0) (any (λ k. ltb (l .kind .order) (k .kind .order)) (m ∷ before)) h .1) k i)
+      (any-false (λ k. ltb (l .kind .order) (k .kind .order)) (m ∷ before)
+      (or-false (eqb (l .kind .order) 0) (any (λ k. ltb (l .kind .order) (k .kind .order)) (m ∷ before)) in-order .1) k i)
 
 pub never-falls : (m : Line) (before ls : List Line) → Passes (m ∷ before) ls → (k l : Line) → k ∈ (m ∷ before) → l ∈ ls → k .kind .order ≤ l .kind .order
 never-falls m before [] p k l i j = absurd j

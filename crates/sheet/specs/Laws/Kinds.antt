@@ -46,7 +46,7 @@ abbrev pub orderKey : Kind → List ℕ
 orderKey k = k .order ∷ []
 
 pub kinds-ascend : Ascending orderKey kinds
-kinds-ascend = (inl (omega arith), (inl (omega arith), (inl (omega arith), (tt, tt))))
+kinds-ascend = (inl (omega arith), (inl (omega arith), (inl (omega arith), (inl (omega arith), (tt, tt)))))
 
 -- a kind of the table is known by its order
 pub kind-by-order : (k j : Kind) → k ∈ kinds → j ∈ kinds → k .order ≡ j .order → k ≡ j

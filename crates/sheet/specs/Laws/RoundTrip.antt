@@ -14,19 +14,19 @@ use lib.Seq.{take-append-seam, take-at}
 use borrow.Author.Tests.{le-ltb, eq-eqb, eqb-true, eqb-false, not-false}
 use Rattle.sheet.specs.Lists.{pick, _∈_, bind, filled, flat}
 use Rattle.sheet.specs.Decimal.{mostDigits}
-use Rattle.sheet.specs.Kinds.{Kind, width, room, kindS, kindC, kindX, kindO, kinds}
+use Rattle.sheet.specs.Kinds.{Kind, width, room, kindS, kindW, kindC, kindX, kindO, kinds}
 use Rattle.sheet.specs.Lines.{Line, line, textLines}
-use Rattle.sheet.specs.Sheet.{Sheet, sheetOf, groupsOf, linesFrom, sheetLines, fault, Outcome, refused, loaded, told, judge, mostBytes, readOf}
+use Rattle.sheet.specs.Sheet.{Sheet, sheetOf, groupsOf, linesFrom, sheetLines, fault, lacking, Outcome, refused, loaded, told, judge, mostBytes, readOf}
 use Rattle.sheet.specs.Text.{lineText, sheetText}
 use Rattle.sheet.specs.Valid.{Valid}
 use Rattle.sheet.specs.Calls.{readAnswer, readCall, Groups, groups, groupsRead, uneven, leftOver, sheetOfGroups, judgedGroups, WriteEnd, writeEnd, writeRefused, written, writeGroups}
 use Rattle.sheet.specs.Laws.Members.{mem-left, mem-right, mem-append, mem-map, map-mem}
 use Rattle.sheet.specs.Laws.Passed.{or-false}
-use Rattle.sheet.specs.Laws.Judge.{Passes, not-loaded, judge-passes, passes-judge}
+use Rattle.sheet.specs.Laws.Judge.{Passes, some-line, not-loaded, judge-passes, passes-judge}
 use Rattle.sheet.specs.Laws.Shape.{Shaped, AllShaped}
 use Rattle.sheet.specs.Laws.LineText.{sheet-letters, lines-back, lines-unread}
 use Rattle.sheet.specs.Laws.Groups.{sheet-path, sheet-lines, lines-sheet}
-use Rattle.sheet.specs.Laws.Valid.{numbers-below, passes-valid, valid-shaped, valid-passes}
+use Rattle.sheet.specs.Laws.Valid.{numbers-below, passes-valid, valid-shaped, valid-passes, valid-complete}
 use Rattle.sheet.specs.Laws.TextBound.{longest, text-longest, text-bound}
 use Rattle.sheet.specs.Laws.Rows.{Wide, rows-count, rows-flat, flat-rows, flat-whole, rows-wide, take-filled, filled-full}
 
@@ -44,8 +44,11 @@ refused-step before l k n o f e = go (eqb (fault before l) 0) refl e
 
 judge-refused : (before : List Line) (ls : List (Option Line)) (k n : ℕ) → judge before ls ≡ refused k n → 1 ≤ k
 unfolding judge
-judge-refused [] [] k n e = let z : k ≡ 3 = cc in omega arith
-judge-refused (m ∷ before) [] k n e = absurd (not-loaded k n (sheetOf (m ∷ before)) (sym e))
+judge-refused before [] k n e = ends-refused (lacking before) e
+  where
+    ends-refused : (t : Bool) → pick t (refused 3 (suc (length before))) (loaded (sheetOf before)) ≡ refused k n → 1 ≤ k
+    ends-refused true e = let z : k ≡ 3 = cc in omega arith
+    ends-refused false e = absurd (not-loaded k n (sheetOf before) (sym e))
 judge-refused before (none ∷ ls) k n e = let z : k ≡ 2 = cc in omega arith
 judge-refused before (some l ∷ ls) k n e = refused-step before l k n (judge (before ++ (l ∷ [])) ls) (judge-refused (before ++ (l ∷ [])) ls k n) e
 
@@ -92,11 +95,11 @@ some-lines (l ∷ a) (m ∷ b) e =
     ap₂ (λ (j : Line) (ls : List Line). j ∷ ls) x (some-lines a b y)
 
 -- lines that are loaded all pass
-judged-lines : (ls : List Line) (s : Sheet) → judge [] (map some ls) ≡ loaded s → Passes [] ls × (s ≡ sheetOf ls)
+judged-lines : (ls : List Line) (s : Sheet) → judge [] (map some ls) ≡ loaded s → Passes [] ls × (lacking ls ≡ false) × (s ≡ sheetOf ls)
 judged-lines ls s e =
     let j = judge-passes [] (map some ls) s e in
     let z : j .lines ≡ ls = some-lines (j .lines) ls (sym (j .all-lines)) in
-    (subst (λ (k : List Line). Passes [] k) z (j .passes), j .sheet ∙ ap sheetOf z)
+    (subst (λ (k : List Line). Passes [] k) z (j .passes), subst (λ (k : List Line). lacking k ≡ false) z (j .complete), j .sheet ∙ ap sheetOf z)
 
 -- the groups hold as many numbers a line as their kinds have
 abbrev AllWide : List Kind → List (List (List ℕ)) → Type 0
@@ -123,23 +126,27 @@ shaped-wide (k ∷ ks) (g ∷ gs) s = (
 
 -- the numbers of a sheet's groups, and back
 abbrev pub numbersOfSheet : Sheet → Groups
-numbersOfSheet s = groups (s .head) (flat (s .corridors)) (flat (s .closures)) (flat (s .occupancies))
+numbersOfSheet s = groups (s .head) (flat (s .waits)) (flat (s .corridors)) (flat (s .closures)) (flat (s .occupancies))
 
 -- the groups make whole lines
 pub record Whole (g : Groups) : Type 0 where
   pub head-whole : length (g .head) ≡ width kindS
+  pub waits-whole : length (g .waits) % width kindW ≡ 0
   pub corridors-whole : length (g .corridors) % width kindC ≡ 0
   pub closures-whole : length (g .closures) % width kindX ≡ 0
   pub occupancies-whole : length (g .occupancies) % width kindO ≡ 0
 
 pub whole-of : (g : Groups) → uneven g ≡ false → Whole g
 whole-of g q =
-    let a = or-false (not (eqb (length (g .head)) (width kindS)) || leftOver kindC (g .corridors) || leftOver kindX (g .closures)) (leftOver kindO (g .occupancies)) q in
-    let x = or-false (not (eqb (length (g .head)) (width kindS)) || leftOver kindC (g .corridors)) (leftOver kindX (g .closures)) (a .0) in
-    let b = or-false (not (eqb (length (g .head)) (width kindS))) (leftOver kindC (g .corridors)) (x .0) in
+    let h = not (eqb (length (g .head)) (width kindS)) in
+    let a = or-false (h || leftOver kindW (g .waits) || leftOver kindC (g .corridors) || leftOver kindX (g .closures)) (leftOver kindO (g .occupancies)) q in
+    let x = or-false (h || leftOver kindW (g .waits) || leftOver kindC (g .corridors)) (leftOver kindX (g .closures)) (a .0) in
+    let c = or-false (h || leftOver kindW (g .waits)) (leftOver kindC (g .corridors)) (x .0) in
+    let b = or-false h (leftOver kindW (g .waits)) (c .0) in
     record {
       head-whole = eqb-true (length (g .head)) (width kindS) (not-false (eqb (length (g .head)) (width kindS)) (b .0));
-      corridors-whole = eqb-true (length (g .corridors) % width kindC) 0 (not-false (eqb (length (g .corridors) % width kindC) 0) (b .1));
+      waits-whole = eqb-true (length (g .waits) % width kindW) 0 (not-false (eqb (length (g .waits) % width kindW) 0) (b .1));
+      corridors-whole = eqb-true (length (g .corridors) % width kindC) 0 (not-false (eqb (length (g .corridors) % width kindC) 0) (c .1));
       closures-whole = eqb-true (length (g .closures) % width kindX) 0 (not-false (eqb (length (g .closures) % width kindX) 0) (x .1));
       occupancies-whole = eqb-true (length (g .occupancies) % width kindO) 0 (not-false (eqb (length (g .occupancies) % width kindO) 0) (a .1));
     }
@@ -148,29 +155,31 @@ of-whole : (g : Groups) → Whole g → uneven g ≡ false
 of-whole g w =
     rw (
       eq-eqb (length (g .head)) (width kindS) (w .head-whole),
+      eq-eqb (length (g .waits) % width kindW) 0 (w .waits-whole),
       eq-eqb (length (g .corridors) % width kindC) 0 (w .corridors-whole),
       eq-eqb (length (g .closures) % width kindX) 0 (w .closures-whole),
       eq-eqb (length (g .occupancies) % width kindO) 0 (w .occupancies-whole),
     )
 
 whole-wide : (g : Groups) → Whole g → AllWide kinds (groupsOf (sheetOfGroups g))
-whole-wide g w = (head, (rows-wide (width kindC) (g .corridors), (rows-wide (width kindX) (g .closures), (rows-wide (width kindO) (g .occupancies), tt))))
+whole-wide g w = (head, (rows-wide (width kindW) (g .waits), (rows-wide (width kindC) (g .corridors), (rows-wide (width kindX) (g .closures), (rows-wide (width kindO) (g .occupancies), tt)))))
   where
     head : Wide (width kindS) (g .head ∷ [])
     head n (inl e) = ap length e ∙ w .head-whole
 
 wide-whole : (s : Sheet) → AllWide kinds (groupsOf s) → Whole (numbersOfSheet s)
-wide-whole s (h, (c, (x, (o, u)))) =
+wide-whole s (h, (w, (c, (x, (o, u))))) =
     record {
       head-whole = h (s .head) (inl refl);
+      waits-whole = flat-whole (width kindW) (s .waits) w;
       corridors-whole = flat-whole (width kindC) (s .corridors) c;
       closures-whole = flat-whole (width kindX) (s .closures) x;
       occupancies-whole = flat-whole (width kindO) (s .occupancies) o;
     }
 
 flat-sheet : (s : Sheet) → AllWide kinds (groupsOf s) → sheetOfGroups (numbersOfSheet s) ≡ s
-flat-sheet s (h, (c, (x, (o, u)))) =
-    sheet-path (rows-flat (width kindC) (s .corridors) (omega arith) c) (rows-flat (width kindX) (s .closures) (omega arith) x)
+flat-sheet s (h, (w, (c, (x, (o, u))))) =
+    sheet-path (rows-flat (width kindW) (s .waits) (omega arith) w) (rows-flat (width kindC) (s .corridors) (omega arith) c) (rows-flat (width kindX) (s .closures) (omega arith) x)
     (rows-flat (width kindO) (s .occupancies) (omega arith) o)
 
 -- the text t in the buffer
@@ -182,6 +191,7 @@ record Accepted (g : Groups) (out : List ℕ) : Type 0 where
   whole : Whole g
   judged : judgedGroups g ≡ loaded (sheetOfGroups g)
   passes : Passes [] (sheetLines (sheetOfGroups g))
+  complete : lacking (sheetLines (sheetOfGroups g)) ≡ false
   end : writeGroups g out ≡ writtenAll (sheetText (sheetOfGroups g)) out
 
 pub whole-judged : (g : Groups) (out : List ℕ) → uneven g ≡ false → writeGroups g out ≡ told (writeRefused out) (written out) (judgedGroups g)
@@ -202,11 +212,12 @@ text-fits s out e = go (ltb (length out) (length (sheetText s))) e
     go false e = refl
 
 -- a judgement of groups is that of their sheet
-judged-sheet : (g : Groups) (s : Sheet) → judgedGroups g ≡ loaded s → Passes [] (sheetLines (sheetOfGroups g)) × (s ≡ sheetOfGroups g)
+judged-sheet : (g : Groups) (s : Sheet) → judgedGroups g ≡ loaded s
+    → Passes [] (sheetLines (sheetOfGroups g)) × (lacking (sheetLines (sheetOfGroups g)) ≡ false) × (s ≡ sheetOfGroups g)
 unfolding judgedGroups
 judged-sheet g s e =
     let j = judged-lines (sheetLines (sheetOfGroups g)) s e in
-    (j .0, j .1 ∙ sheet-lines (sheetOfGroups g))
+    (j .0, j .1, j .2 ∙ sheet-lines (sheetOfGroups g))
 
 judged-refused : (g : Groups) (k n : ℕ) → judgedGroups g ≡ refused k n → 1 ≤ k
 unfolding judgedGroups
@@ -221,9 +232,10 @@ write-accepted g out e = uneven-or (uneven g) refl
         let j = judged-sheet g s q in
         record {
           whole = whole-of g u;
-          judged = q ∙ ap loaded (j .1);
+          judged = q ∙ ap loaded (j .2);
           passes = j .0;
-          end = whole-judged g out u ∙ ap (told (writeRefused out) (written out)) q ∙ text-fits s out h ∙ ap (λ (k : Sheet). writtenAll (sheetText k) out) (j .1);
+          complete = j .1;
+          end = whole-judged g out u ∙ ap (told (writeRefused out) (written out)) q ∙ text-fits s out h ∙ ap (λ (k : Sheet). writtenAll (sheetText k) out) (j .2);
         }
 
     uneven-or : (b : Bool) → uneven g ≡ b → Accepted g out
@@ -241,20 +253,20 @@ unfolding sheetText
 read-sheet b s e =
     let j = judge-passes [] (linesIn b) s (judge-read b s e) in
     let u = lines-unread mostDigits kinds b (j .lines) (j .all-lines) in
-    let z : sheetLines s ≡ j .lines = ap sheetLines (j .sheet) ∙ lines-sheet (j .lines) (u .0) (j .passes) (j .some-line) in
+    let z : sheetLines s ≡ j .lines = ap sheetLines (j .sheet) ∙ lines-sheet (j .lines) (u .0) (j .passes) (some-line (j .lines) (j .complete)) in
     record {
       shaped = subst (λ (ls : List Line). AllShaped ls) (sym z) (u .0);
-      judged = ap (λ (ls : List Line). judge [] (map some ls)) z ∙ passes-judge [] (j .lines) (j .passes) (j .some-line) ∙ ap loaded (sym (j .sheet));
+      judged = ap (λ (ls : List Line). judge [] (map some ls)) z ∙ passes-judge [] (j .lines) (j .passes) (j .complete) ∙ ap loaded (sym (j .sheet));
       text = ap (λ (ls : List Line). bind ls (lineText mostDigits)) z ∙ u .1;
     }
 
 -- what is written reads as itself
-pub write-read-sheet : (s : Sheet) → AllShaped (sheetLines s) → Passes [] (sheetLines s) → readOf (sheetText s) ≡ loaded s
+pub write-read-sheet : (s : Sheet) → AllShaped (sheetLines s) → Passes [] (sheetLines s) → lacking (sheetLines s) ≡ false → readOf (sheetText s) ≡ loaded s
 unfolding sheetText
-write-read-sheet s h p =
+write-read-sheet s h p c =
     read-judge (sheetText s) (text-bound (sheetLines s) h p (omega arith))
     ∙ ap (judge []) (lines-back mostDigits kinds (omega arith) sheet-letters (sheetLines s) h (numbers-below (sheetLines s) h p))
-    ∙ passes-judge [] (sheetLines s) p (omega arith)
+    ∙ passes-judge [] (sheetLines s) p c
     ∙ ap loaded (sheet-lines s)
 
 -- what was written is read as the sheet of the groups
@@ -266,7 +278,7 @@ write-read-answer g out e =
     let s = sheetOfGroups g in
     ap (λ (w : WriteEnd). readCall (take (w .answer .bytes) (w .out))) (a .end)
     ∙ ap readCall (take-append-seam (sheetText s) (drop (length (sheetText s)) out))
-    ∙ ap readAnswer (write-read-sheet s (wide-shaped kinds (groupsOf s) (λ k m. m) (whole-wide g (a .whole))) (a .passes))
+    ∙ ap readAnswer (write-read-sheet s (wide-shaped kinds (groupsOf s) (λ k m. m) (whole-wide g (a .whole))) (a .passes) (a .complete))
 
 -- the groups that the writer took are read again
 pub write-read-calls : (g : Groups) (out : List ℕ) → writeGroups g out .answer .refusal ≡ 0
@@ -274,8 +286,10 @@ pub write-read-calls : (g : Groups) (out : List ℕ) → writeGroups g out .answ
     ≡ record {
       refusal = 0;
       line = 0;
-      lines = 1 ∷ length (g .corridors) / width kindC ∷ length (g .closures) / width kindX ∷ length (g .occupancies) / width kindO ∷ [];
+      lines =
+          1 ∷ length (g .waits) / width kindW ∷ length (g .corridors) / width kindC ∷ length (g .closures) / width kindX ∷ length (g .occupancies) / width kindO ∷ [];
       head = filled (room kindS) (g .head);
+      waits = filled (room kindW) (g .waits);
       corridors = filled (room kindC) (g .corridors);
       closures = filled (room kindX) (g .closures);
       occupancies = filled (room kindO) (g .occupancies);
@@ -285,9 +299,11 @@ write-read-calls g out e =
     let a = write-accepted g out e in
     write-read-answer g out e
     ∙ rw (
+      rows-count (width kindW) (length (g .waits) / width kindW) (g .waits),
       rows-count (width kindC) (length (g .corridors) / width kindC) (g .corridors),
       rows-count (width kindX) (length (g .closures) / width kindX) (g .closures),
       rows-count (width kindO) (length (g .occupancies) / width kindO) (g .occupancies),
+      flat-rows (width kindW) (g .waits) (a .whole .waits-whole),
       flat-rows (width kindC) (g .corridors) (a .whole .corridors-whole),
       flat-rows (width kindX) (g .closures) (a .whole .closures-whole),
       flat-rows (width kindO) (g .occupancies) (a .whole .occupancies-whole),
@@ -295,9 +311,10 @@ write-read-calls g out e =
 
 answer-groups : (s : Sheet) → AllWide kinds (groupsOf s) → groupsRead (readAnswer (loaded s)) ≡ numbersOfSheet s
 unfolding readAnswer
-answer-groups s (h, (c, (x, (o, u)))) =
+answer-groups s (h, (w, (c, (x, (o, u))))) =
     rw (
       filled-full (room kindS) (s .head) (h (s .head) (inl refl)),
+      take-filled (width kindW) (room kindW) (s .waits) w,
       take-filled (width kindC) (room kindC) (s .corridors) c,
       take-filled (width kindX) (room kindX) (s .closures) x,
       take-filled (width kindO) (room kindO) (s .occupancies) o,
@@ -307,12 +324,14 @@ answer-groups s (h, (c, (x, (o, u)))) =
 pub write-read-groups : (g : Groups) (out : List ℕ) → writeGroups g out .answer .refusal ≡ 0 → groupsRead (readCall (take (writeGroups g out .answer .bytes) (writeGroups g out .out))) ≡ g
 write-read-groups g out e =
     let w = write-accepted g out e .whole in
+    let b : length (g .waits) ≡ length (g .waits) / width kindW * width kindW = omega (arith, w .waits-whole, div-add-mod' (length (g .waits)) (width kindW)) in
     let c : length (g .corridors) ≡ length (g .corridors) / width kindC * width kindC = omega (arith, w .corridors-whole, div-add-mod' (length (g .corridors)) (width kindC)) in
     let x : length (g .closures) ≡ length (g .closures) / width kindX * width kindX = omega (arith, w .closures-whole, div-add-mod' (length (g .closures)) (width kindX)) in
     let o : length (g .occupancies) ≡ length (g .occupancies) / width kindO * width kindO = omega (arith, w .occupancies-whole, div-add-mod' (length (g .occupancies)) (width kindO)) in
     ap groupsRead (write-read-calls g out e)
     ∙ rw (
       filled-full (room kindS) (g .head) (w .head-whole),
+      take-at (g .waits) _ (length (g .waits) / width kindW * width kindW) b,
       take-at (g .corridors) _ (length (g .corridors) / width kindC * width kindC) c,
       take-at (g .closures) _ (length (g .closures) / width kindX * width kindX) x,
       take-at (g .occupancies) _ (length (g .occupancies) / width kindO * width kindO) o,
@@ -339,12 +358,12 @@ pub read-valid : (b : List ℕ) (s : Sheet) → readOf b ≡ loaded s → Valid 
 read-valid b s e =
     let j = judge-passes [] (linesIn b) s (judge-read b s e) in
     let u = lines-unread mostDigits kinds b (j .lines) (j .all-lines) in
-    subst Valid (sym (j .sheet)) (passes-valid (j .lines) (u .0) (j .passes) (j .some-line))
+    subst Valid (sym (j .sheet)) (passes-valid (j .lines) (u .0) (j .passes) (j .complete))
 
 pub valid-read : (s : Sheet) → Valid s → readOf (sheetText s) ≡ loaded s
-valid-read s v = write-read-sheet s (valid-shaped s v) (valid-passes s v)
+valid-read s v = write-read-sheet s (valid-shaped s v) (valid-passes s v) (valid-complete s v)
 
--- a valid sheet has at most 13,092 bytes
+-- a valid sheet has at most 14,536 bytes
 pub valid-text : (s : Sheet) → Valid s → length (sheetText s) ≤ longest
 unfolding sheetText
 valid-text s v = text-longest (sheetLines s) (valid-shaped s v) (valid-passes s v) (omega arith)

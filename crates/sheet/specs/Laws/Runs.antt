@@ -3,8 +3,8 @@
 -- line of its kind before it. And a run is in shape and passes, where the kinds before are earlier ones.
 use mathlib.Core.Path.{_≡_, refl, sym, _∙_, ap, ap₂, subst}
 use mathlib.Core.Logic.{_⊎_, inl, inr, ⊎-elim, _≢_}
-use mathlib.Core.Bool.{Bool, true, false}
-use mathlib.Core.List.{List, [], _∷_, _++_, map, append-assoc}
+use mathlib.Core.Bool.{Bool, true, false, _||_}
+use mathlib.Core.List.{List, [], _∷_, _++_, map, append-assoc, append-nil}
 use mathlib.Core.Option.{some}
 use Prim.Native.Nat.{ℕ, _+_, _≤_, _<_}
 use native.Mathlib.Omega.{arith}
@@ -14,9 +14,9 @@ use borrow.Author.Tests.{eqb-true, leb-false, lt-leb, le-ltb, ne-eqb, not-false}
 use Rattle.sheet.specs.Lists.{number, _∈_, any}
 use Rattle.sheet.specs.Computed.{lexb}
 use Rattle.sheet.specs.Sorting.{Before, Ascending}
-use Rattle.sheet.specs.Kinds.{Kind, kindS, kindC, kindX, kinds}
+use Rattle.sheet.specs.Kinds.{Kind, kindS, kindW, kindC, kindX, kinds}
 use Rattle.sheet.specs.Lines.{Line, line}
-use Rattle.sheet.specs.Sheet.{Sheet, places, steps, group, linesFrom, headIn, unpaired, unknown, late, latest, notAbove, outside}
+use Rattle.sheet.specs.Sheet.{Sheet, places, steps, group, linesFrom, headIn, waiting, outOfTurn, unpaired, unknown, late, latest, notAbove, outside}
 use Rattle.sheet.specs.Laws.Order.{lexb-true, Lex-lexb}
 use Rattle.sheet.specs.Laws.Members.{mem-left, mem-right, mem-append, mem-map, map-mem}
 use Rattle.sheet.specs.Laws.Kinds.{orderKey}
@@ -25,6 +25,7 @@ use Rattle.sheet.specs.Laws.Shape.{Shaped, AllShaped}
 use Rattle.sheet.specs.Laws.Passed.{false-or, false-any, Passed, fault-passed, passed-fault, passes-append, append-passes, passes-each, known-grows, passes-inside, passes-paired, passes-timely, latest-last}
 use Rattle.sheet.specs.Laws.Groups.{group-append, group-own, group-none, of-kind, group-other, group-more, mem-group, later-kinds, from-kinds}
 use Rattle.sheet.specs.Laws.Limits.{Within, inside-within, within-inside}
+use Rattle.sheet.specs.Laws.Turns.{Turns, others-turn}
 
 -- the numbers of the lines of kind k, on the sheet s
 pub record Run (s : Sheet) (k : Kind) (ns : List (List ℕ)) : Type 0 where
@@ -148,12 +149,12 @@ ready-next s before k n ns r a =
     begins (m ∷ ns) h = rw (latest-group before k n, Lex-lexb (take (k .key) n) (take (k .key) m) h)
 
 -- the line after the S line of s and the lines before
-run-passes-after : (s : Sheet) (before : List Line) (k : Kind) (ns : List (List ℕ)) → 1 ≤ k .order → Ready s (line kindS (s .head) ∷ before) k ns → Run s k ns
-    → Passes (line kindS (s .head) ∷ before) (map (line k) ns)
-run-passes-after s before k [] o a r = tt
-run-passes-after s before k (n ∷ ns) o a r = (
+run-passes-after : (s : Sheet) (before : List Line) (k : Kind) (ns : List (List ℕ)) → 1 ≤ k .order → Ready s (line kindS (s .head) ∷ before) k ns
+    → Turns (line kindS (s .head) ∷ before) k ns → Run s k ns → Passes (line kindS (s .head) ∷ before) (map (line k) ns)
+run-passes-after s before k [] o a t r = tt
+run-passes-after s before k (n ∷ ns) o a t r = (
   passed-fault (b ∷ before) (line k n) passed,
-  run-passes-after s (before ++ (line k n ∷ [])) k ns o (ready-next s (b ∷ before) k n ns a (r .ascend)) (run-tail s k n ns r),
+  run-passes-after s (before ++ (line k n ∷ [])) k ns o (ready-next s (b ∷ before) k n ns a (r .ascend)) (t .1) (run-tail s k n ns r),
 )
   where
     b : Line
@@ -168,8 +169,10 @@ run-passes-after s before k (n ∷ ns) o a r = (
     passed =
         record {
           placed =
-              false-or (eqb (k .order) 0) (any (λ m. ltb (k .order) (m .kind .order)) (b ∷ before)) (ne-eqb (k .order) 0 (λ e. omega arith))
-              (false-any (λ m. ltb (k .order) (m .kind .order)) (b ∷ before) (λ m i. le-ltb (k .order) (m .kind .order) (a .orders m i)));
+              false-or (eqb (k .order) 0 || any (λ m. ltb (k .order) (m .kind .order)) (b ∷ before)) (outOfTurn (b ∷ before) (line k n))
+              (false-or (eqb (k .order) 0) (any (λ m. ltb (k .order) (m .kind .order)) (b ∷ before)) (ne-eqb (k .order) 0 (λ e. omega arith))
+              (false-any (λ m. ltb (k .order) (m .kind .order)) (b ∷ before) (λ m i. le-ltb (k .order) (m .kind .order) (a .orders m i))))
+              (t .0);
           few = lt-leb (k .most) (length (group k (b ∷ before))) (omega (arith, a .room));
           inside = within-inside (places s) (k .limits) n (r .within n (inl refl));
           paired = r .paired n (inl refl);
@@ -181,8 +184,8 @@ run-passes-after s before k (n ∷ ns) o a r = (
 -- after the S line and lines of earlier kinds every run passes
 pub run-passes : (s : Sheet) (before : List Line) (k : Kind) (ns : List (List ℕ)) → ((m : Line) → m ∈ (line kindS (s .head) ∷ before) → m .kind .order < k .order)
     → (k .order ≡ kindX .order → (c : List ℕ) → c ∈ s .corridors → c ∈ group kindC (line kindS (s .head) ∷ before))
-    → Run s k ns → Passes (line kindS (s .head) ∷ before) (map (line k) ns)
-run-passes s before k ns f g r =
+    → Turns (line kindS (s .head) ∷ before) k ns → Run s k ns → Passes (line kindS (s .head) ∷ before) (map (line k) ns)
+run-passes s before k ns f g t r =
     run-passes-after s before k ns (omega (arith, f b (inl refl)))
     (record {
       orders = λ m i. omega (arith, f m i);
@@ -190,6 +193,7 @@ run-passes s before k ns f g r =
       room = let z = ap length (group-none k (b ∷ before) other) in omega (arith, r .few);
       begins = begins ns;
     })
+    t
     r
   where
     b : Line
@@ -237,17 +241,27 @@ runs-shaped s (k ∷ ks) (g ∷ gs) f r l m =
     ⊎-elim (run-shaped s k g (f k (inl refl)) (r .0) l) (runs-shaped s ks gs (λ j i. f j (inr i)) (r .1) l) (mem-append l (map (line k) g) (linesFrom ks gs) m)
 
 pub runs-pass : (s : Sheet) (before : List Line) (ks : List Kind) (gs : List (List (List ℕ))) → Ascending orderKey ks
+    → waiting (line kindS (s .head) ∷ before) ≡ false → ((k : Kind) → k ∈ ks → kindW .order < k .order)
     → ((m : Line) → m ∈ (line kindS (s .head) ∷ before) → (k : Kind) → k ∈ ks → m .kind .order < k .order)
     → ((c : List ℕ) → c ∈ s .corridors → line kindC c ∈ ((line kindS (s .head) ∷ before) ++ linesFrom ks gs))
     → AllRuns s ks gs → Passes (line kindS (s .head) ∷ before) (linesFrom ks gs)
-runs-pass s before [] gs a f g r = tt
-runs-pass s before (k ∷ ks) [] a f g r = tt
-runs-pass s before (k ∷ ks) (ns ∷ gs) a f g r =
-    append-passes (b ∷ before) (map (line k) ns) (linesFrom ks gs) (run-passes s before k ns (λ m i. f m i k (inl refl)) corridors (r .0))
-    (runs-pass s (before ++ map (line k) ns) ks gs (a .1) after moved (r .1))
+runs-pass s before [] gs a w l f g r = tt
+runs-pass s before (k ∷ ks) [] a w l f g r = tt
+runs-pass s before (k ∷ ks) (ns ∷ gs) a w l f g r =
+    append-passes (b ∷ before) (map (line k) ns) (linesFrom ks gs)
+    (run-passes s before k ns (λ m i. f m i k (inl refl)) corridors (others-turn b before k ns other w) (r .0))
+    (runs-pass s (before ++ map (line k) ns) ks gs (a .1) (still ∙ w) (λ j m. l j (inr m)) after moved (r .1))
   where
     b : Line
     b = line kindS (s .head)
+
+    other : k .order ≢ kindW .order
+    other e = omega (arith, l k (inl refl))
+
+    still : waiting (b ∷ (before ++ map (line k) ns)) ≡ waiting (b ∷ before)
+    still =
+        ap (λ (g : List (List ℕ)). ltb (length g) (number (s .head) 0))
+        (group-append kindW (b ∷ before) (map (line k) ns) ∙ ap (λ (g : List (List ℕ)). group kindW (b ∷ before) ++ g) (group-other kindW k ns other) ∙ append-nil (group kindW (b ∷ before)))
 
     after : (m : Line) → m ∈ (b ∷ (before ++ map (line k) ns)) → (j : Kind) → j ∈ ks → m .kind .order < j .order
     after m i j n =

@@ -63,8 +63,8 @@ module _ {s : Sheet} {lines all : List ℕ} (S : StoreOf s lines all) where
       let part : (k : ℕ) (h : k < kindCount) → groupRows (kindAt k) (partOf lines all k) ≡ getD (groupsOf s) k [] =
       λ k h. ap (groupRows (kindAt k)) (store-part k h) ∙ rows-flat (width (kindAt k)) (getD (groupsOf s) k []) (width-some k h) (store-wide k h)
       in
-      ap (λ (h : List ℕ). sheetOfGroups (groups h (partOf lines all 1) (partOf lines all 2) (partOf lines all 3))) (store-part 0 (omega arith) ∙ append-nil (s .head))
-      ∙ sheet-path (part 1 (omega arith)) (part 2 (omega arith)) (part 3 (omega arith))
+      ap (λ (h : List ℕ). sheetOfGroups (groups h (partOf lines all 1) (partOf lines all 2) (partOf lines all 3) (partOf lines all 4))) (store-part 0 (omega arith) ∙ append-nil (s .head))
+      ∙ sheet-path (part 1 (omega arith)) (part 2 (omega arith)) (part 3 (omega arith)) (part 4 (omega arith))
 
   -- the lines of a kind, sought by the numbers that they ascend by
   module _ (k : ℕ) (h : k < kindCount) {g : Group} (G : GroupIs lines k g) where

@@ -33,7 +33,7 @@ mul-put-figures : tie.Need-mul-put-figures Inv-loop μ-loop
 mul-put-figures c = search needs
 
 wait-at-requires : tie.Need-wait-at-requires Inv-loop μ-loop
-wait-at-requires c κs = c .before .before .before .before .before .before .before .pre .some-store
+wait-at-requires c κs = (c .before .before .before .before .before .before .before .pre .some-store, omega (arith, c .before .before .loop .inv .1))
 
 put-figures-requires : tie.Need-put-figures-requires Inv-loop μ-loop
 put-figures-requires c κs = omega (arith, c .before .before .before .loop .inv .3 .size, c .before .before .before .loop .inv .1, c .before .before .before .before .before .before .before .before .pre .size)

@@ -22,10 +22,10 @@ first-step-requires : tie.Need-first-step-requires
 first-step-requires c κs = (c .before .before .before .before .before .pre .1, c .before .before .before .before .before .pre .3, omega (arith, c .before .before .before .before .before .pre .0 .firsts .size))
 
 wait-at-requires : tie.Need-wait-at-requires
-wait-at-requires c κs = some-derived (c .before .before .before .before .before .before .pre .0)
+wait-at-requires c κs = (some-derived (c .before .before .before .before .before .before .pre .0), c .before .before .before .before .before .before .pre .1)
 
 wait-at-requires-2 : tie.Need-wait-at-requires-2
-wait-at-requires-2 c κs = some-derived (c .before .before .before .before .before .before .before .pre .0)
+wait-at-requires-2 c κs = (some-derived (c .before .before .before .before .before .before .before .pre .0), c .before .before .before .before .before .before .before .pre .4)
 
 at-most-requires : tie.Need-at-most-requires
 at-most-requires c κs = search needs

@@ -1,14 +1,15 @@
 -- `journeys::marks::mark_over` meets its contract: by corridor l a cart comes from one row at most, the one that waits until the step before with what is
 -- left of the cost; and where it could wait a step longer, that row is marked already.
 -- Assumes nothing.
-use mathlib.Core.Path.{sym, _∙_}
+use mathlib.Core.Path.{sym, _∙_, subst}
+use Prim.Native.Nat.{ℕ, _<_}
 use native.Mathlib.Omega.{arith}
 use borrow.Author.Tests.{not-true, not-false}
 use Rattle.costs.specs.Laws.Moves.{corridor-crosses}
 use Rattle.intervals.specs.FirstSteps.{some-derived}
 use Rattle.journeys.specs.Inner.Lookup.{standing}
 use Rattle.journeys.proofs.Marking.{raised-none}
-use Rattle.journeys.proofs.Crossings.{from-low, cross-other, cross-off, cross-on, cross-one, cross-none, cross-settled}
+use Rattle.journeys.proofs.Crossings.{from-low, to-low, cross-other, cross-off, cross-on, cross-one, cross-none, cross-settled}
 use borrow.Author.Needs.{needs}
 use Rattle.journeys.proofs.marks.mark_over.Statement.{statement}
 use Rattle.journeys.proofs.marks.mark_over.Tie as tie
@@ -34,7 +35,8 @@ returns-2 c = raised-none (λ k h. cross-off (standing ((c .before .before .befo
 crosses-later-requires : tie.Need-crosses-later-requires
 crosses-later-requires c κs =
     let d = (c .before .before .before .before .before .before .before .before .before .before .before .before .before .before .before .before .pre) .0 .rowed .derived in
-    (d, from-low (some-derived d) (corridor-crosses ((c .before .before .before .before .before .before .corridor-at) .ensures) (cross-on (standing ((c .before .before .before .before .before .before .before .before .before .before .before .before .before .before .before .before .args) .b)) ((c .before .before .before .before .before .before .corridor-at) .result) ((c .before .before .before .before .before .before .corridor-at) .ensures) ((c .before .before .before .at-most) .ensures) (not-false _ ((c .before .if2) .left)) .0)), (c .before .before .before .before .before .before .before .before .before .before .before .before .before .before .before .before .pre) .1, (c .before .before .before .before .before .before .before .before .before .before .before .before .before .before .before .before .pre) .0 .day)
+    let low = subst (λ (n : ℕ). n < 64) (sym (c .before .before .before .before .before .before .before .before .before .before .before .end-of .ensures) ∙ c .before .before .before .before .before .before .before .before .if1 .left) (to-low (some-derived d) _ (c .before .before .before .before .before .before .before .before .before .before .before .before .before .before .before .before .pre .1)) in
+    (d, from-low (some-derived d) (corridor-crosses ((c .before .before .before .before .before .before .corridor-at) .ensures) (cross-on (standing ((c .before .before .before .before .before .before .before .before .before .before .before .before .before .before .before .before .args) .b)) ((c .before .before .before .before .before .before .corridor-at) .result) ((c .before .before .before .before .before .before .corridor-at) .ensures) ((c .before .before .before .at-most) .ensures) (not-false _ ((c .before .if2) .left)) .0)), (c .before .before .before .before .before .before .before .before .before .before .before .before .before .before .before .before .pre) .1, (c .before .before .before .before .before .before .before .before .before .before .before .before .before .before .before .before .pre) .0 .day, low)
 
 returns-3 : tie.Need-returns-3
 returns-3 c =

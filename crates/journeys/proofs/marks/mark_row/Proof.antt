@@ -8,7 +8,7 @@ use Rattle.sheet.specs.Laws.Order.{and-true}
 use Rattle.costs.specs.Costs.{Cost, add}
 use Rattle.intervals.specs.FirstSteps.{some-derived}
 use Rattle.journeys.proofs.Waiting.{wait-within, wait-is}
-use Rattle.journeys.proofs.Crossings.{row-off, row-on, row-enters, row-counted, waits-counted}
+use Rattle.journeys.proofs.Crossings.{row-low, row-off, row-on, row-enters, row-counted, waits-counted}
 use borrow.Author.Needs.{needs}
 use Rattle.journeys.proofs.marks.mark_row.Statement.{statement}
 use Rattle.journeys.proofs.marks.mark_row.Tie as tie
@@ -26,7 +26,7 @@ returns : tie.Need-returns
 returns c = row-off (c .before .before .before .before .before .before .row-at .ensures) (c .before .before .before .before .mark-of .ensures) (not-true _ (c .if1 .taken))
 
 wait-at-requires : tie.Need-wait-at-requires
-wait-at-requires c κs = some-derived (c .before .before .before .before .before .before .before .before .before .before .before .before .before .before .pre .0 .rowed .derived)
+wait-at-requires c κs = let p = (c .before .before .before .before .before .before .before .before .before .before .before .before .before .before .pre) .0 .rowed in (some-derived (p .derived), row-low p ((c .before .before .before .before .before .before .before .before .before .before .before .before .before .before .pre) .1) ((c .before .before .before .before .before .before .before .before .row-at) .ensures))
 
 sub-multiple : tie.Need-sub-multiple
 sub-multiple c = leb-true _ _ (and-true _ _ (not-false _ (c .before .before .before .before .before .if1 .left)) .0)

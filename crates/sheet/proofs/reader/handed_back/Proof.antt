@@ -70,10 +70,24 @@ slice-aggregate-copy-5 : tie.Need-slice-aggregate-copy-5
 slice-aggregate-copy-5 c = search needs
 
 copy-requires-4 : tie.Need-copy-requires-4
-copy-requires-4 c κs =
-    let z = c .before .before .before .before .before .before .before .before .before .before .before .before .before .before .before in
-    let all = z .args .all .now in
-    length-take-le (room kindO) (drop (baseOf 3) all) (omega (arith, length-drop (baseOf 3) all, long (z .pre)))
+copy-requires-4 c κs = search needs
+
+sub-copy-4 : tie.Need-sub-copy-4
+sub-copy-4 c = omega arith
+
+part-copy-start-4 : tie.Need-part-copy-start-4
+part-copy-start-4 c = omega arith
+
+part-copy-end-4 : tie.Need-part-copy-end-4
+part-copy-end-4 c = omega (arith, long (c .before .before .before .before .before .before .before .before .before .before .before .before .before .before .before .before .before .pre))
+
+slice-aggregate-copy-6 : tie.Need-slice-aggregate-copy-6
+slice-aggregate-copy-6 c = search needs
+
+copy-requires-5 : tie.Need-copy-requires-5
+copy-requires-5 c κs =
+    let all = (c .before .before .before .before .before .before .before .before .before .before .before .before .before .before .before .before .before .before .before .args) .all .now in
+    length-take-le (room kindO) (drop (baseOf 4) all) (omega (arith, length-drop (baseOf 4) all, long (c .before .before .before .before .before .before .before .before .before .before .before .before .before .before .before .before .before .before .before .pre)))
 
 returns : tie.Need-returns
 unfolding readAnswer
@@ -83,10 +97,11 @@ returns c =
         refusal = 0;
         line = 0;
         lines = S .counts i;
-        head = (c .before .before .before .before .before .before .before .before .before .before .before .before .before .copy .ensures ∙ store-full S 0 (omega arith) ∙ ap (filled (room kindS)) (append-nil (s .head))) i;
-        corridors = (c .before .before .before .before .before .before .before .before .before .copy2 .ensures ∙ store-full S 1 (omega arith)) i;
-        closures = (c .before .before .before .before .before .copy3 .ensures ∙ store-full S 2 (omega arith)) i;
-        occupancies = (c .before .copy4 .ensures ∙ store-full S 3 (omega arith)) i;
+        head = ((c .before .before .before .before .before .before .before .before .before .before .before .before .before .before .before .before .before .copy) .ensures ∙ store-full S 0 (omega arith) ∙ ap (filled (room kindS)) (append-nil (s .head))) i;
+        waits = ((c .before .before .before .before .before .before .before .before .before .before .before .before .before .copy2) .ensures ∙ store-full S 1 (omega arith)) i;
+        corridors = ((c .before .before .before .before .before .before .before .before .before .copy3) .ensures ∙ store-full S 2 (omega arith)) i;
+        closures = ((c .before .before .before .before .before .copy4) .ensures ∙ store-full S 3 (omega arith)) i;
+        occupancies = ((c .before .copy5) .ensures ∙ store-full S 4 (omega arith)) i;
       };
     }
 
@@ -112,4 +127,9 @@ handed-back-spec =
     part-copy-end-3
     slice-aggregate-copy-5
     copy-requires-4
+    sub-copy-4
+    part-copy-start-4
+    part-copy-end-4
+    slice-aggregate-copy-6
+    copy-requires-5
     returns)

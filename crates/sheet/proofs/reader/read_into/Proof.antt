@@ -23,8 +23,8 @@ take-lines-requires c κs =
 
 ended-requires : tie.Need-ended-requires
 ended-requires c κs =
-    let t = c .before .before .before .before .before in
-    t .take-lines .kept .1 .1 .0 ∙ ap length (t .before .before .before .before .before .before .before .before .pre .no-lines)
+    let k = (c .before .before .before .before .before .before .take-lines) .kept in
+    (k .1 .1 .0 ∙ ap length ((c .before .before .before .before .before .before .before .before .before .before .before .before .before .before .pre) .no-lines), omega (arith, k .1 .1 .1, ap length ((c .before .before .before .before .before .before .before .before .before .before .before .before .before .before .pre) .no-cells)))
 
 same-length : tie.Need-same-length
 same-length c = search needs
@@ -33,9 +33,7 @@ same-length-2 : tie.Need-same-length-2
 same-length-2 c = search needs
 
 returns-2 : tie.Need-returns-2
-returns-2 c =
-    let t = c .before .before .before .before .before .before in
-    c .ended .ensures .of (readOf (t .before .before .before .before .before .before .before .before .args .src .now)) _ (t .take-lines .ensures)
+returns-2 c = (c .ended) .ensures .of (readOf ((c .before .before .before .before .before .before .before .before .before .before .before .before .before .before .before .args) .src .now)) ((c .before .before .before .before .before .before .before .take-lines) .ensures)
 
 pub read-into-spec : {M : Type 1} → statement M
 read-into-spec =

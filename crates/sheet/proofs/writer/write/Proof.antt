@@ -14,8 +14,8 @@ refuse-requires c κs = search needs
 
 returns : tie.Need-returns
 returns c =
-    let a = (c .before .before .before .before .before .before .before .args) in
-    let g = groups (a .head .now) (a .corridors .now) (a .closures .now) (a .occupancies .now) in
+    let a = (c .before .before .before .before .before .before .before .before .args) in
+    let g = groups (a .head .now) (a .waits .now) (a .corridors .now) (a .closures .now) (a .occupancies .now) in
     refused-as ((c .refuse) .result) 2 0 (a .out .now) ((c .refuse) .ensures) ∙ sym (write-uneven g (a .out .now) ((c .before .if1) .taken))
 
 slice-aggregate-take-groups : tie.Need-slice-aggregate-take-groups
@@ -26,8 +26,8 @@ slice-aggregate-take-groups-2 c = search needs
 
 take-groups-requires : tie.Need-take-groups-requires
 take-groups-requires c κs =
-    let a = (c .before .before .before .before .before .before .before .before .args) in
-    let g = groups (a .head .now) (a .corridors .now) (a .closures .now) (a .occupancies .now) in
+    let a = (c .before .before .before .before .before .before .before .before .before .args) in
+    let g = groups (a .head .now) (a .waits .now) (a .corridors .now) (a .closures .now) (a .occupancies .now) in
     (whole-of g ((c .before .before .if1) .left) .head-whole, record { no-lines = refl; no-cells = refl })
 
 refuse-requires-2 : tie.Need-refuse-requires-2
@@ -35,8 +35,8 @@ refuse-requires-2 c κs = search needs
 
 returns-2 : tie.Need-returns-2
 returns-2 c =
-    let a = (c .before .before .before .before .before .before .before .before .before .before .before .before .before .before .args) in
-    let g = groups (a .head .now) (a .corridors .now) (a .closures .now) (a .occupancies .now) in
+    let a = (c .before .before .before .before .before .before .before .before .before .before .before .before .before .before .before .args) in
+    let g = groups (a .head .now) (a .waits .now) (a .corridors .now) (a .closures .now) (a .occupancies .now) in
     let t = (c .before .before .before .before .before .take-groups) in
     refused-as ((c .refuse2) .result) (t .result .refusal) (t .result .line) (a .out .now) ((c .refuse2) .ensures)
     ∙ write-judged g (a .out .now) ((c .before .before .before .before .before .before .before .before .if1) .left) (refused (t .result .refusal) (t .result .line)) (t .ensures .refuses ((c .before .if2) .taken))
@@ -57,8 +57,8 @@ same-length c = search needs
 
 returns-3 : tie.Need-returns-3
 returns-3 c =
-    let a = (c .before .before .before .before .before .before .before .before .before .before .before .before .before .before .before .before .before .before .before .args) in
-    let g = groups (a .head .now) (a .corridors .now) (a .closures .now) (a .occupancies .now) in
+    let a = (c .before .before .before .before .before .before .before .before .before .before .before .before .before .before .before .before .before .before .before .before .args) in
+    let g = groups (a .head .now) (a .waits .now) (a .corridors .now) (a .closures .now) (a .occupancies .now) in
     let h = (c .before .before .before .before .before .before .before .before .before .before .take-groups) .ensures .holds ((c .before .before .before .before .before .before .if2) .left) in
     (c .before .before .write-stored) .ensures .of (h .0) (h .2) ∙ write-judged g (a .out .now) ((c .before .before .before .before .before .before .before .before .before .before .before .before .before .if1) .left) (loaded (h .0)) (h .1)
 
