@@ -18,10 +18,12 @@ pub enum GroupDamage {
     NumberAdded,
     NumberRemoved,
     GroupEmptied,
+    /// The first group has seven or eight numbers, with a waiting cost.
+    HeadWithCost,
 }
 
 /// Every kind of damage to groups: first to numbers, then to the order of lines, then to the lengths.
-pub const GROUP_DAMAGES: [GroupDamage; 13] = [
+pub const GROUP_DAMAGES: [GroupDamage; 14] = [
     GroupDamage::Number(NumberDamage::AtBoundary),
     GroupDamage::Number(NumberDamage::Nudged),
     GroupDamage::Number(NumberDamage::Copied),
@@ -35,10 +37,11 @@ pub const GROUP_DAMAGES: [GroupDamage; 13] = [
     GroupDamage::NumberAdded,
     GroupDamage::NumberRemoved,
     GroupDamage::GroupEmptied,
+    GroupDamage::HeadWithCost,
 ];
 
 /// So many kinds are drawn from: to numbers alone, to whole lines alone, or all.
-const KINDS: [usize; 3] = [4, 10, 13];
+const KINDS: [usize; 3] = [4, 10, 14];
 
 /// Damages groups one to three times, in half of the cases at one and the same line; hands back what was done.
 pub fn damage_groups(groups: &mut Groups, random: &mut Random) -> Vec<GroupDamage> {
@@ -70,6 +73,17 @@ fn cut(groups: &mut Groups, kind: usize, line: usize) {
     let (group, width) = group_of(groups, kind);
     group.truncate(line * width);
     (kind + 1..LINES.len()).for_each(|later| group_of(groups, later).0.clear());
+}
+
+/// Puts a waiting cost into the first group, if it is one of five numbers, without or with a time to unload after it; in half
+/// of the cases the waits go.
+fn give_head_cost(groups: &mut Groups, random: &mut Random) {
+    let &[places, steps, start, goal, unloading] = &groups.head[..] else { return };
+    let numbers = [places, steps, start, goal, 1, 0, 0, unloading];
+    groups.head = numbers[..random.pick(&[7, 8])].to_vec();
+    if random.percent(50) {
+        groups.waits.clear();
+    }
 }
 
 /// The group of a kind, and the count of numbers on its lines.
@@ -106,5 +120,6 @@ fn damage_group(groups: &mut Groups, kind: usize, line: usize, damage: GroupDama
         }
         GroupDamage::GroupEmptied => group.clear(),
         GroupDamage::Cut => cut(groups, kind, line),
+        GroupDamage::HeadWithCost => give_head_cost(groups, random),
     }
 }
