@@ -18,8 +18,8 @@ pub fn to_planner(text: &[u8]) -> Vec<u8> {
     format!("S,{places},{steps},{start},{goal},{unloading}\n{waits}{rest}").into_bytes()
 }
 
-/// The text of a planner's sheet as the peers are given it: in their older form where all places have one waiting cost and
-/// there are neither closures nor a time to unload, since one of them reads no other and all are fastest on it.
+/// The text of a planner's sheet as the peers are given it: in their older form, which alone bgl reads, where all places have
+/// one waiting cost and there are neither closures nor a time to unload.
 pub fn to_peer(text: &[u8]) -> Vec<u8> {
     let (fields, rest) = parts(text);
     let (waits, others): (Vec<&str>, Vec<&str>) = rest.split_inclusive('\n').partition(|line| line.starts_with("W,"));

@@ -97,15 +97,15 @@ impl Fronts {
         })
     }
 
-    /// Whether a leading arrival departs twice into one safe interval of a place that is dearer in a figure, and both leads.
+    /// Whether a leading arrival that departs later into a place, dearer in a figure than its own, leads there too.
     fn departs_later(&self) -> bool {
         let (corridors, _) = self.read.corridor_numbers().as_chunks::<5>();
         let later = |row, corridor| (2..=self.read.head[1]).any(|after| self.leads_after(row, corridor, after));
         corridors.iter().any(|corridor| self.rows.iter().any(|row| later(row, corridor)))
     }
 
-    /// Whether an arrival leads at the end of a corridor so many steps after it, by waiting and then crossing, where it could
-    /// have crossed at once and waited there, at a cost that is greater in a figure.
+    /// Whether an arrival is followed by one that leads at the end of a corridor so many steps later, by waiting and then
+    /// crossing, though it could have crossed at once and waited there, which is dearer in a figure.
     fn leads_after(&self, row: &Row, corridor: &[u32; 5], after: u32) -> bool {
         let ([place, step, figures @ ..], [from, to, crossing @ ..]) = (*row, *corridor);
         let [waiting, waiting_there] = [from, to].map(|place| wait_at(&self.read, place));
