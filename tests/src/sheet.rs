@@ -188,6 +188,7 @@ fn add_corridor(sheet: &mut SheetRead, numbers: [u32; 5]) -> Result<(), u32> {
     if sheet.lines[0] == 0 || lacks_waits(sheet) || sheet.lines[3] > 0 || sheet.lines[4] > 0 {
         return Err(3);
     }
+    let (corridors, _) = sheet.corridors.as_chunks_mut::<5>();
     if count == MOST_LINES {
         return Err(7);
     }
@@ -197,7 +198,6 @@ fn add_corridor(sheet: &mut SheetRead, numbers: [u32; 5]) -> Result<(), u32> {
     if from == to {
         return Err(6);
     }
-    let (corridors, _) = sheet.corridors.as_chunks_mut::<5>();
     if count > 0 && (from, to) <= (corridors[count - 1][0], corridors[count - 1][1]) {
         return Err(5);
     }
@@ -249,6 +249,7 @@ fn add_occupancy(sheet: &mut SheetRead, numbers: [u32; 3]) -> Result<(), u32> {
     if sheet.lines[0] == 0 || lacks_waits(sheet) {
         return Err(3);
     }
+    let (occupancies, _) = sheet.occupancies.as_chunks_mut::<3>();
     if count == MOST_LINES {
         return Err(7);
     }
@@ -261,7 +262,6 @@ fn add_occupancy(sheet: &mut SheetRead, numbers: [u32; 3]) -> Result<(), u32> {
     if first > steps {
         return Err(16);
     }
-    let (occupancies, _) = sheet.occupancies.as_chunks_mut::<3>();
     if count > 0 && numbers <= occupancies[count - 1] {
         return Err(5);
     }
