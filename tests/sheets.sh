@@ -1,15 +1,23 @@
 # Sheets at the ends of a sheet's length and of the program's room, and ways to deliver a sheet, for tests/program,
 # tests/plan and tests/host: a function prints each, and its comment says what it offers.
 
-# Sheet A.
-sheet_a() {
-    printf '%s\n' S,4,6,0,3,1,0,0,0 C,0,1,1,0,4 C,0,2,1,3,0 C,1,3,1,0,4 C,2,3,1,3,0 O,1,1,2
+# The W lines of so many places, all of one cost: waits PLACES COST.
+waits() {
+    awk -v places="$1" -v cost="$2" 'BEGIN { for (n = 0; n < places; n++) print "W," n "," cost }'
 }
 
-# The longest sheet that is read, 13,092 bytes; nothing leads away from its start.
+# Sheet A.
+sheet_a() {
+    echo S,4,6,0,3,0
+    waits 4 1,0,0
+    printf '%s\n' C,0,1,1,0,4 C,0,2,1,3,0 C,1,3,1,0,4 C,2,3,1,3,0 O,1,1,2
+}
+
+# The longest sheet that is read, 14,536 bytes; nothing leads away from its start.
 longest() {
+    echo S,64,255,63,62,99
+    waits 64 60000,59999,12345
     awk 'BEGIN {
-        print "S,64,255,63,62,60000,59999,12345,99"
         for (n = 0; n < 256; n++) print "C," 10 + int(n / 32) "," 20 + n % 32 ",60000," 10000 + 7 * n ",54321"
         for (n = 0; n < 256; n++) print "X," 10 + int(n / 32) "," 20 + n % 32 "," 100 + n % 156
         for (n = 0; n < 256; n++) print "O," 10 + int(n / 8) "," 100 + n % 8 "," 255 - n % 8
@@ -19,20 +27,23 @@ longest() {
 # The longest sheet with line feeds up to so many bytes.
 padded() {
     longest
-    awk -v more=$(($1 - 13092)) 'BEGIN { while (more-- > 0) print "" }'
+    awk -v more=$(($1 - 14536)) 'BEGIN { while (more-- > 0) print "" }'
 }
 
 # A sheet with 257 O lines.
 many_lines() {
-    awk 'BEGIN { print "S,64,9,0,8,1,0,0,0"; for (n = 0; n < 257; n++) print "O," int(n / 5) ",0," n % 5 }'
+    echo S,64,9,0,8,0
+    waits 64 1,0,0
+    awk 'BEGIN { for (n = 0; n < 257; n++) print "O," int(n / 5) ",0," n % 5 }'
 }
 
 # A sheet with 200 front costs, or with 201: many_costs 0 | 1. From place 10 by one of ten places and one of twenty to
 # place 41, which is free at step 255 alone: the choice adds k to the first figure and 199 - k to the second, k from 0
 # to 199. The last cost is that of a way by 42 and 43, which alone adds to the third figure.
 many_costs() {
+    echo S,44,255,10,41,0
+    waits 44 60000,60000,60000
     awk -v more="$1" 'BEGIN {
-        print "S,44,255,10,41,60000,60000,60000,0"
         for (a = 0; a < 10; a++) print "C,10," 11 + a "," 20 * a "," 180 - 20 * a ",0"
         if (more) print "C,10,42,0,0,1"
         for (a = 0; a < 10; a++) for (b = 0; b < 20; b++) print "C," 11 + a "," 21 + b "," b "," 19 - b ",0"
@@ -60,7 +71,8 @@ many_costs_page() {
 # with the start, 2^(n - 1) at each place. Then places where ways end: 19 with 512 arrivals, 20 with 256, 21 with 128,
 # 22 with 64, 23 with 16, 24 with 1 and 25 with the last. An arrival after a wait is led by the one without it.
 many_arrivals() {
-    echo "S,26,10,0,$1,1,1,1,0"
+    echo "S,26,10,0,$1,0"
+    waits 26 1,1,1
     awk -v more="$2" 'BEGIN {
         for (n = 1; n <= 9; n++) for (from = 2 * n - 3; from < 2 * n - 1; from++) if (from >= 0) {
             print "C," from "," 2 * n - 1 "," 2 ^ (n - 1) ",0,0"

@@ -3,9 +3,8 @@
 
 use crate::front::{Front, reading_micros};
 use crate::median;
-use crate::peer::{FAMILIES, Folder, MOSIPP};
+use crate::peer::{Folder, MOSIPP};
 use crate::rounds::{self, Side};
-use std::ops::RangeInclusive;
 
 /// What was measured on a sheet, times in microseconds: with room for twice the arrivals, and with room that just
 /// fits.
@@ -31,17 +30,17 @@ pub struct Asked {
     pub options: &'static [&'static str],
 }
 
-/// Measures all families and prints a row for each; hands back the median of the families' median ratios.
-pub fn print_table(folder: &Folder, seeds: &RangeInclusive<u32>, asked: &Asked) -> f64 {
+/// Measures some families and prints a row for each; hands back the median of the families' median ratios.
+pub fn print_table(folder: &Folder, families: &[&str], seeds: impl Iterator<Item = u32> + Clone, asked: &Asked) -> f64 {
     print!("| family | arrivals | costs | planner, µs | of it reading, µs | peer, µs ");
     println!("| ratio: median | least | greatest | with reading | table that just fits |");
     println!("|---|---:|---:|---:|---:|---:|---:|---:|---:|---:|---:|");
-    let names = FAMILIES.iter().map(|family| format!("{family}{}", asked.mark));
+    let names = families.iter().map(|family| format!("{family}{}", asked.mark));
     median(names.map(|family| print_family(folder, &family, asked, seeds.clone())).collect())
 }
 
 /// Measures a family and prints its row; hands back the median ratio.
-fn print_family(folder: &Folder, family: &str, asked: &Asked, seeds: RangeInclusive<u32>) -> f64 {
+fn print_family(folder: &Folder, family: &str, asked: &Asked, seeds: impl Iterator<Item = u32>) -> f64 {
     let rows: Vec<Row> = seeds.map(|seed| measured(folder, seed, family, asked)).collect();
     let middle = |of: fn(&Row) -> f64| median(rows.iter().map(of).collect());
     let ratios = || rows.iter().map(Row::ratio);

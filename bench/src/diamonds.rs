@@ -52,7 +52,10 @@ fn lines(ways: Ways, first: u32, random: &mut Random) -> Vec<[u32; 5]> {
 
 /// The sheet with its last place as the goal.
 fn text(last: u32, lines: &[[u32; 5]]) -> Vec<u8> {
-    let mut text = format!("S,{},255,0,{last},50000,50000,50000,0\n", last + 1);
+    let mut text = format!("S,{},255,0,{last},0\n", last + 1);
+    for place in 0..=last {
+        text += &format!("W,{place},50000,50000,50000\n");
+    }
     for [from, to, a, b, c] in lines {
         text += &format!("C,{from},{to},{a},{b},{c}\n");
     }

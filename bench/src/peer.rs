@@ -70,7 +70,7 @@ impl Folder {
     }
 
     /// The text of a sheet of a family; the options change T, the places, the occupancies or the closures. A family with
-    /// a plus has closures and a time to unload.
+    /// a plus has waiting costs by place, closures and a time to unload.
     pub fn sheet(&self, seed: u32, family: &str, options: &[String]) -> Vec<u8> {
         let mut command = Command::new(self.0.join("gen"));
         let output = output(command.arg(seed.to_string()).arg(family).args(options), b"");

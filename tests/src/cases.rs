@@ -1,9 +1,9 @@
 //! The stored cases: inputs with the refusal number and the line that documents 01 and 02 give them.
 //!
 //! A case is a line of text, a line that begins with # is a comment. A sheet's case is
-//! `REFUSAL LINE "TEXT" REMARK`; in the text `\n` is a line feed, `\xHH` a byte, and `{N*C}`, `{N*X}`, `{N*O}`
-//! are N ascending lines of that letter, `{N*TEXT}` is a text N times. A case of groups is
-//! `REFUSAL LINE BUFFER [HEAD] [CORRIDORS] [CLOSURES] [OCCUPANCIES] REMARK`, with numbers parted by blanks.
+//! `REFUSAL LINE "TEXT" REMARK`; in the text `\n` is a line feed, `\xHH` a byte, and `{N*W}`, `{N*C}`,
+//! `{N*X}`, `{N*O}` are N ascending lines of that letter, waits of (1,0,0), `{N*TEXT}` is a text N times. A case of groups
+//! is `REFUSAL LINE BUFFER [HEAD] [WAITS] [CORRIDORS] [CLOSURES] [OCCUPANCIES] REMARK`, with numbers parted by blanks.
 //!
 //! The kinds of bytes are 256 numbers, parted by blanks and line ends.
 //!
@@ -13,7 +13,7 @@
 //! `N,NUMBER,ARRIVALS,PATH` a case is one of a journey with that number and arrays of those lengths; the answer is
 //! `R,refusal,line`, or `J,` and `P,`.
 
-use crate::groups::{Groups, ascending_closures, ascending_corridors, ascending_occupancies};
+use crate::groups::{Groups, ascending_closures, ascending_corridors, ascending_occupancies, ascending_waits};
 use crate::page::PROGRAM_LENS;
 
 /// A text for the reader, with the answer expected.
@@ -87,11 +87,12 @@ fn groups_case(case: &str) -> GroupsCase {
     let (line, rest) = number_before(rest, " ");
     let (buffer, rest) = number_before(rest, " [");
     let (head, rest) = parts(rest, "] [");
+    let (waits, rest) = parts(rest, "] [");
     let (corridors, rest) = parts(rest, "] [");
     let (closures, rest) = parts(rest, "] [");
     let (occupancies, remark) = parts(rest, "] ");
-    let [head, corridors, closures, occupancies] = [head, corridors, closures, occupancies].map(numbers);
-    let groups = Groups { head, corridors, closures, occupancies };
+    let [head, waits, corridors, closures, occupancies] = [head, waits, corridors, closures, occupancies].map(numbers);
+    let groups = Groups { head, waits, corridors, closures, occupancies };
     GroupsCase { refusal, line, buffer: buffer as usize, groups, remark: remark.to_string() }
 }
 
@@ -105,7 +106,7 @@ fn front_case(lines: &[&str]) -> FrontCase {
             .map(|line| format!("{line}\n"))
             .collect()
     };
-    FrontCase { name, text: of("SCXO").into_bytes(), asked: asked_of(&of("LN")), page: of("RFAJP") }
+    FrontCase { name, text: of("SWCXO").into_bytes(), asked: asked_of(&of("LN")), page: of("RFAJP") }
 }
 
 /// What is asked by a line `L,ARRIVALS,LIST` or `N,NUMBER,ARRIVALS,PATH`, or without a line.
@@ -165,10 +166,11 @@ fn unescaped_piece(piece: &str) -> Vec<u8> {
     }
 }
 
-/// The text of `N*C`, `N*X`, `N*O` or `N*TEXT`.
+/// The text of `N*W`, `N*C`, `N*X`, `N*O` or `N*TEXT`.
 fn repeated(inner: &str) -> Vec<u8> {
     let (count, what) = number_before(inner, "*");
     match what {
+        "W" => Groups { waits: ascending_waits(count), ..Groups::default() }.text(),
         "C" => Groups { corridors: ascending_corridors(count), ..Groups::default() }.text(),
         "X" => Groups { closures: ascending_closures(count), ..Groups::default() }.text(),
         "O" => Groups { occupancies: ascending_occupancies(count), ..Groups::default() }.text(),
@@ -176,7 +178,7 @@ fn repeated(inner: &str) -> Vec<u8> {
     }
 }
 
-/// The numbers of a group, with `{N*C}`, `{N*X}` and `{N*O}` for ascending lines.
+/// The numbers of a group, with `{N*W}`, `{N*C}`, `{N*X}` and `{N*O}` for ascending lines.
 fn numbers(group: &str) -> Vec<u32> {
     group.split_whitespace().flat_map(number_or_lines).collect()
 }
@@ -186,6 +188,7 @@ fn number_or_lines(word: &str) -> Vec<u32> {
     match word.strip_prefix('{').and_then(|inner| inner.strip_suffix('}')) {
         None => vec![decimal(word)],
         Some(inner) => match number_before(inner, "*") {
+            (count, "W") => ascending_waits(count),
             (count, "C") => ascending_corridors(count),
             (count, "X") => ascending_closures(count),
             (count, "O") => ascending_occupancies(count),

@@ -38,7 +38,7 @@ impl Fronts {
     /// The fronts of a text that offers this, if its sheet has closures.
     pub fn of(text: &[u8], offer: &Offer) -> Option<Fronts> {
         let read = read_sheet(text);
-        if read.lines[2] == 0 {
+        if read.lines[3] == 0 {
             return None;
         }
         let open = Groups { closures: vec![], ..Groups::of(&read) };

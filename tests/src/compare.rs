@@ -18,7 +18,7 @@ pub fn compare_kind(byte: u8) -> Result<u32, String> {
 
 /// Both readers on a text; where it is read, the planner writes it back and must give its own bytes.
 pub fn compare_reading(text: &[u8], random: &mut Random) -> Result<SheetRead, String> {
-    let lent = Lent::holding(text, random, b"0123456789,\nSCXO");
+    let lent = Lent::holding(text, random, b"0123456789,\nSWCXO");
     let answer = planner::read(lent.cells());
     let expected = sheet::read_sheet(text);
     let input = || format!("text of {} bytes \"{}\"", text.len(), text.escape_ascii());
@@ -52,20 +52,24 @@ fn compare_written_back(text: &[u8], read: &SheetRead, random: &mut Random) -> R
 
 /// The planner's writer on what its reader handed back.
 fn write_read(read: &SheetRead, out: &mut [u8]) -> SheetWritten {
-    planner::write(&read.head, read.corridor_numbers(), read.closure_numbers(), read.occupancy_numbers(), out)
+    let [head, waits, corridors, closures, occupancies] =
+        [&read.head, read.wait_numbers(), read.corridor_numbers(), read.closure_numbers(), read.occupancy_numbers()];
+    planner::write(head, waits, corridors, closures, occupancies, out)
 }
 
 /// Both writers on groups, each with a buffer of this length and the same pattern in it; where they are
 /// written, the planner reads them back and must give their own numbers.
 pub fn compare_writing(groups: &Groups, len: usize, random: &mut Random) -> Result<SheetWritten, String> {
     let around: Vec<u32> = (0..8).collect();
-    let [head, corridors, closures, occupancies] = groups.all().map(|group| Lent::holding(group, random, &around));
+    let [head, waits, corridors, closures, occupancies] =
+        groups.all().map(|group| Lent::holding(group, random, &around));
     let mut out = Lent::buffer(len, random);
     let mut expected_out = out.clone();
-    let answer =
-        planner::write(head.cells(), corridors.cells(), closures.cells(), occupancies.cells(), out.cells_mut());
-    let [head, corridors, closures, occupancies] = groups.all();
-    let expected = sheet::write_sheet(head, corridors, closures, occupancies, expected_out.cells_mut());
+    let [head, waits, corridors, closures, occupancies] =
+        [&head, &waits, &corridors, &closures, &occupancies].map(Lent::cells);
+    let answer = planner::write(head, waits, corridors, closures, occupancies, out.cells_mut());
+    let [head, waits, corridors, closures, occupancies] = groups.all();
+    let expected = sheet::write_sheet(head, waits, corridors, closures, occupancies, expected_out.cells_mut());
     let input = || format!("a buffer of {len} bytes and {groups:?}");
     if answer != expected || out != expected_out {
         return Err(report("the writers differ", &input(), &shown(&answer, &out), &shown(&expected, &expected_out)));
@@ -94,10 +98,11 @@ fn compare_read_back(groups: &Groups, text: &[u8]) -> Result<(), String> {
 /// What reading the text of valid groups hands back.
 fn read_of(groups: &Groups) -> SheetRead {
     let mut read = SheetRead::refused(0, 0);
-    let [corridors, closures, occupancies] =
-        [groups.corridors.len() / 5, groups.closures.len() / 3, groups.occupancies.len() / 3];
-    read.lines = [1, corridors, closures, occupancies].map(|count| count as u32);
+    let counts = [groups.waits.len() / 4, groups.corridors.len() / 5, groups.closures.len() / 3];
+    let [waits, corridors, closures] = counts.map(|count| count as u32);
+    read.lines = [1, waits, corridors, closures, groups.occupancies.len() as u32 / 3];
     read.head.copy_from_slice(&groups.head);
+    read.waits[..groups.waits.len()].copy_from_slice(&groups.waits);
     read.corridors[..groups.corridors.len()].copy_from_slice(&groups.corridors);
     read.closures[..groups.closures.len()].copy_from_slice(&groups.closures);
     read.occupancies[..groups.occupancies.len()].copy_from_slice(&groups.occupancies);
@@ -107,11 +112,12 @@ fn read_of(groups: &Groups) -> SheetRead {
 /// A reader's answer, without the zeros at the end of each group.
 fn shown_read(read: &SheetRead) -> String {
     format!(
-        "refusal {} line {} lines {:?} head {:?} corridors {:?} closures {:?} occupancies {:?}",
+        "refusal {} line {} lines {:?} head {:?} waits {:?} corridors {:?} closures {:?} occupancies {:?}",
         read.refusal,
         read.line,
         read.lines,
         read.head,
+        without_last_zeros(&read.waits),
         without_last_zeros(&read.corridors),
         without_last_zeros(&read.closures),
         without_last_zeros(&read.occupancies)

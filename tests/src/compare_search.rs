@@ -59,7 +59,7 @@ impl Tried {
 
     /// The text amid bytes that can pass for more of it.
     fn lent_text(&self, random: &mut Random) -> Lent<u8> {
-        Lent::holding(&self.text, random, b"0123456789,\nSCXO")
+        Lent::holding(&self.text, random, b"0123456789,\nSWCXO")
     }
 
     /// Both calls of the front with an arrivals table and a list of these lengths; hands back the list's cells too.

@@ -1,10 +1,12 @@
-//! Damage that texts and groups share: to the order of lines, and to single numbers; and damage to closures.
+//! Damage that texts and groups share: to the order of lines, and to single numbers; and damage to waits and closures.
 
 use crate::random::Random;
 
+mod lines;
 pub mod of_closures;
 pub mod of_groups;
 pub mod of_text;
+pub mod of_waits;
 
 /// Numbers at or next to the ends of the ranges, and the first number of six digits.
 const BOUNDARIES: [u32; 17] =

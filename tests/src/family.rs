@@ -1,6 +1,6 @@
 //! A family of random sheets, and how its sheets are drawn.
 
-use crate::groups::Groups;
+use crate::groups::{Groups, equal_waits};
 use crate::random::Random;
 use std::collections::BTreeSet;
 
@@ -12,7 +12,7 @@ pub struct Family {
     pub steps: [u32; 2],
     pub corridors: [u32; 2],
     pub crossing: Costs,
-    pub waiting: Costs,
+    pub waiting: Waiting,
     pub occupancies: Occupancies,
     pub ends: Ends,
     pub unloading: Unloading,
@@ -25,6 +25,19 @@ pub enum Costs {
     Figures(&'static [u32]),
     /// The cost is one of these.
     Whole(&'static [[u32; 3]]),
+}
+
+/// How the waiting costs of the places are drawn.
+#[derive(Clone, Copy)]
+pub enum Waiting {
+    /// For each place by itself, or in half of the cases one for all places.
+    Any(Costs),
+    /// One for all places.
+    Equal(Costs),
+    /// For each place by itself.
+    ByPlace(Costs),
+    /// One of the two for the start, the other for all other places.
+    AtStart([[u32; 3]; 2]),
 }
 
 /// The occupancies of a family: how many, and of how many steps.
@@ -54,6 +67,8 @@ pub enum Ends {
     Apart,
     /// The same, and the goal is occupied from step 0 to one in the second half, mostly so that unloading can end.
     ApartAndLate,
+    /// Corridors lead from the start to the goal, occupied as late, and to a third place and back, but not on to the goal.
+    BesideStore,
     /// Occupancies of the goal part its steps into short safe intervals.
     GoalParted,
     /// No corridor leads from the start to the goal, and the goal's steps are parted.
@@ -71,27 +86,36 @@ impl Family {
         let start = random.from_to(0, places - 1);
         let goal = self.goal(places, start, random);
         let unloading = self.unloading.steps(steps, random);
-        let [w1, w2, w3] = self.waiting.cost(random);
-        let head = vec![places, steps, start, goal, w1, w2, w3, unloading];
+        let head = vec![places, steps, start, goal, unloading];
+        let waits = self.waiting.waits(places, start, random);
         let corridors = self.corridors(places, start, goal, random);
         let mut occupancies = self.occupancies(places, steps, random);
         occupancies.extend(self.ends.occupancies(&head, random));
         let occupancies = occupancies.into_iter().take(256).flatten().collect();
-        Groups { head, corridors, closures: vec![], occupancies }
+        Groups { head, waits, corridors, closures: vec![], occupancies }
     }
 
     /// The goal of a sheet with so many places.
     fn goal(&self, places: u32, start: u32, random: &mut Random) -> u32 {
         match self.ends {
             Ends::GoalAtStart | Ends::StartParted => start,
-            _ if self.is_apart() || random.percent(90) => (start + random.from_to(1, places.max(2) - 1)) % places,
+            _ if self.has_third() || random.percent(90) => (start + random.from_to(1, places.max(2) - 1)) % places,
             _ => random.from_to(0, places - 1),
         }
     }
 
-    /// Whether the goal is another place than the start and is reached by a third one.
-    fn is_apart(&self) -> bool {
-        [Ends::Apart, Ends::ApartAndLate, Ends::ApartAndParted].contains(&self.ends)
+    /// Whether the goal is another place than the start, and corridors lead to a third one.
+    fn has_third(&self) -> bool {
+        [Ends::Apart, Ends::ApartAndLate, Ends::ApartAndParted, Ends::BesideStore].contains(&self.ends)
+    }
+
+    /// The corridors that a third place asks for, and the one that it rules out.
+    fn by_third(&self, start: u32, goal: u32, third: u32) -> (Vec<[u32; 2]>, [u32; 2]) {
+        if self.ends == Ends::BesideStore {
+            (vec![[start, third], [third, start], [start, goal]], [third, goal])
+        } else {
+            (vec![[start, third], [third, goal]], [start, goal])
+        }
     }
 
     /// Random corridor lines in ascending order.
@@ -99,14 +123,16 @@ impl Family {
         let [least, most] = self.corridors;
         let mut count = random.from_to(least, most).min(places * (places - 1)) as usize;
         let mut ends = BTreeSet::new();
-        if self.is_apart() {
+        let mut ruled_out = None;
+        if self.has_third() {
             count = count.min((places * (places - 1) - 1) as usize);
-            let between = other_than([start, goal], places, random);
-            ends.extend([[start, between], [between, goal]]);
+            let (given, other) = self.by_third(start, goal, other_than([start, goal], places, random));
+            ends.extend(given);
+            ruled_out = Some(other);
         }
         while ends.len() < count {
             let [from, to] = [0, 1].map(|_| random.from_to(0, places - 1));
-            if from != to && !(self.is_apart() && [from, to] == [start, goal]) {
+            if from != to && Some([from, to]) != ruled_out {
                 ends.insert([from, to]);
             }
         }
@@ -130,18 +156,37 @@ impl Family {
 impl Ends {
     /// The occupancies that make the start or the goal of a sheet with these numbers special.
     fn occupancies(self, head: &[u32], random: &mut Random) -> Vec<[u32; 3]> {
-        let [steps, start, goal, unloading] = [1, 2, 3, 7].map(|at| head[at]);
+        let [steps, start, goal, unloading] = [1, 2, 3, 4].map(|at| head[at]);
         match self {
             Ends::Any | Ends::GoalAtStart | Ends::Apart => vec![],
             Ends::StartOccupied => vec![occupancy_near([0, 1], start, steps, random)],
             Ends::GoalOccupied => vec![occupancy_near([0, steps], goal, steps, random)],
-            Ends::ApartAndLate => {
+            Ends::ApartAndLate | Ends::BesideStore => {
                 let least = steps / 2;
                 vec![[goal, 0, random.from_to(least, least.max(steps.saturating_sub(1 + unloading)))]]
             }
             Ends::GoalParted | Ends::ApartAndParted | Ends::StartParted => parting(goal, steps, random),
             Ends::StartLeft => vec![[start, random.from_to(1, 4), 255]],
         }
+    }
+}
+
+impl Waiting {
+    /// Random wait lines of so many places.
+    fn waits(self, places: u32, start: u32, random: &mut Random) -> Vec<u32> {
+        let (costs, is_equal) = match self {
+            Waiting::Any(costs) => (costs, random.percent(50)),
+            Waiting::Equal(costs) => (costs, true),
+            Waiting::ByPlace(costs) => (costs, false),
+            Waiting::AtStart([one, other]) => {
+                let cost = |place| if place == start { one } else { other };
+                return (0..places).flat_map(|place| wait(place, cost(place))).collect();
+            }
+        };
+        if is_equal {
+            return equal_waits(places, costs.cost(random));
+        }
+        (0..places).flat_map(|place| wait(place, costs.cost(random))).collect()
     }
 }
 
@@ -163,6 +208,11 @@ impl Costs {
             Costs::Whole(costs) => random.pick(costs),
         }
     }
+}
+
+/// The wait line of a place.
+fn wait(place: u32, [a, b, c]: [u32; 3]) -> [u32; 4] {
+    [place, a, b, c]
 }
 
 /// A time to unload as `Unloading::Any` has it, for a sheet with so many steps.

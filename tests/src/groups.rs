@@ -1,4 +1,4 @@
-//! The four groups of a sheet's numbers: random ones, and the longest ones.
+//! The five groups of a sheet's numbers: random ones, and the longest ones.
 
 use crate::answers::SheetRead;
 use crate::random::Random;
@@ -8,25 +8,27 @@ use std::collections::BTreeSet;
 #[derive(Clone, Debug, Default, PartialEq, Eq)]
 pub struct Groups {
     pub head: Vec<u32>,
+    pub waits: Vec<u32>,
     pub corridors: Vec<u32>,
     pub closures: Vec<u32>,
     pub occupancies: Vec<u32>,
 }
 
 /// The letter of each group's lines, in the order of a sheet, and the count of numbers on a line.
-pub const LINES: [(char, usize); 4] = [('S', 8), ('C', 5), ('X', 3), ('O', 3)];
+pub const LINES: [(char, usize); 5] = [('S', 5), ('W', 4), ('C', 5), ('X', 3), ('O', 3)];
 
 impl Groups {
     /// The groups that a reader handed back.
     pub fn of(read: &SheetRead) -> Groups {
-        let [corridors, closures, occupancies] =
-            [read.corridor_numbers(), read.closure_numbers(), read.occupancy_numbers()].map(<[u32]>::to_vec);
-        Groups { head: read.head.to_vec(), corridors, closures, occupancies }
+        let [waits, corridors, closures, occupancies] =
+            [read.wait_numbers(), read.corridor_numbers(), read.closure_numbers(), read.occupancy_numbers()]
+                .map(<[u32]>::to_vec);
+        Groups { head: read.head.to_vec(), waits, corridors, closures, occupancies }
     }
 
     /// The groups, in the order of a sheet.
-    pub fn all(&self) -> [&[u32]; 4] {
-        [&self.head, &self.corridors, &self.closures, &self.occupancies]
+    pub fn all(&self) -> [&[u32]; 5] {
+        [&self.head, &self.waits, &self.corridors, &self.closures, &self.occupancies]
     }
 
     /// The sheet's text, whatever the numbers are.
@@ -41,6 +43,16 @@ impl Groups {
         }
         text.into_bytes()
     }
+}
+
+/// The waits of the first places in ascending order, each of (1,0,0).
+pub fn ascending_waits(count: u32) -> Vec<u32> {
+    equal_waits(count, [1, 0, 0])
+}
+
+/// The waits of so many places, all of one cost.
+pub fn equal_waits(places: u32, [a, b, c]: [u32; 3]) -> Vec<u32> {
+    (0..places).flat_map(|place| [place, a, b, c]).collect()
 }
 
 /// The first corridors of 64 places in ascending order, all free.
@@ -62,7 +74,8 @@ pub fn ascending_occupancies(count: u32) -> Vec<u32> {
 /// The longest sheet: all lines, and in each place a number with the most digits.
 pub fn longest_groups() -> Groups {
     Groups {
-        head: vec![64, 255, 63, 62, 60_000, 59_999, 12_345, 99],
+        head: vec![64, 255, 63, 62, 99],
+        waits: (0..64).flat_map(|i| [i, 60_000, 59_999 - i, 12_345]).collect(),
         corridors: (0..256).flat_map(|i| [10 + i / 32, 20 + i % 32, 60_000, 10_000 + 7 * i, 54_321]).collect(),
         closures: (0..256).flat_map(|i| [10 + i / 32, 20 + i % 32, 100 + i % 156]).collect(),
         occupancies: (0..256).flat_map(|i| [10 + i / 8, 100 + i % 8, 255 - i % 8]).collect(),
@@ -81,10 +94,11 @@ pub fn random_groups(random: &mut Random) -> Groups {
         _ => random.from_to(2, 12),
     };
     let head = random_head(random, places);
+    let waits = random_waits(random, places);
     let corridors = random_corridors(random, places);
     let closures = random_closures(random, &corridors, head[1]);
     let occupancies = random_occupancies(random, places, head[1]);
-    let mut groups = Groups { head, corridors, closures, occupancies };
+    let mut groups = Groups { head, waits, corridors, closures, occupancies };
     if random.percent(35) {
         overfill(&mut groups, random);
     }
@@ -106,10 +120,12 @@ fn overfill(groups: &mut Groups, random: &mut Random) {
 fn random_head(random: &mut Random, places: u32) -> Vec<u32> {
     let start = random.from_to(0, places - 1);
     let goal = random.from_to(0, places - 1);
-    let mut head = vec![places, random_step(random), start, goal];
-    head.extend((0..3).map(|_| random_cost(random)));
-    head.push(random_unloading(random));
-    head
+    vec![places, random_step(random), start, goal, random_unloading(random)]
+}
+
+/// Random wait lines of so many places.
+fn random_waits(random: &mut Random, places: u32) -> Vec<u32> {
+    (0..places).flat_map(|place| [place, random_cost(random), random_cost(random), random_cost(random)]).collect()
 }
 
 /// Random corridor lines in ascending order.

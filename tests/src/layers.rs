@@ -5,7 +5,7 @@
 //! all steps but one, so that there is one way for each choice, and all can be listed; the goal is free afterwards too,
 //! for unloading, where a cart may wait.
 
-use crate::groups::Groups;
+use crate::groups::{Groups, equal_waits};
 use crate::random::Random;
 use std::collections::BTreeSet;
 
@@ -20,10 +20,11 @@ pub fn layered_text(random: &mut Random) -> Vec<u8> {
     let widths = random_widths(random);
     let places = widths.iter().sum();
     let unloading = random.pick(&[0, 0, 1, 2]);
-    let head = vec![places, widths.len() as u32 - 1 + unloading, 0, places - 1, 1, 1, 1, unloading];
+    let head = vec![places, widths.len() as u32 - 1 + unloading, 0, places - 1, unloading];
+    let waits = equal_waits(places, [1; 3]);
     let (corridors, occupancies) = (corridors_of(&widths), occupancies_of(&widths));
     let closures = closures_of(&corridors, random);
-    Groups { head, corridors, closures, occupancies }.text()
+    Groups { head, waits, corridors, closures, occupancies }.text()
 }
 
 /// The count of places in each layer: one in the first, the start, and one in the last, the goal.

@@ -23,6 +23,7 @@ pub mod small;
 pub mod step_by_step;
 pub mod ties;
 pub mod unloading;
+pub mod waits;
 
 pub use ::planner::calls as answers;
 #[cfg(not(feature = "stub"))]

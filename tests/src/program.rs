@@ -1,6 +1,7 @@
 //! What the comparing programs share: their options, and counts of what came up.
 
 use std::fmt::{Debug, Display};
+use std::ops::{Deref, DerefMut};
 use std::process::ExitCode;
 
 use crate::random::Random;
@@ -10,6 +11,29 @@ const OFTEN: u64 = 200;
 
 /// How often each refusal number came up, 0 to 16.
 pub type ByRefusal = [u64; 17];
+
+/// How often each of so many things came up.
+pub struct Tallies<const N: usize>([u64; N]);
+
+impl<const N: usize> Default for Tallies<N> {
+    fn default() -> Tallies<N> {
+        Tallies([0; N])
+    }
+}
+
+impl<const N: usize> Deref for Tallies<N> {
+    type Target = [u64];
+
+    fn deref(&self) -> &[u64] {
+        &self.0
+    }
+}
+
+impl<const N: usize> DerefMut for Tallies<N> {
+    fn deref_mut(&mut self) -> &mut [u64] {
+        &mut self.0
+    }
+}
 
 /// What a program is asked for.
 pub struct Options {

@@ -1,5 +1,5 @@
-// The reference: a reader and a writer of corridor sheets, written from document 01 and document 02's E2, E5 and E6 alone, and
-// the kinds of bytes, with the numbers that E4 keeps and the letters of docs/DECISIONS.md, 6.
+// The reference: a reader and a writer of corridor sheets, written from document 01 and document 02's E2, E5, E6 and E8 alone,
+// and the kinds of bytes, with the numbers that E4 keeps and the letters of docs/DECISIONS.md, 6.
 
 use crate::answers::{SheetRead, SheetWritten};
 
@@ -42,15 +42,16 @@ pub fn read_sheet(text: &[u8]) -> SheetRead {
     }
 }
 
-/// What the writer hands back for four groups; their text stands in the buffer unless they are refused.
+/// What the writer hands back for five groups; their text stands in the buffer unless they are refused.
 pub fn write_sheet(
     head: &[u32],
+    waits: &[u32],
     corridors: &[u32],
     closures: &[u32],
     occupancies: &[u32],
     out: &mut [u8],
 ) -> SheetWritten {
-    match text_of(head, corridors, closures, occupancies) {
+    match text_of(head, waits, corridors, closures, occupancies) {
         Err(refusal) => SheetWritten { refusal: refusal.number, line: refusal.line, bytes: 0 },
         Ok(text) if text.len() > out.len() => SheetWritten { refusal: 12, line: 0, bytes: 0 },
         Ok(text) => {
@@ -72,6 +73,9 @@ fn add_text(sheet: &mut SheetRead, text: &[u8]) -> Result<(), Refusal> {
     while let Some(letter) = cursor.byte() {
         add_line(sheet, letter, &mut cursor).map_err(|number| at_next_line(sheet, number))?;
     }
+    if lacks_waits(sheet) {
+        return Err(at_next_line(sheet, 3));
+    }
     Ok(())
 }
 
@@ -79,6 +83,7 @@ fn add_text(sheet: &mut SheetRead, text: &[u8]) -> Result<(), Refusal> {
 fn add_line(sheet: &mut SheetRead, letter: u8, cursor: &mut Cursor) -> Result<(), u32> {
     match letter {
         b'S' => add_head(sheet, cursor.numbers()?),
+        b'W' => add_wait(sheet, cursor.numbers()?),
         b'C' => add_corridor(sheet, cursor.numbers()?),
         b'X' => add_closure(sheet, cursor.numbers()?),
         b'O' => add_occupancy(sheet, cursor.numbers()?),
@@ -136,8 +141,8 @@ impl Cursor<'_> {
 }
 
 /// Adds an S line to the sheet, or hands back the number of the first test that it fails.
-fn add_head(sheet: &mut SheetRead, numbers: [u32; 8]) -> Result<(), u32> {
-    let [places, steps, start, goal, waiting @ .., unloading] = numbers;
+fn add_head(sheet: &mut SheetRead, numbers: [u32; 5]) -> Result<(), u32> {
+    let [places, steps, start, goal, unloading] = numbers;
     if sheet.lines[0] > 0 {
         return Err(3);
     }
@@ -145,7 +150,6 @@ fn add_head(sheet: &mut SheetRead, numbers: [u32; 8]) -> Result<(), u32> {
         || steps > LAST_STEP
         || start >= places
         || goal >= places
-        || has_cost_out_of_range(waiting)
         || unloading > MOST_UNLOADING
     {
         return Err(4);
@@ -155,15 +159,36 @@ fn add_head(sheet: &mut SheetRead, numbers: [u32; 8]) -> Result<(), u32> {
     Ok(())
 }
 
+/// Adds a W line to the sheet, or hands back the number of the first test that it fails.
+fn add_wait(sheet: &mut SheetRead, numbers: [u32; 4]) -> Result<(), u32> {
+    let [place, cost @ ..] = numbers;
+    let count = sheet.lines[1];
+    if sheet.lines[0] == 0 || place != count || count == sheet.head[0] {
+        return Err(3);
+    }
+    if has_cost_out_of_range(cost) {
+        return Err(4);
+    }
+    let (waits, _) = sheet.waits.as_chunks_mut::<4>();
+    waits[count as usize] = numbers;
+    sheet.lines[1] += 1;
+    Ok(())
+}
+
+/// Whether a place of the sheet has no W line yet.
+fn lacks_waits(sheet: &SheetRead) -> bool {
+    sheet.lines[1] < sheet.head[0]
+}
+
 /// Adds a C line to the sheet, or hands back the number of the first test that it fails.
 fn add_corridor(sheet: &mut SheetRead, numbers: [u32; 5]) -> Result<(), u32> {
     let [from, to, costs @ ..] = numbers;
     let places = sheet.head[0];
-    let (corridors, _) = sheet.corridors.as_chunks_mut::<5>();
-    let count = sheet.lines[1] as usize;
-    if sheet.lines[0] == 0 || sheet.lines[2] > 0 || sheet.lines[3] > 0 {
+    let count = sheet.lines[2] as usize;
+    if sheet.lines[0] == 0 || lacks_waits(sheet) || sheet.lines[3] > 0 || sheet.lines[4] > 0 {
         return Err(3);
     }
+    let (corridors, _) = sheet.corridors.as_chunks_mut::<5>();
     if count == MOST_LINES {
         return Err(7);
     }
@@ -177,7 +202,7 @@ fn add_corridor(sheet: &mut SheetRead, numbers: [u32; 5]) -> Result<(), u32> {
         return Err(5);
     }
     corridors[count] = numbers;
-    sheet.lines[1] += 1;
+    sheet.lines[2] += 1;
     Ok(())
 }
 
@@ -185,8 +210,8 @@ fn add_corridor(sheet: &mut SheetRead, numbers: [u32; 5]) -> Result<(), u32> {
 fn add_closure(sheet: &mut SheetRead, numbers: [u32; 3]) -> Result<(), u32> {
     let [from, to, step] = numbers;
     let places = sheet.head[0];
-    let count = sheet.lines[2] as usize;
-    if sheet.lines[0] == 0 || sheet.lines[3] > 0 {
+    let count = sheet.lines[3] as usize;
+    if sheet.lines[0] == 0 || lacks_waits(sheet) || sheet.lines[4] > 0 {
         return Err(3);
     }
     if count == MOST_LINES {
@@ -206,7 +231,7 @@ fn add_closure(sheet: &mut SheetRead, numbers: [u32; 3]) -> Result<(), u32> {
         return Err(5);
     }
     closures[count] = numbers;
-    sheet.lines[2] += 1;
+    sheet.lines[3] += 1;
     Ok(())
 }
 
@@ -220,11 +245,11 @@ fn has_corridor(sheet: &SheetRead, from: u32, to: u32) -> bool {
 fn add_occupancy(sheet: &mut SheetRead, numbers: [u32; 3]) -> Result<(), u32> {
     let [place, first, last] = numbers;
     let [places, steps, ..] = sheet.head;
-    let (occupancies, _) = sheet.occupancies.as_chunks_mut::<3>();
-    let count = sheet.lines[3] as usize;
-    if sheet.lines[0] == 0 {
+    let count = sheet.lines[4] as usize;
+    if sheet.lines[0] == 0 || lacks_waits(sheet) {
         return Err(3);
     }
+    let (occupancies, _) = sheet.occupancies.as_chunks_mut::<3>();
     if count == MOST_LINES {
         return Err(7);
     }
@@ -241,7 +266,7 @@ fn add_occupancy(sheet: &mut SheetRead, numbers: [u32; 3]) -> Result<(), u32> {
         return Err(5);
     }
     occupancies[count] = numbers;
-    sheet.lines[3] += 1;
+    sheet.lines[4] += 1;
     Ok(())
 }
 
@@ -255,35 +280,46 @@ fn at_next_line(sheet: &SheetRead, number: u32) -> Refusal {
     Refusal { number, line: sheet.lines.iter().sum::<u32>() + 1 }
 }
 
-/// The text of four groups, or the first fault in them.
-fn text_of(head: &[u32], corridors: &[u32], closures: &[u32], occupancies: &[u32]) -> Result<Vec<u8>, Refusal> {
+/// The text of five groups, or the first fault in them.
+fn text_of(
+    head: &[u32],
+    waits: &[u32],
+    corridors: &[u32],
+    closures: &[u32],
+    occupancies: &[u32],
+) -> Result<Vec<u8>, Refusal> {
     let (heads, after_heads) = head.as_chunks();
+    let (waits, after_waits) = waits.as_chunks();
     let (corridors, after_corridors) = corridors.as_chunks();
     let (closures, after_closures) = closures.as_chunks();
     let (occupancies, after_occupancies) = occupancies.as_chunks();
-    let is_left_over = !after_corridors.is_empty() || !after_closures.is_empty() || !after_occupancies.is_empty();
-    if heads.len() != 1 || !after_heads.is_empty() || is_left_over {
+    let left_over = [after_heads, after_waits, after_corridors, after_closures, after_occupancies];
+    if heads.len() != 1 || left_over.iter().any(|rest| !rest.is_empty()) {
         return Err(Refusal { number: 2, line: 0 });
     }
     let mut sheet = SheetRead::refused(0, 0);
     let mut text = Vec::with_capacity(MOST_BYTES);
-    for &numbers in heads {
-        add_head(&mut sheet, numbers).map_err(|number| at_next_line(&sheet, number))?;
-        append_line(&mut text, b'S', &numbers);
+    add_rows(&mut sheet, &mut text, b'S', heads, add_head)?;
+    add_rows(&mut sheet, &mut text, b'W', waits, add_wait)?;
+    add_rows(&mut sheet, &mut text, b'C', corridors, add_corridor)?;
+    add_rows(&mut sheet, &mut text, b'X', closures, add_closure)?;
+    add_rows(&mut sheet, &mut text, b'O', occupancies, add_occupancy)?;
+    if lacks_waits(&sheet) { Err(at_next_line(&sheet, 3)) } else { Ok(text) }
+}
+
+/// Adds the rows of a group to the sheet and to the text, up to the first faulty one.
+fn add_rows<const N: usize>(
+    sheet: &mut SheetRead,
+    text: &mut Vec<u8>,
+    letter: u8,
+    rows: &[[u32; N]],
+    add: impl Fn(&mut SheetRead, [u32; N]) -> Result<(), u32>,
+) -> Result<(), Refusal> {
+    for &numbers in rows {
+        add(sheet, numbers).map_err(|number| at_next_line(sheet, number))?;
+        append_line(text, letter, &numbers);
     }
-    for &numbers in corridors {
-        add_corridor(&mut sheet, numbers).map_err(|number| at_next_line(&sheet, number))?;
-        append_line(&mut text, b'C', &numbers);
-    }
-    for &numbers in closures {
-        add_closure(&mut sheet, numbers).map_err(|number| at_next_line(&sheet, number))?;
-        append_line(&mut text, b'X', &numbers);
-    }
-    for &numbers in occupancies {
-        add_occupancy(&mut sheet, numbers).map_err(|number| at_next_line(&sheet, number))?;
-        append_line(&mut text, b'O', &numbers);
-    }
-    Ok(text)
+    Ok(())
 }
 
 /// Appends a line to the text.

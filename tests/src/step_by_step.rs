@@ -7,7 +7,7 @@ use std::iter::{once, repeat};
 use std::ops::RangeInclusive;
 
 /// A cost: three figures, added and compared place by place.
-type Cost = [u32; 3];
+pub type Cost = [u32; 3];
 
 /// The sum of two costs.
 fn sum(one: Cost, other: Cost) -> Cost {
@@ -15,21 +15,21 @@ fn sum(one: Cost, other: Cost) -> Cost {
 }
 
 /// Whether no figure of a cost is greater than the other's.
-fn is_within(one: Cost, other: Cost) -> bool {
+pub fn is_within(one: Cost, other: Cost) -> bool {
     one.iter().zip(other).all(|(&figure, most)| figure <= most)
 }
 
 /// Whether a cost dominates another: no figure is greater and one is smaller.
-fn dominates(one: Cost, other: Cost) -> bool {
+pub fn dominates(one: Cost, other: Cost) -> bool {
     is_within(one, other) && one != other
 }
 
-/// A sheet's lines, and the safe intervals of each place.
+/// A sheet's lines, and the waiting cost and the safe intervals of each place.
 struct Sheet {
     steps: u32,
     start: u32,
     goal: u32,
-    waiting: Cost,
+    waiting: Vec<Cost>,
     unloading: u32,
     corridors: Vec<[u32; 5]>,
     closures: Vec<[u32; 3]>,
@@ -40,7 +40,8 @@ struct Sheet {
 impl Sheet {
     /// The sheet that was read.
     fn of(read: &SheetRead) -> Sheet {
-        let [places, steps, start, goal, waiting @ .., unloading] = read.head;
+        let [places, steps, start, goal, unloading] = read.head;
+        let waiting = read.wait_numbers().as_chunks().0.iter().map(|&[_, a, b, c]| [a, b, c]).collect();
         let corridors = read.corridor_numbers().as_chunks().0.to_vec();
         let closures = read.closure_numbers().as_chunks().0.to_vec();
         let occupancies = read.occupancy_numbers().as_chunks().0.to_vec();
@@ -48,6 +49,11 @@ impl Sheet {
         let mut sheet = Sheet { steps, start, goal, waiting, unloading, corridors, closures, occupancies, intervals };
         sheet.intervals = (0..places).map(|place| sheet.safe_intervals(place)).collect();
         sheet
+    }
+
+    /// The cost of waiting one step at a place.
+    fn waiting_at(&self, place: u32) -> Cost {
+        self.waiting[place as usize]
     }
 
     /// Whether a place is unoccupied at a step.
@@ -77,7 +83,7 @@ impl Sheet {
     fn moves(&self, place: u32, step: u32) -> Vec<(u32, Cost)> {
         let crossings = self.corridors.iter().filter(|&&[from, ..]| from == place);
         let crossings = crossings.filter(|&&[from, to, ..]| self.is_open(from, to, step));
-        once((place, self.waiting)).chain(crossings.map(|&[_, to, a, b, c]| (to, [a, b, c]))).collect()
+        once((place, self.waiting_at(place))).chain(crossings.map(|&[_, to, a, b, c]| (to, [a, b, c]))).collect()
     }
 
     /// The lawful ways that are a way with one step more.
@@ -104,13 +110,18 @@ impl Sheet {
         self.intervals[place as usize].iter().any(|run| run.contains(&one) && run.contains(&other))
     }
 
+    /// The cost of an arrival after waiting at its place until a step.
+    fn waited(&self, one: &Arrival, until: u32) -> Cost {
+        sum(one.cost, self.waiting_at(one.place).map(|figure| figure * (until - one.step)))
+    }
+
     /// Whether an arrival leads another one: by waiting it would be there at no greater cost.
     fn leads(&self, one: &Arrival, other: &Arrival) -> bool {
         one != other
             && one.place == other.place
             && self.in_one_interval(one.place, one.step, other.step)
             && one.step <= other.step
-            && is_within(sum(one.cost, self.waiting.map(|figure| figure * (other.step - one.step))), other.cost)
+            && is_within(self.waited(one, other.step), other.cost)
     }
 
     /// The arrivals that no other leads.
@@ -313,7 +324,7 @@ impl Offer {
     }
 
     /// The numbers of the arrivals table's rows: place, step and three figures each.
-    fn rows(&self) -> impl Iterator<Item = u32> {
+    pub fn rows(&self) -> impl Iterator<Item = u32> {
         self.leading.iter().flat_map(|one| [one.place, one.step, one.cost[0], one.cost[1], one.cost[2]])
     }
 }

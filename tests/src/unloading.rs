@@ -48,7 +48,7 @@ impl Fronts {
 
     /// For each change whether it comes up here.
     pub fn changes(&self) -> [bool; CHANGES.len()] {
-        let [_, last, _, goal, .., unloading] = self.read.head;
+        let [_, last, _, goal, unloading] = self.read.head;
         let has = |front: &[Journey], cost| front.iter().any(|one| one.0 == cost);
         let goes = self.without.iter().any(|one| !has(&self.with, one.0));
         let comes = self.with.iter().any(|one| !has(&self.without, one.0));
@@ -77,7 +77,7 @@ impl Fronts {
 
     /// Whether the goal is unoccupied at each step of unloading before the last, which is given.
     fn is_free_before(&self, end: u32) -> bool {
-        let unloading = self.read.head[7];
+        let unloading = self.read.head[4];
         (end - unloading..end).all(|step| self.is_free(step))
     }
 }

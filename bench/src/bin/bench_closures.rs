@@ -14,14 +14,14 @@ const CLOSED: Asked = Asked { mark: "+", options: &["--wait", "0", "--x", "256"]
 fn main() {
     let (folder, seeds) = arguments();
     let load = load_average();
-    let ratio = print_table(&folder, &seeds, &CLOSED);
+    let ratio = print_table(&folder, &FAMILIES, seeds.clone(), &CLOSED);
     println!();
     println!(
         "Sheets with up to 256 closures, most of them on corridors of short journeys, and a time to unload (gen FAMILY+ {}).
 planner_front from the sheet's bytes to the list, with room for twice the arrivals, beside mosipp --all --eager, which is
-given the same sheet with a waiting cost for each place, whose time leaves the reading out and whose memory grows. Ratios
-are without reading; in the last two columns the median ratio with reading, and that with an arrivals table that just
-fits. Medians over the seeds 1 to {} of a family; for each sheet the least of {ROUNDS} rounds' medians.",
+given the same sheet, whose time leaves the reading out and whose memory grows. Ratios are without reading; in the last two
+columns the median ratio with reading, and that with an arrivals table that just fits. Medians over the seeds 1 to {} of a
+family; for each sheet the least of {ROUNDS} rounds' medians.",
         CLOSED.options.join(" "),
         seeds.end()
     );

@@ -11,7 +11,7 @@ use planner_bench::{arguments, load_average};
 fn main() {
     let (folder, seeds) = arguments();
     let load = load_average();
-    let ratio = print_table(&folder, &seeds, &Asked { mark: "", options: &[] });
+    let ratio = print_table(&folder, &FAMILIES, seeds.clone(), &Asked { mark: "", options: &[] });
     println!();
     println!("planner_front from the sheet's bytes to the list, with room for twice the arrivals, beside mosipp --all");
     println!(

@@ -2,7 +2,7 @@
 //! prints a Markdown table. An answer is handed back by value; the writer's buffer is not cleared between calls.
 
 use planner_bench::{Times, times};
-use planner_tests::groups::{Groups, longest_groups};
+use planner_tests::groups::{Groups, equal_waits, longest_groups};
 use planner_tests::{planner, sheet};
 use std::hint::black_box;
 
@@ -25,12 +25,14 @@ fn texts() -> Vec<(&'static str, Vec<u8>)> {
     let closures = Groups { occupancies: vec![], ..longest.clone() };
     let corridors = Groups { closures: vec![], ..closures.clone() };
     let occupancies = Groups { corridors: vec![], closures: vec![], ..longest.clone() };
+    let waits = Groups { corridors: vec![], ..corridors.clone() };
     vec![
         ("sheet A", sheet_a().text()),
         ("the longest sheet", longest.text()),
-        ("its corridors alone", corridors.text()),
-        ("its corridors and closures", closures.text()),
-        ("its occupancies alone", occupancies.text()),
+        ("its waits alone", waits.text()),
+        ("its waits and corridors", corridors.text()),
+        ("its waits, corridors and closures", closures.text()),
+        ("its waits and occupancies", occupancies.text()),
         ("its last line twice: 5", longest_with_last_line_twice()),
         ("16,385 bytes: 1", vec![b'\n'; 16_385]),
     ]
@@ -39,7 +41,8 @@ fn texts() -> Vec<(&'static str, Vec<u8>)> {
 /// Document 01's sheet A.
 fn sheet_a() -> Groups {
     Groups {
-        head: vec![4, 6, 0, 3, 1, 0, 0, 0],
+        head: vec![4, 6, 0, 3, 0],
+        waits: equal_waits(4, [1, 0, 0]),
         corridors: vec![0, 1, 1, 0, 4, 0, 2, 1, 3, 0, 1, 3, 1, 0, 4, 2, 3, 1, 3, 0],
         closures: vec![],
         occupancies: vec![1, 1, 2],
@@ -65,12 +68,12 @@ fn writing_times(groups: &Groups) -> Times {
     let text = groups.text();
     let [mut out, mut plain_out] = [vec![0; text.len()], vec![0; text.len()]];
     let mut planner_write = || {
-        let [head, corridors, closures, occupancies] = black_box(groups).all();
-        planner::write(head, corridors, closures, occupancies, &mut out)
+        let [head, waits, corridors, closures, occupancies] = black_box(groups).all();
+        planner::write(head, waits, corridors, closures, occupancies, &mut out)
     };
     let mut plain_write = || {
-        let [head, corridors, closures, occupancies] = black_box(groups).all();
-        sheet::write_sheet(head, corridors, closures, occupancies, &mut plain_out)
+        let [head, waits, corridors, closures, occupancies] = black_box(groups).all();
+        sheet::write_sheet(head, waits, corridors, closures, occupancies, &mut plain_out)
     };
     assert_eq!(planner_write(), plain_write(), "the writers differ: run tests/run");
     let times = times(planner_write, plain_write);

@@ -4,8 +4,9 @@
 //! `compare_fronts [--seed N] [--runs N]`: each run is one small sheet, with several calls, among them one for each of
 //! its journeys with room, and five damaged texts, with one call of the front and one of a journey each. The exit status
 //! is 0 if all answers and all cells of all lent arrays agree, a third of the small sheets have a tie, the time to unload
-//! changes the front of a sixth of them and the closures that of a fifth, and each refusal number, family, size, way in
-//! which the tie rule decides, change by unloading or by closures, room and kind of damage came up often.
+//! changes the front of a sixth of them, the closures that of a fifth and the waiting costs of the places that of a tenth,
+//! and each refusal number, family, size, way in which the tie rule decides, change by unloading, by closures or by waiting
+//! costs, room and kind of damage came up often.
 
 use planner_tests::cases::{Asked, FrontCase, front_cases};
 use planner_tests::closures;
@@ -13,12 +14,13 @@ use planner_tests::compare_search::{Filled, Tried};
 use planner_tests::damage::of_text::TEXT_DAMAGES;
 use planner_tests::families::{FAMILIES, random_family};
 use planner_tests::page::line_of;
-use planner_tests::program::{self, ByRefusal, Counts, Options};
+use planner_tests::program::{self, ByRefusal, Counts, Options, Tallies};
 use planner_tests::random::Random;
 use planner_tests::small::{damaged_text, small_text};
 use planner_tests::step_by_step::Offer;
 use planner_tests::ties::{Choice, DECIDED};
 use planner_tests::unloading;
+use planner_tests::waits;
 use std::process::ExitCode;
 
 const FRONT_CASES: &str = include_str!("../../cases/fronts.txt");
@@ -42,6 +44,9 @@ const BY_UNLOADING: u64 = 6;
 /// A sheet whose front is another one without the closures must come up once in so many sheets.
 const BY_CLOSURES: u64 = 5;
 
+/// A sheet whose front is another one with the start's waiting cost at each place must come up once in so many sheets.
+const BY_WAITS: u64 = 10;
+
 /// The lengths of lent arrays that must come up, and the number of a journey.
 const ROOMS: [&str; 7] = [
     "arrivals just fit",
@@ -53,32 +58,29 @@ const ROOMS: [&str; 7] = [
     "the number after the last",
 ];
 
-/// How many calls or sheets met each refusal number, family, size, tie, change by unloading or by closures, room and kind
-/// of damage.
+/// How many calls or sheets met each refusal number, family, size, tie, change by unloading, by closures or by waiting costs,
+/// room and kind of damage.
 #[derive(Default)]
 struct Tally {
     front: ByRefusal,
     journey: ByRefusal,
-    families: [u64; FAMILIES.len()],
-    sizes: [u64; SIZES.len()],
+    families: Tallies<{ FAMILIES.len() }>,
+    sizes: Tallies<{ SIZES.len() }>,
     tied: u64,
-    decided: [u64; DECIDED.len()],
+    decided: Tallies<{ DECIDED.len() }>,
     by_unloading: Changed<{ unloading::CHANGES.len() }>,
     by_closures: Changed<{ closures::CHANGES.len() }>,
-    rooms: [u64; ROOMS.len()],
-    damages: [u64; TEXT_DAMAGES.len()],
+    by_waits: Changed<{ waits::CHANGES.len() }>,
+    rooms: Tallies<{ ROOMS.len() }>,
+    damages: Tallies<{ TEXT_DAMAGES.len() }>,
 }
 
-/// How many sheets have another front without some of their lines or numbers, and how many meet each of some changes.
+/// How many sheets have another front without some of their lines or with other numbers, and how many meet each of some
+/// changes.
+#[derive(Default)]
 struct Changed<const N: usize> {
     fronts: u64,
-    changes: [u64; N],
-}
-
-impl<const N: usize> Default for Changed<N> {
-    fn default() -> Changed<N> {
-        Changed { fronts: 0, changes: [0; N] }
-    }
+    changes: Tallies<N>,
 }
 
 impl<const N: usize> Changed<N> {
@@ -106,7 +108,7 @@ fn compared(options: &Options) -> Result<Vec<Counts>, String> {
 
 /// How often each thing that must come up did.
 fn counts(tally: &Tally) -> Vec<Counts> {
-    let Tally { by_unloading, by_closures, .. } = tally;
+    let Tally { by_unloading, by_closures, by_waits, .. } = tally;
     vec![
         Counts::of_refusals("calls of the front, by refusal number", FRONT_REFUSALS, &tally.front),
         Counts::of_refusals("calls of a journey, by refusal number", JOURNEY_REFUSALS, &tally.journey),
@@ -118,6 +120,8 @@ fn counts(tally: &Tally) -> Vec<Counts> {
         Counts::of("small sheets and unloading", &unloading::CHANGES, &by_unloading.changes),
         Counts::of("small sheets", &["whose front closures change"], &[by_closures.fronts]).once_in(BY_CLOSURES),
         Counts::of("small sheets and closures", &closures::CHANGES, &by_closures.changes),
+        Counts::of("small sheets", &["whose front waits by place change"], &[by_waits.fronts]).once_in(BY_WAITS),
+        Counts::of("small sheets and waits by place", &waits::CHANGES, &by_waits.changes),
         Counts::of("rooms of calls", &ROOMS, &tally.rooms),
         Counts::of("damage to texts", &TEXT_DAMAGES, &tally.damages),
     ]
@@ -165,13 +169,16 @@ fn count_ties(offer: &Offer, tally: &mut Tally) {
     }
 }
 
-/// Counts a sheet by what its time to unload and its closures change.
+/// Counts a sheet by what its time to unload, its closures and its waiting costs change.
 fn count_changes(text: &[u8], offer: &Offer, tally: &mut Tally) {
     if let Some(fronts) = unloading::Fronts::of(text, offer) {
         tally.by_unloading.count(fronts.differ(), fronts.changes());
     }
     if let Some(fronts) = closures::Fronts::of(text, offer) {
         tally.by_closures.count(fronts.differ(), fronts.changes());
+    }
+    if let Some(fronts) = waits::Fronts::of(text, offer) {
+        tally.by_waits.count(fronts.differ(), fronts.changes());
     }
 }
 

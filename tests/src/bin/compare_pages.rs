@@ -10,7 +10,7 @@ use planner_tests::damage::of_text::TEXT_DAMAGES;
 use planner_tests::families::{FAMILIES, random_family};
 use planner_tests::layers::layered_text;
 use planner_tests::page::page_of;
-use planner_tests::program::{self, ByRefusal, Counts, Options};
+use planner_tests::program::{self, ByRefusal, Counts, Options, Tallies};
 use planner_tests::random::Random;
 use planner_tests::sheet::read_sheet;
 use planner_tests::small::{damaged_text, is_small, small_text};
@@ -37,9 +37,9 @@ const SIZES: [&str; 4] = ["no journey", "one journey", "two to nine", "ten or mo
 #[derive(Default)]
 struct Tally {
     refusals: ByRefusal,
-    families: [u64; FAMILIES.len()],
-    sizes: [u64; SIZES.len()],
-    damages: [u64; TEXT_DAMAGES.len()],
+    families: Tallies<{ FAMILIES.len() }>,
+    sizes: Tallies<{ SIZES.len() }>,
+    damages: Tallies<{ TEXT_DAMAGES.len() }>,
 }
 
 fn main() -> ExitCode {

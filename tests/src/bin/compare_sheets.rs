@@ -1,7 +1,7 @@
 //! Compares planner_read and planner_write with the reference, on the stored cases and on random inputs, and
 //! planner_kind on all 256 bytes; planner_read also on a sheet with each byte at each position.
 //!
-//! `compare_sheets [--seed N] [--runs N]`: each run is one text for the reader and four groups for the
+//! `compare_sheets [--seed N] [--runs N]`: each run is one text for the reader and five groups for the
 //! writer. The exit status is 0 if all answers agree and each refusal number, size and kind of damage came up often.
 
 use planner_tests::cases::{groups_cases, kinds, sheet_cases};
@@ -9,7 +9,7 @@ use planner_tests::compare::{compare_kind, compare_reading, compare_writing};
 use planner_tests::damage::of_groups::{GROUP_DAMAGES, damage_groups};
 use planner_tests::damage::of_text::{TEXT_DAMAGES, damage_text, random_bytes};
 use planner_tests::groups::{Groups, random_groups};
-use planner_tests::program::{self, ByRefusal, Counts, Options};
+use planner_tests::program::{self, ByRefusal, Counts, Options, Tallies};
 use planner_tests::random::Random;
 use std::process::ExitCode;
 
@@ -18,24 +18,31 @@ const GROUPS_CASES: &str = include_str!("../../cases/groups.txt");
 const KINDS: &str = include_str!("../../cases/kinds.txt");
 
 /// A sheet with a line of each kind, in which each byte is tried at each position.
-const SHORT_SHEET: &[u8] = b"S,12,9,0,11,1,0,5,14\nC,0,10,1,2,3\nX,0,10,4\nO,1,2,30\n";
+const SHORT_SHEET: &[u8] = b"S,12,9,0,11,14\n\
+    W,0,1,0,5\nW,1,0,0,0\nW,2,7,60,0\nW,3,0,0,1\nW,4,1,2,3\nW,5,0,0,0\n\
+    W,6,1,0,5\nW,7,0,9,0\nW,8,7,60,0\nW,9,0,0,1\nW,10,1,2,3\nW,11,0,0,0\n\
+    C,0,10,1,2,3\nX,0,10,4\nO,1,2,30\n";
 
 /// The count of bytes of the longest sheet that is served.
-const LONGEST: usize = 13_092;
+const LONGEST: usize = 14_536;
 
 /// The sizes of texts that must come up.
 const SIZES: [&str; 3] = ["empty", "served with 256 lines of a kind", "served and longest"];
 
-/// How many inputs met each refusal number, also at a closure alone, each size and each kind of damage.
+/// How many inputs met each refusal number, also at a wait or a closure alone, 3 after the last line, each size and each
+/// kind of damage.
 #[derive(Default)]
 struct Tally {
     read: ByRefusal,
     written: ByRefusal,
+    waits_read: ByRefusal,
+    waits_written: ByRefusal,
     closures_read: ByRefusal,
     closures_written: ByRefusal,
-    sizes: [u64; SIZES.len()],
-    text_damages: [u64; TEXT_DAMAGES.len()],
-    group_damages: [u64; GROUP_DAMAGES.len()],
+    waits_lacking: [u64; 2],
+    sizes: Tallies<{ SIZES.len() }>,
+    text_damages: Tallies<{ TEXT_DAMAGES.len() }>,
+    group_damages: Tallies<{ GROUP_DAMAGES.len() }>,
 }
 
 fn main() -> ExitCode {
@@ -63,7 +70,9 @@ fn compare_random_text(random: &mut Random, tally: &mut Tally) -> Result<(), Str
     let text = if random.percent(5) { random_bytes(random) } else { random_text(random, tally) };
     let answer = compare_reading(&text, random)?;
     tally.read[answer.refusal as usize] += 1;
-    tally.closures_read[answer.refusal as usize] += u64::from(has_closure_at(&text, answer.line));
+    tally.waits_read[answer.refusal as usize] += u64::from(has_line_at(&text, b'W', answer.line));
+    tally.closures_read[answer.refusal as usize] += u64::from(has_line_at(&text, b'X', answer.line));
+    tally.waits_lacking[0] += u64::from(answer.refusal == 3 && ends_before(&text, answer.line));
     tally.sizes[0] += u64::from(text.is_empty());
     tally.sizes[1] += u64::from(answer.lines[1..].contains(&256));
     tally.sizes[2] += u64::from(answer.refusal == 0 && text.len() == LONGEST);
@@ -88,15 +97,23 @@ fn compare_random_groups(random: &mut Random, tally: &mut Tally) -> Result<(), S
     let len = random_buffer_len(&groups, random);
     let answer = compare_writing(&groups, len, random)?;
     tally.written[answer.refusal as usize] += 1;
-    tally.closures_written[answer.refusal as usize] += u64::from(has_closure_at(&groups.text(), answer.line));
+    let text = groups.text();
+    tally.waits_written[answer.refusal as usize] += u64::from(has_line_at(&text, b'W', answer.line));
+    tally.closures_written[answer.refusal as usize] += u64::from(has_line_at(&text, b'X', answer.line));
+    tally.waits_lacking[1] += u64::from(answer.refusal == 3 && ends_before(&text, answer.line));
     Ok(())
 }
 
-/// Whether the line with a number, from 1, is one of a closure; 0 is no line.
-fn has_closure_at(text: &[u8], line: u32) -> bool {
+/// Whether the line with a number, from 1, has a letter; 0 is no line.
+fn has_line_at(text: &[u8], letter: u8, line: u32) -> bool {
     let before = (line as usize).checked_sub(1);
-    let line = before.and_then(|before| text.split(|&byte| byte == b'\n').nth(before));
-    line.is_some_and(|line| line.starts_with(b"X"))
+    let line = before.and_then(|before| text.split_inclusive(|&byte| byte == b'\n').nth(before));
+    line.is_some_and(|line| line[0] == letter)
+}
+
+/// Whether a text that is not empty ends before the line with a number.
+fn ends_before(text: &[u8], line: u32) -> bool {
+    !text.is_empty() && text.split_inclusive(|&byte| byte == b'\n').count() < line as usize
 }
 
 /// The length of a buffer for groups: exactly their text's, one less, one more, or another.
@@ -167,7 +184,10 @@ fn expect_answer(remark: &str, answer: (u32, u32), expected: (u32, u32)) -> Resu
 fn counts(tally: &Tally) -> Vec<Counts> {
     vec![
         Counts::of_refusals("read, by refusal number", &[0, 1, 2, 3, 4, 5, 6, 7, 15, 16], &tally.read),
-        Counts::of_refusals("written, by refusal number", &[0, 2, 4, 5, 6, 7, 12, 15, 16], &tally.written),
+        Counts::of_refusals("written, by refusal number", &[0, 2, 3, 4, 5, 6, 7, 12, 15, 16], &tally.written),
+        Counts::of_refusals("read, at a wait", &[2, 3, 4], &tally.waits_read),
+        Counts::of_refusals("written, at a wait", &[3, 4], &tally.waits_written),
+        Counts::of("3 after the last line, for want of a wait", &["read", "written"], &tally.waits_lacking),
         Counts::of_refusals("read, at a closure", &[2, 3, 4, 5, 6, 7, 15], &tally.closures_read),
         Counts::of_refusals("written, at a closure", &[4, 5, 6, 7, 15], &tally.closures_written),
         Counts::of("texts", &SIZES, &tally.sizes),

@@ -1,5 +1,6 @@
 //! Damage to the closures of a sheet's text.
 
+use super::lines::{line_of, lines_of, move_to, numbers_of, positions, text_of};
 use crate::random::Random;
 
 /// What is done to a closure; but for the last two its line stays well-formed.
@@ -27,13 +28,10 @@ pub enum ClosureDamage {
 
 /// Damages a closure of a text that is not empty; where there is none, one of a corridor is put in, if there is one.
 pub fn damage_closure(text: &mut Vec<u8>, damage: ClosureDamage, random: &mut Random) {
-    let mut lines: Vec<String> = text
-        .split_inclusive(|&byte| byte == b'\n')
-        .map(|line| line.iter().copied().map(char::from).collect())
-        .collect();
+    let mut lines = lines_of(text);
     if let Some(at) = closure_in(&mut lines, random) {
         damage_at(&mut lines, at, damage, random);
-        *text = lines.concat().chars().map(|byte| byte as u8).collect();
+        *text = text_of(&lines);
     }
 }
 
@@ -47,7 +45,7 @@ fn closure_in(lines: &mut Vec<String>, random: &mut Random) -> Option<usize> {
     let corridor = numbers_of(&lines[*corridors.get(random.below(corridors.len().max(1)))?]);
     let after = corridors.last()? + 1;
     let [from, to] = [corridor.first()?, corridor.get(1)?];
-    let closure = line_of(&[*from, *to, random.from_to(0, 9)]);
+    let closure = line_of('X', &[*from, *to, random.from_to(0, 9)]);
     lines.insert(after, closure);
     Some(after)
 }
@@ -56,34 +54,32 @@ fn closure_in(lines: &mut Vec<String>, random: &mut Random) -> Option<usize> {
 fn damage_at(lines: &mut Vec<String>, at: usize, damage: ClosureDamage, random: &mut Random) {
     let &[from, to, step] = &numbers_of(&lines[at])[..] else { return };
     match damage {
-        ClosureDamage::Turned => lines[at] = line_of(&[to, from, step]),
-        ClosureDamage::OtherEnd => lines[at] = line_of(&[from, random.pick(&[to + 1, to.saturating_sub(1)]), step]),
-        ClosureDamage::ToItself => lines[at] = line_of(&[from, from, step]),
-        ClosureDamage::StepBeyond => lines[at] = line_of(&[from, to, random.pick(&[256, 256, 257, 511, 512, 65_535])]),
-        ClosureDamage::NotAbove => lines.insert(at + 1, line_of(&[from, to, step - random.from_to(0, step.min(1))])),
+        ClosureDamage::Turned => lines[at] = line_of('X', &[to, from, step]),
+        ClosureDamage::OtherEnd => {
+            lines[at] = line_of('X', &[from, random.pick(&[to + 1, to.saturating_sub(1)]), step])
+        }
+        ClosureDamage::ToItself => lines[at] = line_of('X', &[from, from, step]),
+        ClosureDamage::StepBeyond => {
+            lines[at] = line_of('X', &[from, to, random.pick(&[256, 256, 257, 511, 512, 65_535])])
+        }
+        ClosureDamage::NotAbove => {
+            lines.insert(at + 1, line_of('X', &[from, to, step - random.from_to(0, step.min(1))]))
+        }
         ClosureDamage::BeforeCorridors => move_to(lines, at, 'C', 0, random),
         ClosureDamage::AfterOccupancy => move_to(lines, at, 'O', 1, random),
         ClosureDamage::OneTooMany => fill_up(lines, at, [from, to, step]),
-        ClosureDamage::NumberMissing => lines[at] = line_of(&[from, to]),
-        ClosureDamage::NumberMore => lines[at] = line_of(&[from, to, step, random.from_to(0, 9)]),
+        ClosureDamage::NumberMissing => lines[at] = line_of('X', &[from, to]),
+        ClosureDamage::NumberMore => lines[at] = line_of('X', &[from, to, step, random.from_to(0, 9)]),
     }
-}
-
-/// Moves a line to so many lines after one of a letter, if there is one.
-fn move_to(lines: &mut Vec<String>, at: usize, letter: char, after: usize, random: &mut Random) {
-    let line = lines.remove(at);
-    let places = positions(lines, letter);
-    let to = if places.is_empty() { at } else { random.pick(&places) + after };
-    lines.insert(to, line);
 }
 
 /// Puts closures of the same corridor before a line, at every step before its own, and after it, until there are 257.
 fn fill_up(lines: &mut Vec<String>, at: usize, [from, to, step]: [u32; 3]) {
     let mut closures = (0..=255).filter(|&other| other != step);
     while positions(lines, 'X').len() < 257 {
-        let Some(other) = closures.next() else { return lines.insert(at, line_of(&[from, to, 0])) };
+        let Some(other) = closures.next() else { return lines.insert(at, line_of('X', &[from, to, 0])) };
         let below = closures_below(lines, [from, to, other]);
-        let line = line_of(&[from, to, other]);
+        let line = line_of('X', &[from, to, other]);
         if !lines.contains(&line) {
             lines.insert(below, line);
         }
@@ -95,21 +91,4 @@ fn closures_below(lines: &[String], closure: [u32; 3]) -> usize {
     let closures = positions(lines, 'X');
     let above = closures.iter().find(|&&at| numbers_of(&lines[at])[..] > closure[..]);
     above.copied().or(closures.last().map(|last| last + 1)).unwrap_or(lines.len())
-}
-
-/// The positions of the lines with a letter.
-fn positions(lines: &[String], letter: char) -> Vec<usize> {
-    (0..lines.len()).filter(|&at| lines[at].starts_with(letter)).collect()
-}
-
-/// The numbers of a line, none where it is malformed.
-fn numbers_of(line: &str) -> Vec<u32> {
-    let fields = line.trim_end_matches('\n').split(',').skip(1);
-    fields.map(|digits| digits.parse().ok()).collect::<Option<Vec<u32>>>().unwrap_or_default()
-}
-
-/// The line of a closure with these numbers.
-fn line_of(numbers: &[u32]) -> String {
-    let fields: String = numbers.iter().map(|number| format!(",{number}")).collect();
-    format!("X{fields}\n")
 }

@@ -1,15 +1,16 @@
 //! Damage to the text of a sheet.
 
 use super::of_closures::{ClosureDamage, damage_closure};
+use super::of_waits::{WaitDamage, damage_waits};
 use super::{NumberDamage, OrderDamage, damage_order, damaged_number, random_line};
 use crate::random::Random;
 use std::ops::Range;
 
 /// The bytes of sheets, and some that are near to them.
-pub const ALPHABET: &[u8] = b"0123456789,\nSCXO0123456789,\n,1 -+.\r\0xXWscxo/:@\x80\xff";
+pub const ALPHABET: &[u8] = b"0123456789,\nSWCXO0123456789,\n,1 -+.\r\0xXAswcxo/:@\x80\xff";
 
 /// What is inserted into a line, often before its line feed.
-const PIECES: [&str; 9] = [",", ",0", ",1", "S,", "X,", "O,", " ", "\r", "\0"];
+const PIECES: [&str; 10] = [",", ",0", ",1", "S,", "W,", "X,", "O,", " ", "\r", "\0"];
 
 /// What is put in the place of a line's last field, or after it: no field, one at an end of a range, one with a zero
 /// too many.
@@ -24,6 +25,7 @@ pub enum TextDamage {
     Order(OrderDamage),
     Number(NumberDamage),
     Closure(ClosureDamage),
+    Wait(WaitDamage),
     DigitsAdded,
     LeadingZeros,
     LetterChanged,
@@ -36,9 +38,9 @@ pub enum TextDamage {
     Extended,
 }
 
-/// Every kind of damage to a text: first to numbers, then to the order of lines, then to closures, then all that makes a
-/// line ill-formed.
-pub const TEXT_DAMAGES: [TextDamage; 31] = [
+/// Every kind of damage to a text: first to numbers, then to the order of lines, then to closures, then to waits, then all
+/// that makes a line ill-formed.
+pub const TEXT_DAMAGES: [TextDamage; 45] = [
     TextDamage::Number(NumberDamage::AtBoundary),
     TextDamage::Number(NumberDamage::Nudged),
     TextDamage::Number(NumberDamage::Copied),
@@ -55,8 +57,22 @@ pub const TEXT_DAMAGES: [TextDamage; 31] = [
     TextDamage::Closure(ClosureDamage::BeforeCorridors),
     TextDamage::Closure(ClosureDamage::AfterOccupancy),
     TextDamage::Closure(ClosureDamage::OneTooMany),
+    TextDamage::Wait(WaitDamage::FirstMissing),
+    TextDamage::Wait(WaitDamage::OneMissing),
+    TextDamage::Wait(WaitDamage::LastMissing),
+    TextDamage::Wait(WaitDamage::Cut),
+    TextDamage::Wait(WaitDamage::Doubled),
+    TextDamage::Wait(WaitDamage::Swapped),
+    TextDamage::Wait(WaitDamage::OneTooMany),
+    TextDamage::Wait(WaitDamage::BeforeHead),
+    TextDamage::Wait(WaitDamage::AfterCorridor),
+    TextDamage::Wait(WaitDamage::OtherPlace),
+    TextDamage::Wait(WaitDamage::CostBeyond),
     TextDamage::Closure(ClosureDamage::NumberMissing),
     TextDamage::Closure(ClosureDamage::NumberMore),
+    TextDamage::Wait(WaitDamage::NumberMissing),
+    TextDamage::Wait(WaitDamage::NumberMore),
+    TextDamage::Wait(WaitDamage::HeadWithCost),
     TextDamage::ByteFlipped,
     TextDamage::ByteInserted,
     TextDamage::ByteRemoved,
@@ -72,9 +88,9 @@ pub const TEXT_DAMAGES: [TextDamage; 31] = [
     TextDamage::Extended,
 ];
 
-/// So many kinds are drawn from: to numbers alone, to well-formed lines alone, without closures and with, or all. The tests
-/// after 2, and the order among them, show only on well-formed lines.
-const KINDS: [usize; 5] = [3, 8, 16, 31, 31];
+/// So many kinds are drawn from: to numbers alone, to well-formed lines alone, without closures, with them and with waits
+/// too, or all. The tests after 2, and the order among them, show only on well-formed lines.
+const KINDS: [usize; 6] = [3, 8, 16, 27, 45, 45];
 
 /// A text of up to 40 random bytes, often the empty one.
 pub fn random_bytes(random: &mut Random) -> Vec<u8> {
@@ -116,12 +132,13 @@ fn damage_line(text: &mut Vec<u8>, at: usize, damage: TextDamage, random: &mut R
             damaged_number(number, beside, damage, random).to_string()
         }),
         TextDamage::Closure(damage) => damage_closure(text, damage, random),
+        TextDamage::Wait(damage) => damage_waits(text, damage, random),
         TextDamage::DigitsAdded => replace_number(text, line, random, with_digits),
         TextDamage::LeadingZeros => replace_number(text, line, random, |number, _, random| {
             format!("{}{number}", random.pick(&["0", "00", "0000"]))
         }),
         TextDamage::LetterChanged if random.percent(30) => text[line.start] ^= 0x20,
-        TextDamage::LetterChanged => text[line.start] = random.pick(b"SSCCXXXOOWAZscxo0,"),
+        TextDamage::LetterChanged => text[line.start] = random.pick(b"SSWWCCXXXOOAZswcxo0,"),
         TextDamage::PieceInserted => {
             let at = if random.percent(50) { line.end - 1 } else { byte };
             text.splice(at..at, random.pick(&PIECES).bytes());
