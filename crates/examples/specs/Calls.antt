@@ -1,12 +1,9 @@
--- The boundary cases of document 01 for calls, computed: what calls on sheet A hand back and leave at, and one below, the room that they need; and a
--- sheet as long as any (sheet `Laws.RoundTrip.valid-text`).
+-- The boundary cases of document 01 for calls, computed: what calls on sheet A hand back and leave at, and one below, the room that they need.
 use mathlib.Core.Path.{_≡_, refl}
-use mathlib.Core.List.{List, [], _∷_, _++_}
-use Prim.Native.Nat.{ℕ, zero, suc, _+_, _/_, _%_}
+use mathlib.Core.List.{List, [], _∷_}
+use Prim.Native.Nat.{ℕ}
 use lib.ListN.{replicate}
-use Rattle.sheet.specs.Calls.{writeGroups, writeCall}
 use Rattle.sheet.specs.Laws.Ascii.{bytes}
-use Rattle.sheet.specs.Laws.TextBound.{longest}
 use Rattle.journeys.specs.Calls.{FrontEnd, frontCall, JourneyEnd, journeyCall}
 use Rattle.examples.specs.Marked.{sheetA}
 
@@ -49,29 +46,3 @@ pub journey-rooms : (journeyA 1 25 6 ∷ journeyA 1 25 4 ∷ journeyA 2 25 1 ∷
     ∷ []
 unfolding journeyCall
 journey-rooms = refl
-
--- 64 waits, 256 corridors, 256 closures and 256 occupancies, each number with the most digits that its limit and its turn allow
-abbrev pub waitsLongest : ℕ → List ℕ
-waitsLongest zero = []
-waitsLongest (suc n) = waitsLongest n ++ (n ∷ 60000 ∷ 60000 ∷ 60000 ∷ [])
-
-abbrev pub corridorsLongest : ℕ → List ℕ
-corridorsLongest zero = []
-corridorsLongest (suc n) = corridorsLongest n ++ ((10 + n / 48) ∷ (16 + n % 48) ∷ 60000 ∷ 60000 ∷ 60000 ∷ [])
-
-abbrev pub closuresLongest : ℕ → List ℕ
-closuresLongest zero = []
-closuresLongest (suc n) = closuresLongest n ++ (10 ∷ (16 + n / 128) ∷ (128 + n % 128) ∷ [])
-
-abbrev pub occupanciesLongest : ℕ → List ℕ
-occupanciesLongest zero = []
-occupanciesLongest (suc n) = occupanciesLongest n ++ ((10 + n / 100) ∷ (100 + n % 100) ∷ 255 ∷ [])
-
-abbrev pub headLongest : List ℕ
-headLongest = 64 ∷ 255 ∷ 10 ∷ 10 ∷ 99 ∷ []
-
--- the longest sheet is written, and no sheet is longer
-pub longest-written : writeCall headLongest (waitsLongest 64) (corridorsLongest 256) (closuresLongest 256) (occupanciesLongest 256) (replicate longest 7) .answer
-    ≡ record { refusal = 0; line = 0; bytes = longest }
-unfolding writeGroups
-longest-written = refl

@@ -1,3 +1,4 @@
 pub mod Sheets
 pub mod Marked
 pub mod Calls
+pub mod Longest

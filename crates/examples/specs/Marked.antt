@@ -32,6 +32,14 @@ sheetA = headA "6,0,3,0" ++ corridorsA ++ "O,1,1,2\n"
 abbrev pub bed : String → String
 bed x = "S,3,6,0,2,0\nW,0,1,0,0\nW,1,1,0,0\nW,2,1,0,0\nC,0,1,1,0,0\nC,1,2,1,0,0\nC,2,1,1,0,0\n" ++ x ++ "O,1,2,2\nO,2,0,1\n"
 
+abbrev pub sheetB : String
+sheetB = "S,5,4,0,4,0\n" ++ waits4 ++ "W,4,1,0,0\n" ++ "C,0,1,1,0,0\nC,0,3,1,0,0\nC,1,2,1,0,0\nC,2,3,0,0,0\nC,3,4,0,0,0\n" ++ "O,4,0,3\n"
+
+abbrev pub sheetD : String
+sheetD =
+    "S,6,3,0,5,0\n" ++ "W,0,0,0,0\nW,1,0,0,0\nW,2,0,0,0\nW,3,0,0,0\nW,4,0,0,0\nW,5,0,0,0\n"
+    ++ "C,0,1,1,0,0\nC,0,2,1,0,0\nC,1,4,1,0,0\nC,2,3,1,0,0\nC,3,5,1,0,0\nC,4,5,1,0,0\n"
+
 abbrev pub table : List Printed
 table =
     -- A, whole
@@ -48,9 +56,9 @@ table =
     -- A with `O,3,0,6` added
     ∷ shows (headA "6,0,3,0" ++ corridorsA ++ "O,1,1,2\nO,3,0,6\n") "F,0,3\n"
     -- B: only (2,0,0), path 0,1,2,3,4
-    ∷ shows ("S,5,4,0,4,0\n" ++ waits4 ++ "W,4,1,0,0\nC,0,1,1,0,0\nC,0,3,1,0,0\nC,1,2,1,0,0\nC,2,3,0,0,0\nC,3,4,0,0,0\nO,4,0,3\n") "F,1,6\nJ,2,0,0,4\nP,0,1,2,3,4\n"
+    ∷ shows sheetB "F,1,6\nJ,2,0,0,4\nP,0,1,2,3,4\n"
     -- D: path 0,1,4,5, by E9 of document 02
-    ∷ shows ("S,6,3,0,5,0\nW,0,0,0,0\nW,1,0,0,0\nW,2,0,0,0\nW,3,0,0,0\nW,4,0,0,0\nW,5,0,0,0\n" ++ "C,0,1,1,0,0\nC,0,2,1,0,0\nC,1,4,1,0,0\nC,2,3,1,0,0\nC,3,5,1,0,0\nC,4,5,1,0,0\n") "F,1,6\nJ,3,0,0,3\nP,0,1,4,5\n"
+    ∷ shows sheetD "F,1,6\nJ,3,0,0,3\nP,0,1,4,5\n"
     -- A with time to unload, T 6: 2 ends at 6 for the arrival at 4, 3 would end at 7
     ∷ shows (headA "6,0,3,2" ++ corridorsA ++ "O,1,1,2\n") "F,2,5\nJ,2,6,0,2\nP,0,2,3\nJ,4,0,8,4\nP,0,0,0,1,3\n"
     ∷ shows (headA "6,0,3,3" ++ corridorsA ++ "O,1,1,2\n") "F,1,5\nJ,2,6,0,2\nP,0,2,3\n"

@@ -2,7 +2,7 @@
 -- back and leave.
 use mathlib.Core.Path.{_≡_, refl}
 use mathlib.Core.List.{List, [], _∷_, _++_, map}
-use Prim.Native.Nat.{ℕ, zero, suc, _+_}
+use Prim.Native.Nat.{ℕ, zero, suc}
 use Prim.Native.String.{String}
 use lib.ListN.{getD, replicate}
 use Rattle.sheet.specs.Decimal.{digitsOf}
@@ -48,6 +48,11 @@ occupancies = numbered (bytes "O,0,0,")
 abbrev pub closures : ℕ → List ℕ
 closures = numbered (bytes "X,0,1,")
 
+-- each text of the table reads as said
+abbrev pub AsSaid : List Judged → Type 0
+AsSaid es = map (λ e. verdict (readOf (e .input))) es ≡ map (λ e. e .number ∷ e .line ∷ []) es
+
+-- tests 1 to 6, 15 and 16
 abbrev pub texts : List Judged
 texts =
     -- 1: more than 16,384 bytes (E5)
@@ -85,8 +90,8 @@ texts =
     ∷ reads "S,4,6,0,3,0\nS,4,6,0,3,0\n" 3 2
     ∷ after "S,4,6,0,3,0\n" 3 6
     ∷ after "O,1,1,2\nC,0,1,0,0,0\n" 3 7
-    -- 3: the W lines (E8). Missing: at the number after the last line, or at the line that comes instead, whatever it is; out of its turn; one too many; before
-    -- 7, 4, 6, 15, 16 and 5, and after 2
+    -- 3: the W lines (E8). Missing: at the number after the last line, or at the line that comes instead, whatever it is; out of its turn; one too many;
+    -- before 7, 4, 6, 15, 16 and 5, and after 2
     ∷ reads "S,2,6,0,1,0\n" 3 2
     ∷ reads "S,2,6,0,1,0\nW,0,1,0,0\n" 3 3
     ∷ reads "S,2,6,0,1,0\nW,0,1,0,0\nC,9,9,0,0,0\n" 3 3
@@ -159,19 +164,35 @@ texts =
     ∷ after "O,1,7,256\n" 4 6
     ∷ after "O,1,9,4\n" 6 6
     ∷ after "O,2,0,0\nO,1,7,7\n" 16 7
-    -- 7: 256 X lines pass, a 257th does not, and before 4 and 15 (E5)
-    ∷ record { input = begun ++ bytes "C,0,1,0,0,0\n" ++ closures 256; number = 0; line = 0 }
+    ∷ []
+
+pub boundaries : AsSaid texts
+unfolding readOf digitsOf
+boundaries = refl
+
+-- 7: 256 X lines pass, a 257th does not, and before 4 and 15 (E5)
+abbrev pub manyClosures : List Judged
+manyClosures =
+    record { input = begun ++ bytes "C,0,1,0,0,0\n" ++ closures 256; number = 0; line = 0 }
     ∷ record { input = begun ++ bytes "C,0,1,0,0,0\n" ++ closures 256 ++ bytes "X,9,0,0\n"; number = 7; line = 263 }
     ∷ record { input = begun ++ bytes "C,0,1,0,0,0\n" ++ closures 256 ++ bytes "X,1,0,0\n"; number = 7; line = 263 }
-    -- 7: 256 O lines pass, a 257th does not, and before 4 and 16
-    ∷ record { input = begun ++ occupancies 256; number = 0; line = 0 }
+    ∷ []
+
+pub boundaries-of-closures : AsSaid manyClosures
+unfolding readOf digitsOf
+boundaries-of-closures = refl
+
+-- 7: 256 O lines pass, a 257th does not, and before 4 and 16
+abbrev pub manyOccupancies : List Judged
+manyOccupancies =
+    record { input = begun ++ occupancies 256; number = 0; line = 0 }
     ∷ record { input = begun ++ occupancies 256 ++ bytes "O,9,0,0\n"; number = 7; line = 262 }
     ∷ record { input = begun ++ occupancies 256 ++ bytes "O,1,7,7\n"; number = 7; line = 262 }
     ∷ []
 
-pub boundaries : map (λ e. verdict (readOf (e .input))) texts ≡ map (λ e. e .number ∷ e .line ∷ []) texts
+pub boundaries-of-occupancies : AsSaid manyOccupancies
 unfolding readOf digitsOf
-boundaries = refl
+boundaries-of-occupancies = refl
 
 -- a call of the writer, with a buffer of n bytes filled with sevens: refusal, line, count of bytes; then the buffer
 abbrev pub writeShown : WriteEnd → List (List ℕ)
@@ -190,9 +211,9 @@ two = 0 ∷ 1 ∷ 0 ∷ 0 ∷ 1 ∷ 1 ∷ 0 ∷ 0 ∷ []
 abbrev pub twoText : List ℕ
 twoText = bytes "W,0,1,0,0\nW,1,1,0,0\n"
 
--- a buffer of exactly the text, and one byte less (12); lengths before lines (2 at line 0), an S line of four numbers or eight, waits, closures and occupancies
--- whose numbers do not make whole lines; the first faulty line (4 at line 4); u at 100 (4 at line 1); an earlier 5 before a later 4; an occupancy that begins
--- at the last step, and one after it (16 at line 4); a closure (E5), and one of no corridor (15 at line 5)
+-- a buffer of exactly the text, and one byte less (12); lengths before lines (2 at line 0), an S line of four numbers or eight, waits, closures and
+-- occupancies whose numbers do not make whole lines; the first faulty line (4 at line 4); u at 100 (4 at line 1); an earlier 5 before a later 4; an
+-- occupancy that begins at the last step, and one after it (16 at line 4); a closure (E5), and one of no corridor (15 at line 5)
 pub write-rooms : (writes (head 99) two [] [] [] 34
     ∷ writes (head 99) two [] [] [] 32
     ∷ writes (2 ∷ 6 ∷ 0 ∷ 1 ∷ []) two [] [] [] 19
