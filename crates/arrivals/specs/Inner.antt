@@ -16,6 +16,7 @@ pub mod Sweeps
 pub mod Leaders
 pub mod Gather
 pub mod Walking
+pub mod Settling
 pub mod Meaning
 pub mod Ending
 pub mod OfSheet

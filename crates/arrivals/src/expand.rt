@@ -31,6 +31,8 @@ ghost use Rattle.arrivals.specs.Inner.Lent.{Closing, Given};
 ghost use Rattle.arrivals.specs.Inner.Entering.{reach};
 ghost use Rattle.arrivals.specs.Inner.Pruning.{FreshIs, Sourced, Fair};
 ghost use Rattle.arrivals.specs.Inner.Filling.{Reaching};
+ghost use Rattle.arrivals.specs.Inner.Index.{Covers};
+ghost use Rattle.arrivals.specs.Inner.Due.{Covered};
 ghost use Rattle.arrivals.specs.Inner.Sweeps.{Sweepable, Before, OffersRows, OffersSource, OffersLink, OffersLinks};
 
 // The first step whose rows are to be offered here over corridor j, by the pruning rule, where its departures from step `past` on are closed.
@@ -145,7 +147,8 @@ pub fn from_place(
     from: Source,
     here: Here,
 ) -> Outcome
-    requires { ⌜ (Sweepable (now table) a d (now ix) here) × (Fair from) ⌝ }
+    requires { ⌜ (Sweepable (now table) a d (now ix) here) × (Fair from)
+        × (Covers (now table) a (now ix) (here .step .0) (from .place .0) (from .wait)) ⌝ }
     ensures { λ r. ⌜ OffersSource (now (table .entry)) (now (table .exit)) a d from here r ⌝ }
 {
     let mut e = d;
@@ -176,7 +179,8 @@ pub fn from_link(
     j: usize,
     here: Here,
 ) -> Outcome
-    requires { ⌜ (Reaching (now runs) (now net) (now table) a here) × (Sweepable (now table) a d (now ix) here) × (j < countOf (now net)) ⌝ }
+    requires { ⌜ (Reaching (now runs) (now net) (now table) a here) × (Sweepable (now table) a d (now ix) here) × (j < countOf (now net))
+        × (Covered (now net) (now table) a (now ix) (here .step .0)) ⌝ }
     ensures { λ r. ⌜ OffersLink (now (runs .entry)) (now (net .entry)) j (now (table .entry)) (now (table .exit)) a d here r ⌝ }
 {
     let to = link_end(net, j, 1);
@@ -210,7 +214,8 @@ pub fn from_links(
     runs: &[u16],
     here: Here,
 ) -> Outcome
-    requires { ⌜ (Reaching (now runs) (now net) (now table) a here) × (Sweepable (now table) a 0 (now ix) here) ⌝ }
+    requires { ⌜ (Reaching (now runs) (now net) (now table) a here) × (Sweepable (now table) a 0 (now ix) here)
+        × (Covered (now net) (now table) a (now ix) (here .step .0)) ⌝ }
     ensures { λ r. ⌜ OffersLinks (now (runs .entry)) (now (net .entry)) (now (table .entry)) (now (table .exit)) a here r ⌝ }
 {
     let mut e = 0;

@@ -5,6 +5,8 @@ use crate::index::Span;
 use crate::index::mark_next;
 use crate::index::note;
 use crate::index::rests;
+use crate::live::is_somewhere_dear;
+use crate::live::settle;
 use crate::network::Here;
 use crate::network::places_of;
 use crate::network::start_of;
@@ -138,7 +140,7 @@ pub fn visit(
     Outcome { ok, rows }
 }
 
-// Fills in step t.
+// Fills in step t. `dear` tells whether waiting is dearer somewhere than where a corridor comes from: then rows are undercut at almost every step.
 pub fn fill_step(
     table: &mut [u32],
     rows: usize,
@@ -146,8 +148,9 @@ pub fn fill_step(
     net: &[u32],
     runs: &[u16],
     t: Step,
+    dear: bool,
 ) -> Outcome
-    requires { ⌜ (Visiting (now runs) (now net) (now table) rows 0 (t .0)) × (IndexedShort (now table) rows (now ix) (t .0) (now net)) ⌝ }
+    requires { ⌜ (Visiting (now runs) (now net) (now table) rows 0 (t .0)) × (IndexedShort (now table) rows (now ix) (t .0) (t .0) (now net)) ⌝ }
     ensures { λ r. ⌜ Stepping (now (runs .entry)) (now (net .entry)) (now (table .exit)) (now (ix .exit)) (t .0) (t .0 + 1) 0 r ⌝ }
 {
     let places = places_of(net);
@@ -162,6 +165,7 @@ pub fn fill_step(
         }
         v = next_place(table, ix, net, runs, v + 1, t);
     }
+    settle(table, ix, net, runs, t, dear);
     Outcome { ok: true, rows: n }
 }
 
@@ -173,14 +177,15 @@ pub fn fill_steps(
     net: &[u32],
     runs: &[u16],
     last: Step,
+    dear: bool,
 ) -> Outcome
-    requires { ⌜ (Visiting (now runs) (now net) (now table) rows 0 1) × (IndexedShort (now table) rows (now ix) 0 (now net)) × (last .0 ≤ 255) ⌝ }
+    requires { ⌜ (Visiting (now runs) (now net) (now table) rows 0 1) × (IndexedShort (now table) rows (now ix) 0 1 (now net)) × (last .0 ≤ 255) ⌝ }
     ensures { λ r. ⌜ Result (caseOf (now (runs .entry)) (now (net .entry))) (now (table .exit)) (last .0 + 1) 0 (r .ok) (r .rows) ⌝ }
 {
     let mut n = rows;
     let mut t = 1;
     while t <= last.0 {
-        let r = fill_step(table, n, ix, net, runs, Step(t));
+        let r = fill_step(table, n, ix, net, runs, Step(t), dear);
         let ok = r.ok;
         n = r.rows;
         if !ok {
@@ -220,7 +225,8 @@ pub fn search_all(table: &mut [u32], net: &[u32], runs: &[u16], last: Step) -> O
     let ok = r.ok;
     let rows = r.rows;
     if ok {
-        return fill_steps(table, rows, &mut ix, net, runs, last);
+        let dear = is_somewhere_dear(net);
+        return fill_steps(table, rows, &mut ix, net, runs, last, dear);
     }
     Outcome { ok: false, rows }
 }

@@ -13,6 +13,7 @@ ghost use lib.ListN.{length};
 ghost use Rattle.arrivals.specs.Inner.Network.{countOf};
 ghost use Rattle.arrivals.specs.Inner.Index.{indexRoom, lowOf, highOf, newestOf, Older, NotedAs};
 ghost use Rattle.arrivals.specs.Inner.Due.{MarkedOne, Marked, Rests};
+ghost use Rattle.arrivals.specs.Inner.Settling.{Regrouped};
 ghost use Rattle.arrivals.specs.Inner.Chains.{byPlace, Chained};
 ghost use Rattle.arrivals.specs.Inner.Lent.{Closing, Linked};
 
@@ -87,6 +88,16 @@ pub fn note(ix: &mut [u32], span: Span, v: Place, s: Step)
     let at = s.0 as usize * 64 + v.0 as usize;
     ix[at] = span.lo as u32;
     ix[ENDS + at] = span.hi as u32 * 512 + b.0;
+}
+
+// Makes the rows of a span those of place v and step s, before which the rows of v begin below step `back`.
+pub fn regroup(ix: &mut [u32], span: Span, v: Place, s: Step, back: Step)
+    requires { ⌜ (v .0 < 64) × (s .0 ≤ 255) × (indexRoom ≤ length (now ix)) × (span .hi ≤ 8388607) × (span .lo ≤ span .hi) × (back .0 ≤ s .0) ⌝ }
+    ensures { λ _. ⌜ Regrouped (now (ix .entry)) (now (ix .exit)) (span .lo) (span .hi) (back .0) (s .0) (v .0) ⌝ }
+{
+    let at = s.0 as usize * 64 + v.0 as usize;
+    ix[at] = span.lo as u32;
+    ix[ENDS + at] = span.hi as u32 * 512 + back.0;
 }
 
 // Does the pruning rule cover every corridor into place v at step t, and has no place before it rows at step t - 1?

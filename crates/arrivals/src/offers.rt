@@ -21,7 +21,7 @@ ghost use Rattle.arrivals.specs.Rows.{rowAt};
 ghost use Rattle.arrivals.specs.Inner.Rows.{rowsOf, tailOf};
 ghost use Rattle.arrivals.specs.Inner.Entering.{LedAt, Ready};
 ghost use Rattle.arrivals.specs.Inner.Offering.{Beaten, Thinned, ThinnedAll, Inserted};
-ghost use Rattle.arrivals.specs.Inner.Index.{Indexed};
+ghost use Rattle.arrivals.specs.Inner.Index.{Indexed, Covers};
 ghost use Rattle.arrivals.specs.Inner.Sweeps.{SweptAt, Sweepable};
 
 // How a search ends: with all rows, or with more rows than there is room for.
@@ -110,7 +110,8 @@ pub fn led_group(table: &[u32], lo: usize, hi: usize, lag: [u32; 3], g: [u32; 3]
 
 // Does a row below n lead the cost g here?
 pub fn led_walk(table: &[u32], n: usize, ix: &[u32], here: Here, g: [u32; 3]) -> bool
-    requires { ⌜ (Ready (now table) n here) × (Indexed (now table) n (now ix) (here .step .0)) ⌝ }
+    requires { ⌜ (Ready (now table) n here) × (Indexed (now table) n (now ix) (here .step .0))
+        × (Covers (now table) n (now ix) (here .step .0) (here .place .0) (here .wait)) ⌝ }
     ensures { λ r. ⌜ Decided (LedAt (rowsOf (now (table .entry)) n) here g) r ⌝ }
 {
     let last = newest(ix, here.place);

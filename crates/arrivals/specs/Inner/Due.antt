@@ -11,19 +11,23 @@ use lib.ListN.{length, getD, set, length-set, replicate}
 use lib.Seq.{getD-set-same, getD-set-other}
 use Rattle.sheet.specs.Laws.Decided.{lt-or-le}
 use Rattle.arrivals.specs.Inner.Rows.{zeros-at}
-use Rattle.arrivals.specs.Inner.Network.{linkOf, countOf, caseOf, Vacant}
+use Rattle.arrivals.specs.Inner.Network.{linkOf, countOf, waitIn, caseOf, Vacant}
 use Rattle.arrivals.specs.Inner.Chains.{byPlace, NextOne}
 use Rattle.arrivals.specs.Inner.Pruning.{SteadyIs}
 use Rattle.arrivals.specs.Inner.Filling.{Result, Visiting}
-use Rattle.arrivals.specs.Inner.Index.{Indexed, newestOf, dueOf, NotedAs}
+use Rattle.arrivals.specs.Inner.Index.{Indexed, Covers, newestOf, dueOf, NotedAs}
 use Rattle.arrivals.specs.declared.offers.Outcome.{Outcome}
 
 pub record Due (net ix : List ℕ) : Type 0 where
   pub due : (j : ℕ) → j < countOf net → newestOf ix (linkOf net 0 j) ≤ dueOf ix (linkOf net 1 j)
 
--- the index is kept for tables whose rows can be numbered with 23 bits
-abbrev pub IndexedShort : List ℕ → ℕ → List ℕ → ℕ → List ℕ → Type 0
-IndexedShort xs n ix t net = length xs ≤ 41943039 → Indexed xs n ix t × Due net ix
+-- the listed rows before step t cover the rows of every place
+abbrev pub Covered : List ℕ → List ℕ → ℕ → List ℕ → ℕ → Type 0
+Covered net xs n ix t = (v : ℕ) → v < 64 → Covers xs n ix t v (waitIn net v)
+
+-- the index of the rows up to step s, of which those before step t cover them all; it is kept for tables whose rows can be numbered with 23 bits
+abbrev pub IndexedShort : List ℕ → ℕ → List ℕ → ℕ → ℕ → List ℕ → Type 0
+IndexedShort xs n ix s t net = length xs ≤ 41943039 → Indexed xs n ix s × Due net ix × Covered net xs n ix t
 
 -- step s is noted for place p
 pub record MarkedOne (ix iy : List ℕ) (p s : ℕ) : Type 0 where
@@ -89,10 +93,11 @@ pub record Rests (ix net : List ℕ) (v t : ℕ) (r : Bool) : Type 0 where
 -- what filling in before place v at step t leaves, and the index of the rows up to step s
 pub record Stepping (free net xs ix : List ℕ) (s t v : ℕ) (o : Outcome) : Type 0 where
   pub result : Result (caseOf free net) xs t v (o .ok) (o .rows)
-  pub index : o .ok ≡ true → IndexedShort xs (o .rows) ix s net
+  pub index : o .ok ≡ true → IndexedShort xs (o .rows) ix s t net
 
 -- what is asked where place v is filled in at step t by the index
 pub record Fast (free net xs ix : List ℕ) (n v t : ℕ) : Type 0 where
   pub visiting : Visiting free net xs n v t
   pub vacant : Vacant (caseOf free net) v t
   pub indexed : Indexed xs n ix t
+  pub covered : Covered net xs n ix t

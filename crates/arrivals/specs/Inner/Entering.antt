@@ -52,6 +52,10 @@ Led rs v t since wait g = Any (RowLeads v t since wait g) rs
 abbrev pub LedAt : List Row → Here → Cost → Type 0
 LedAt rs h g = Led rs (h .place .0) (h .step .0) (h .since .0) (h .wait) g
 
+-- what leads a cost leads a greater one
+pub led-up : {rs : List Row} (h : Here) (f g : Cost) → AtMost f g → LedAt rs h f → LedAt rs h g
+led-up h f g l a = any-map (λ r d. record { place = d .place; late = d .late; early = d .early; least = at-most-trans _ f g (d .least) l }) a
+
 -- corridor l leads from the rows of xs below a to h with cost g
 abbrev pub Entry : Here → ℕ → Case → List ℕ → Cost → Link → Type 0
 Entry h a k xs g l = Enters k (rowsOf xs a) (h .place .0) (h .step .0) g l

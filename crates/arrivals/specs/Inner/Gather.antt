@@ -20,7 +20,7 @@ use Rattle.arrivals.specs.Inner.Pruning.{Steady, steady-none}
 use Rattle.arrivals.specs.Inner.Filling.{Sound, entered, Falling, more-falling, Filled, startRow, row-after, filling-of, filled-place, filled-as, result-done, Grown, grown-none, grown-more, Visiting, Visited}
 use Rattle.arrivals.specs.Inner.Offering.{Beaten, Thin, thin-none, thin-drop, thin-keep, Stops, stops-none, stops-at, Insert, insert-here, insert-past, Offered, offered-not, offered-in, Offers, offers-none, offers-more}
 use Rattle.arrivals.specs.Inner.Sweeps.{SweptAt}
-use Rattle.arrivals.specs.Inner.Index.{Indexed, newestOf, dueOf, row-newest-in, indexed-more, indexed-kept, NotedAs}
+use Rattle.arrivals.specs.Inner.Index.{Indexed, Covers, newestOf, dueOf, row-newest-in, indexed-more, indexed-kept, covers-more, covers-kept, NotedAs}
 use Rattle.arrivals.specs.Inner.Due.{Due}
 use Rattle.arrivals.specs.declared.network.Here.{Here}
 
@@ -217,8 +217,22 @@ fresh-of k xs n t v f i l p = ⊎-elim (λ a. a) (λ a. absurd (omega (arith, a 
 pub noted-more : (k : Case) (xs ys : List ℕ) (n m : ℕ) (ix iy : List ℕ) (t v : ℕ) → v < 64 → Filled k (rowsOf xs n) t v → Indexed xs n ix t → Grown xs ys n m v t → NotedAs ix iy n m t v → Indexed ys m iy t
 noted-more k xs ys n m ix iy t v inside f w g d = indexed-more xs ys n m ix iy t v (d .last) w g inside (fresh-of k xs n t v f) (d .noted) (d .most) (d .past)
 
+-- and what covers the rows of each place then
+pub noted-covers : (k : Case) (xs ys : List ℕ) (n m : ℕ) (ix iy : List ℕ) (t v : ℕ) → v < 64 → Filled k (rowsOf xs n) t v → Indexed xs n ix t → Grown xs ys n m v t → NotedAs ix iy n m t v
+    → {u : ℕ} {c : Cost} → Covers xs n ix t u c → Covers ys m iy t u c
+noted-covers k xs ys n m ix iy t v inside f w g d = covers-more xs ys n m ix iy t v (d .last) w g inside (fresh-of k xs n t v f) (d .noted) (d .most) (d .past)
+
 pub noted-none : (xs ys : List ℕ) (n m : ℕ) (ix : List ℕ) (t v : ℕ) → m ≤ n → Indexed xs n ix t → Grown xs ys n m v t → Indexed ys m ix t
 noted-none xs ys n m ix t v l w g = let e : n ≡ m = omega (arith, g .more) in subst (λ (j : ℕ). Indexed ys j ix t) e (indexed-kept (g .below) w)
 
 pub noted-first : (xs ys : List ℕ) (ix iy : List ℕ) (v : ℕ) (g : List ℕ) → v < 64 → Indexed xs 0 ix 0 → Put xs ys 0 (record { place = v; step = 0; cost = g }) → NotedAs ix iy 0 1 0 v → Indexed ys 1 iy 0
 noted-first xs ys ix iy v g inside w p d = indexed-more xs ys 0 1 ix iy 0 v (d .last) w (grown-more xs xs ys 0 0 v 0 g (grown-none xs 0 v 0) p) inside (λ i l q. absurd (omega arith)) (d .noted) (d .most) (d .past)
+
+pub covers-none : (xs ys : List ℕ) (n m : ℕ) (ix : List ℕ) (t v : ℕ) → m ≤ n → Grown xs ys n m v t → {u : ℕ} {c : Cost} → Covers xs n ix t u c → Covers ys m ix t u c
+covers-none xs ys n m ix t v l g {u} {c} w = let e : n ≡ m = omega (arith, g .more) in subst (λ (j : ℕ). Covers ys j ix t u c) e (covers-kept (g .below) w)
+
+pub covers-first : (xs ys : List ℕ) (ix iy : List ℕ) (v : ℕ) (g : List ℕ) → v < 64 → Indexed xs 0 ix 0 → Put xs ys 0 (record { place = v; step = 0; cost = g }) → NotedAs ix iy 0 1 0 v
+    → {u : ℕ} {c : Cost} → Covers ys 1 iy 0 u c
+covers-first xs ys ix iy v g inside w p d =
+    covers-more xs ys 0 1 ix iy 0 v (d .last) w (grown-more xs xs ys 0 0 v 0 g (grown-none xs 0 v 0) p) inside (λ i l q. absurd (omega arith)) (d .noted) (d .most) (d .past)
+    (record { of = λ i l q. absurd (omega arith) })

@@ -1,15 +1,19 @@
 -- Where the rows of each step and place stand: for step s and place v, at s * 64 + v, the first row; 16384 further, the row past the last, times
 -- 512, and one more than the last step before s at which v has rows. At 32768 + v, one more than the last step at which v has rows; 64 further,
--- one more than the last step at which a place from which a corridor leads to v has rows (Due).
-use mathlib.Core.Path.{_≡_, sym, ap, _∙_, subst}
+-- one more than the last step at which a place from which a corridor leads to v has rows (Due). Rows for which a later row of their place stands may
+-- be left out: Covers says for which (document 02, E8; the search: live rows).
+use mathlib.Core.Path.{_≡_, refl, sym, ap, ap₂, _∙_, subst}
 use mathlib.Core.List.{List}
 use mathlib.Core.Logic.{_⊎_, inl, inr, ⊎-elim}
-use Prim.Native.Nat.{ℕ, _+_, _*_, _/_, _%_, _≤_, _<_}
+use Prim.Native.Nat.{ℕ, _+_, _*_, _-_, _/_, _%_, _≤_, _<_}
 use native.Mathlib.Omega.{arith}
+use native.Mathlib.Nat.{add-mul}
 use native.Mathlib.Decide.{ℕ-discrete}
 use lib.ListN.{length, getD, set, length-set, replicate, length-replicate}
 use lib.Seq.{getD-set-same, getD-set-other}
 use Rattle.sheet.specs.Laws.Decided.{lt-or-le, In}
+use Rattle.costs.specs.Costs.{Cost, fig, add, times, AtMost}
+use Rattle.costs.specs.Laws.Figures.{fig-add, fig-times}
 use Rattle.arrivals.specs.Rows.{Row, rowAt}
 use Rattle.arrivals.specs.Laws.Rows.{row-kept}
 use Rattle.arrivals.specs.Inner.Rows.{rowsOf, rows-find, zeros-at}
@@ -31,19 +35,40 @@ backOf ix s v = getD ix (16384 + (s * 64 + v)) 0 % 512
 abbrev pub newestOf : List ℕ → ℕ → ℕ
 newestOf ix v = getD ix (32768 + v) 0
 
+-- row i, which is r, is one of its group as the index has it
+abbrev pub InGroup : List ℕ → ℕ → Row → Type 0
+InGroup ix i r = (lowOf ix (r .step) (r .place) ≤ i) × (i < highOf ix (r .step) (r .place))
+
+pub record Listed (ix xs : List ℕ) (i : ℕ) : Type 0 where
+  pub group : InGroup ix i (rowAt xs i)
+
 pub record Indexed (xs : List ℕ) (n : ℕ) (ix : List ℕ) (t : ℕ) : Type 0 where
   pub size : 32896 ≤ length ix
   pub now : t ≤ 255
   pub places : (i : ℕ) → i < n → rowAt xs i .place < 64
   pub steps : (i : ℕ) → i < n → rowAt xs i .step ≤ t
-  pub low : (i : ℕ) → i < n → lowOf ix (rowAt xs i .step) (rowAt xs i .place) ≤ i
-  pub high : (i : ℕ) → i < n → i < highOf ix (rowAt xs i .step) (rowAt xs i .place)
   pub order : (s v : ℕ) → s ≤ 255 → v < 64 → (lowOf ix s v ≤ highOf ix s v) × (highOf ix s v ≤ n)
   pub only : (s v i : ℕ) → s ≤ 255 → v < 64 → lowOf ix s v ≤ i → i < highOf ix s v → (rowAt xs i .place ≡ v) × (rowAt xs i .step ≡ s)
   pub newest : (i : ℕ) → i < n → rowAt xs i .step < newestOf ix (rowAt xs i .place)
   pub latest : (v : ℕ) → v < 64 → newestOf ix v ≤ t + 1
-  pub back : (i j : ℕ) → i < n → j < n → rowAt xs i .place ≡ rowAt xs j .place → rowAt xs i .step < rowAt xs j .step → rowAt xs i .step < backOf ix (rowAt xs j .step) (rowAt xs j .place)
+  pub back : (i j : ℕ) → i < n → j < n → Listed ix xs i → Listed ix xs j → rowAt xs i .place ≡ rowAt xs j .place → rowAt xs i .step < rowAt xs j .step
+      → rowAt xs i .step < backOf ix (rowAt xs j .step) (rowAt xs j .place)
   pub down : (s v : ℕ) → s ≤ 255 → v < 64 → backOf ix s v ≤ s
+
+-- row `at` is listed, and a cart that arrives with it is nowhere dearer off, from its step on, than one that has waited from row i at cost w a step; before
+-- step t it is there
+pub record Cover (xs : List ℕ) (n : ℕ) (ix : List ℕ) (t : ℕ) (w : Cost) (i : ℕ) : Type 0 where
+  pub at : ℕ
+  pub inside : at < n
+  pub listed : Listed ix xs at
+  pub place : rowAt xs at .place ≡ rowAt xs i .place
+  pub later : rowAt xs i .step ≤ rowAt xs at .step
+  pub soon : (at ≡ i) ⊎ (rowAt xs at .step < t)
+  pub least : AtMost (rowAt xs at .cost) (add (rowAt xs i .cost) (times (rowAt xs at .step - rowAt xs i .step) w))
+
+-- some listed row covers each row of place v, where waiting costs w
+pub record Covers (xs : List ℕ) (n : ℕ) (ix : List ℕ) (t v : ℕ) (w : Cost) : Type 0 where
+  pub of : (i : ℕ) → i < n → rowAt xs i .place ≡ v → Cover xs n ix t w i
 
 -- at 32832 + v, one more than the last step at which a place from which a corridor leads to v has rows, or more
 abbrev pub dueOf : List ℕ → ℕ → ℕ
@@ -57,19 +82,24 @@ pub older-most : {xs : List ℕ} {n : ℕ} {ix : List ℕ} {t s v r : ℕ} → I
 older-most {xs} {n} {ix} {t} {s} {v} w l m (inl e) = omega (arith, e .1, w .down s v l m)
 older-most w l m (inr e) = omega arith
 
-pub older-past : {xs : List ℕ} {n : ℕ} {ix : List ℕ} {t s v r : ℕ} → Indexed xs n ix t → s ≤ 255 → v < 64 → Older ix s v r → (i : ℕ) → i < n → rowAt xs i .place ≡ v → rowAt xs i .step < s → rowAt xs i .step < r
-older-past {xs} {n} {ix} {t} {s} {v} {r} w l m (inl e) i u p q =
+-- the group of a row that is listed, and the other way round
+pub row-low : {xs ix : List ℕ} (i s v : ℕ) → Listed ix xs i → rowAt xs i .step ≡ s → rowAt xs i .place ≡ v → (lowOf ix s v ≤ i) × (i < highOf ix s v)
+row-low {xs} {ix} i s v l e f =
+    subst (λ (y : ℕ). (lowOf ix y v ≤ i) × (i < highOf ix y v)) e (subst (λ (y : ℕ). (lowOf ix (rowAt xs i .step) y ≤ i) × (i < highOf ix (rowAt xs i .step) y)) f (l .group))
+
+pub low-row : (xs ix : List ℕ) (i s v : ℕ) → lowOf ix s v ≤ i → i < highOf ix s v → rowAt xs i .step ≡ s → rowAt xs i .place ≡ v → Listed ix xs i
+low-row xs ix i s v l h e f =
+    record { group = subst (λ (y : ℕ). (lowOf ix (rowAt xs i .step) y ≤ i) × (i < highOf ix (rowAt xs i .step) y)) (sym f) (subst (λ (y : ℕ). (lowOf ix y v ≤ i) × (i < highOf ix y v)) (sym e) (l, h)) }
+
+pub older-past : {xs : List ℕ} {n : ℕ} {ix : List ℕ} {t s v r : ℕ} → Indexed xs n ix t → s ≤ 255 → v < 64 → Older ix s v r
+    → (i : ℕ) → i < n → Listed ix xs i → rowAt xs i .place ≡ v → rowAt xs i .step < s → rowAt xs i .step < r
+older-past {xs} {n} {ix} {t} {s} {v} {r} w l m (inl e) i u g p q =
     let j = lowOf ix s v in
     let o = w .only s v j l m (omega arith) (e .0) in
     let b = w .order s v l m in
-    let z = w .back i j u (omega (arith, e .0, b .1)) (p ∙ sym (o .0)) (omega (arith, o .1)) in
+    let z = w .back i j u (omega (arith, e .0, b .1)) g (low-row xs ix j s v (omega arith) (e .0) (o .1) (o .0)) (p ∙ sym (o .0)) (omega (arith, o .1)) in
     omega (arith, e .1, subst (λ (y : ℕ). rowAt xs i .step < backOf ix y v) (o .1) (subst (λ (y : ℕ). rowAt xs i .step < backOf ix (rowAt xs j .step) y) (o .0) z))
-older-past w l m (inr e) i u p q = omega arith
-
--- the group of a row
-pub row-low : {xs : List ℕ} {n : ℕ} {ix : List ℕ} {t : ℕ} → Indexed xs n ix t → (i s v : ℕ) → i < n → rowAt xs i .step ≡ s → rowAt xs i .place ≡ v → (lowOf ix s v ≤ i) × (i < highOf ix s v)
-row-low {xs} {n} {ix} w i s v l e f =
-    (subst (λ (y : ℕ). lowOf ix y v ≤ i) e (subst (λ (y : ℕ). lowOf ix (rowAt xs i .step) y ≤ i) f (w .low i l)), subst (λ (y : ℕ). i < highOf ix y v) e (subst (λ (y : ℕ). i < highOf ix (rowAt xs i .step) y) f (w .high i l)))
+older-past w l m (inr e) i u g p q = omega arith
 
 pub row-newest : {xs : List ℕ} {n : ℕ} {ix : List ℕ} {t : ℕ} → Indexed xs n ix t → (i v : ℕ) → i < n → rowAt xs i .place ≡ v → rowAt xs i .step < newestOf ix v
 row-newest {xs} {n} {ix} w i v l f = subst (λ (y : ℕ). rowAt xs i .step < newestOf ix y) f (w .newest i l)
@@ -84,12 +114,10 @@ indexed-kept {xs} {ys} {n} {ix} {t} same w =
       down = w .down;
       places = λ i l. subst (λ (r : Row). r .place < 64) (e i l) (w .places i l);
       steps = λ i l. subst (λ (r : Row). r .step ≤ t) (e i l) (w .steps i l);
-      low = λ i l. subst (λ (r : Row). lowOf ix (r .step) (r .place) ≤ i) (e i l) (w .low i l);
-      high = λ i l. subst (λ (r : Row). i < highOf ix (r .step) (r .place)) (e i l) (w .high i l);
       only = λ s v i a b c d. let o = w .order s v a b in subst (λ (r : Row). (r .place ≡ v) × (r .step ≡ s)) (e i (omega (arith, o .1, d))) (w .only s v i a b c d);
       newest = λ i l. subst (λ (r : Row). r .step < newestOf ix (r .place)) (e i l) (w .newest i l);
-      back = λ i j l m. subst (λ (q : Row). rowAt ys i .place ≡ q .place → rowAt ys i .step < q .step → rowAt ys i .step < backOf ix (q .step) (q .place)) (e j m)
-          (subst (λ (r : Row). r .place ≡ rowAt xs j .place → r .step < rowAt xs j .step → r .step < backOf ix (rowAt xs j .step) (rowAt xs j .place)) (e i l) (w .back i j l m));
+      back = λ i j l m g h. subst (λ (q : Row). InGroup ix i (rowAt ys i) → InGroup ix j q → rowAt ys i .place ≡ q .place → rowAt ys i .step < q .step → rowAt ys i .step < backOf ix (q .step) (q .place)) (e j m)
+          (subst (λ (r : Row). InGroup ix i r → InGroup ix j (rowAt xs j) → r .place ≡ rowAt xs j .place → r .step < rowAt xs j .step → r .step < backOf ix (rowAt xs j .step) (rowAt xs j .place)) (e i l) (λ a b. w .back i j l m (record { group = a }) (record { group = b }))) (g .group) (h .group);
     }
   where
     e : (i : ℕ) → i < n → rowAt xs i ≡ rowAt ys i
@@ -156,6 +184,19 @@ noted ix lo hi s v b l m bs size =
     cell : (r u : ℕ) → r ≤ 255 → u < 64 → (r ≡ s → u ≡ v → ⊥) → getD (set i2 (16384 + (s * 64 + v)) (hi * 512 + b)) (16384 + (r * 64 + u)) 0 ≡ getD ix (16384 + (r * 64 + u)) 0
     cell r u a c n = skip3 (16384 + (r * 64 + u)) (λ e. n (omega arith) (omega arith)) ∙ skip2 (16384 + (r * 64 + u)) (λ e. omega arith) ∙ skip1 (16384 + (r * 64 + u)) (λ e. omega arith)
 
+-- a row covers itself, where it is listed
+pub cover-own : {xs : List ℕ} {n : ℕ} {ix : List ℕ} {t : ℕ} {w : Cost} (i : ℕ) → i < n → Listed ix xs i → Cover xs n ix t w i
+cover-own {xs} {w = w} i l g =
+    record {
+      at = i;
+      inside = l;
+      listed = g;
+      place = refl;
+      later = omega arith;
+      soon = inl refl;
+      least = record { every = λ j. omega (arith, fig-add (rowAt xs i .cost) (times (rowAt xs i .step - rowAt xs i .step) w) j) };
+    }
+
 module _ (xs ys : List ℕ) (n m : ℕ) (ix iy : List ℕ) (t v b : ℕ) (w : Indexed xs n ix t) (g : Grown xs ys n m v t) (inside : v < 64) (fresh : (i : ℕ) → i < n → rowAt xs i .place ≡ v → rowAt xs i .step < t) (d : Noted ix iy n m t v b) (bt : b ≤ t) (bn : (newestOf ix v ≤ b) ⊎ (b ≡ t)) where
   same-row : (i : ℕ) → i < n → rowAt xs i ≡ rowAt ys i
   same-row i l = sym (row-kept xs ys i (λ j a c. g .below j (omega arith)))
@@ -219,8 +260,28 @@ module _ (xs ys : List ℕ) (n m : ℕ) (ix iy : List ℕ) (t v b : ℕ) (w : In
       let q = old-step i l p in
       ⊎-elim (λ x. omega (arith, d .back)) (λ x. omega (arith, d .back)) bn
 
-  back-at : (i j : ℕ) → i < m → j < m → rowAt ys i .place ≡ rowAt ys j .place → rowAt ys i .step < rowAt ys j .step → rowAt ys i .step < backOf iy (rowAt ys j .step) (rowAt ys j .place)
-  back-at i j l u p q =
+  -- an old row is listed as it was
+  old-listed : (i : ℕ) → i < n → Listed iy ys i → Listed ix xs i
+  old-listed i l g =
+      let a : rowAt ys i .step ≤ 255 = omega (arith, old-late i l, w .now) in
+      let x = d .lows (rowAt ys i .step) (rowAt ys i .place) a (old-place i l) (not-here i l) in
+      let y = d .highs (rowAt ys i .step) (rowAt ys i .place) a (old-place i l) (not-here i l) in
+      record { group = subst (InGroup ix i) (sym (same-row i l)) (omega (arith, g .group .0), omega (arith, g .group .1)) }
+
+  listed-old : (i : ℕ) → i < n → Listed ix xs i → Listed iy ys i
+  listed-old i l g =
+      let a : rowAt ys i .step ≤ 255 = omega (arith, old-late i l, w .now) in
+      let x = d .lows (rowAt ys i .step) (rowAt ys i .place) a (old-place i l) (not-here i l) in
+      let y = d .highs (rowAt ys i .step) (rowAt ys i .place) a (old-place i l) (not-here i l) in
+      let h = subst (InGroup ix i) (same-row i l) (g .group) in
+      record { group = (omega (arith, h .0), omega (arith, h .1)) }
+
+  listed-new : (i : ℕ) → n ≤ i → i < m → Listed iy ys i
+  listed-new i l u = record { group = (own-key (λ s w. lowOf iy s w ≤ i) i l u (omega (arith, d .low)), own-key (λ s w. i < highOf iy s w) i l u (omega (arith, d .high))) }
+
+  back-at : (i j : ℕ) → i < m → j < m → Listed iy ys i → Listed iy ys j → rowAt ys i .place ≡ rowAt ys j .place → rowAt ys i .step < rowAt ys j .step
+      → rowAt ys i .step < backOf iy (rowAt ys j .step) (rowAt ys j .place)
+  back-at i j l u gi gj p q =
       ⊎-elim
       (λ lt.
       let i-old : i < n = ⊎-elim (λ x. x) (λ x. let o = g .own i x l in absurd (omega (arith, o .1, old-late j lt))) (lt-or-le i n) in
@@ -229,7 +290,7 @@ module _ (xs ys : List ℕ) (n m : ℕ) (ix iy : List ℕ) (t v b : ℕ) (w : In
         d .backs (rowAt ys j .step) (rowAt ys j .place) (omega (arith, old-late j lt, w .now)) (old-place j lt) (not-here j lt),
         subst (λ (r : Row). rowAt ys i .step < backOf ix (r .step) (r .place)) (same-row j lt)
             (subst (λ (r : Row). r .step < backOf ix (rowAt xs j .step) (rowAt xs j .place)) (same-row i i-old)
-            (w .back i j i-old lt (ap (λ (r : Row). r .place) (same-row i i-old) ∙ p ∙ sym (ap (λ (r : Row). r .place) (same-row j lt)))
+            (w .back i j i-old lt (old-listed i i-old gi) (old-listed j lt gj) (ap (λ (r : Row). r .place) (same-row i i-old) ∙ p ∙ sym (ap (λ (r : Row). r .place) (same-row j lt)))
             (subst (λ (r : Row). rowAt xs i .step < r .step) (sym (same-row j lt)) (subst (λ (r : Row). r .step < rowAt ys j .step) (sym (same-row i i-old)) q)))),
       ))
       (λ ge.
@@ -238,6 +299,24 @@ module _ (xs ys : List ℕ) (n m : ℕ) (ix iy : List ℕ) (t v b : ℕ) (w : In
       own-key (λ s w. rowAt ys i .step < backOf iy s w) j ge u (back-own i i-old (p ∙ o .0)))
       (lt-or-le j n)
 
+  pub covers-more : {u : ℕ} {c : Cost} → Covers xs n ix t u c → Covers ys m iy t u c
+  covers-more {u} {c} f = record { of = split (λ i l p. old i l (f .of i l (ap (λ (r : Row). r .place) (same-row i l) ∙ p))) (λ i l b p. cover-own i b (listed-new i l b)) }
+    where
+      old : (i : ℕ) → i < n → Cover xs n ix t c i → Cover ys m iy t c i
+      old i l k =
+          let e = same-row i l in
+          let h = same-row (k .at) (k .inside) in
+          record {
+            at = k .at;
+            inside = omega (arith, k .inside, g .more);
+            listed = listed-old (k .at) (k .inside) (k .listed);
+            place = sym (ap (λ (r : Row). r .place) h) ∙ k .place ∙ ap (λ (r : Row). r .place) e;
+            later = omega (arith, k .later, ap (λ (r : Row). r .step) h, ap (λ (r : Row). r .step) e);
+            soon = ⊎-elim (λ q. inl q) (λ q. inr (omega (arith, q, ap (λ (r : Row). r .step) h))) (k .soon);
+            least = subst (λ (r : Row). AtMost (r .cost) (add (rowAt ys i .cost) (times (r .step - rowAt ys i .step) c))) h
+                (subst (λ (r : Row). AtMost (rowAt xs (k .at) .cost) (add (r .cost) (times (rowAt xs (k .at) .step - r .step) c))) e (k .least));
+          }
+
   pub indexed-more : Indexed ys m iy t
   indexed-more =
       record {
@@ -245,8 +324,6 @@ module _ (xs ys : List ℕ) (n m : ℕ) (ix iy : List ℕ) (t v b : ℕ) (w : In
         now = w .now;
         places = split old-place (λ i l u. let o = g .own i l u in omega (arith, o .0));
         steps = split old-late (λ i l u. let o = g .own i l u in omega (arith, o .1));
-        low = split (λ i l. omega (arith, d .lows (rowAt ys i .step) (rowAt ys i .place) (omega (arith, old-late i l, w .now)) (old-place i l) (not-here i l), subst (λ (r : Row). lowOf ix (r .step) (r .place) ≤ i) (same-row i l) (w .low i l))) (λ i l u. own-key (λ s w. lowOf iy s w ≤ i) i l u (omega (arith, d .low)));
-        high = split (λ i l. omega (arith, d .highs (rowAt ys i .step) (rowAt ys i .place) (omega (arith, old-late i l, w .now)) (old-place i l) (not-here i l), subst (λ (r : Row). i < highOf ix (r .step) (r .place)) (same-row i l) (w .high i l))) (λ i l u. own-key (λ s w. i < highOf iy s w) i l u (omega (arith, d .high)));
         order = λ s u a c. not-order s u a c (key s u);
         only = λ s u i a c l h. only-at s u i a c l h (key s u);
         newest = split (λ i l. newest-at i l (ℕ-discrete (rowAt ys i .place) v)) (λ i l u. own-key (λ s w. s < newestOf iy w) i l u (omega (arith, d .newest)));
@@ -257,7 +334,7 @@ module _ (xs ys : List ℕ) (n m : ℕ) (ix iy : List ℕ) (t v b : ℕ) (w : In
 
 pub indexed-step : {xs : List ℕ} {n : ℕ} {ix : List ℕ} {t : ℕ} (u : ℕ) → t ≤ u → u ≤ 255 → Indexed xs n ix t → Indexed xs n ix u
 indexed-step u l m w =
-    record { size = w .size; now = m; places = w .places; steps = λ i b. omega (arith, w .steps i b); low = w .low; high = w .high; order = w .order; only = w .only; newest = w .newest; latest = λ v b. omega (arith, w .latest v b); back = w .back; down = w .down }
+    record { size = w .size; now = m; places = w .places; steps = λ i b. omega (arith, w .steps i b); order = w .order; only = w .only; newest = w .newest; latest = λ v b. omega (arith, w .latest v b); back = w .back; down = w .down }
 
 pub indexed-none : (xs : List ℕ) (n t : ℕ) → 32896 ≤ n → t ≤ 255 → Indexed xs 0 (replicate n 0) t
 indexed-none xs n t l m =
@@ -266,8 +343,6 @@ indexed-none xs n t l m =
       now = m;
       places = λ i b. absurd (omega arith);
       steps = λ i b. absurd (omega arith);
-      low = λ i b. absurd (omega arith);
-      high = λ i b. absurd (omega arith);
       order = λ s v a b. (omega (arith, zeros-at n (s * 64 + v)), omega (arith, zeros-at n (16384 + (s * 64 + v))));
       only = λ s v i a b c d. absurd (omega (arith, zeros-at n (16384 + (s * 64 + v))));
       newest = λ i b. absurd (omega arith);
@@ -283,15 +358,74 @@ indexed-same {xs} {n} {ix} {iy} {t} e same w =
       now = w .now;
       places = w .places;
       steps = w .steps;
-      low = λ i l. omega (arith, same (rowAt xs i .step * 64 + rowAt xs i .place) (omega (arith, inside i l)), w .low i l);
-      high = λ i l. omega (arith, same (16384 + (rowAt xs i .step * 64 + rowAt xs i .place)) (omega (arith, inside i l)), w .high i l);
       order = λ s v a b. let o = w .order s v a b in let x = same (s * 64 + v) (omega arith) in let y = same (16384 + (s * 64 + v)) (omega arith) in (omega (arith, o .0), omega (arith, o .1));
       only = λ s v i a b c d. w .only s v i a b (omega (arith, same (s * 64 + v) (omega arith))) (omega (arith, same (16384 + (s * 64 + v)) (omega arith)));
       newest = λ i l. omega (arith, same (32768 + rowAt xs i .place) (omega (arith, w .places i l)), w .newest i l);
       latest = λ v b. omega (arith, same (32768 + v) (omega arith), w .latest v b);
-      back = λ i j l m p q. omega (arith, same (16384 + (rowAt xs j .step * 64 + rowAt xs j .place)) (omega (arith, inside j m)), w .back i j l m p q);
+      back = λ i j l m g h p q. omega (arith, same (16384 + (rowAt xs j .step * 64 + rowAt xs j .place)) (omega (arith, inside j m)), w .back i j l m (listed i l g) (listed j m h) p q);
       down = λ s v a b. omega (arith, same (16384 + (s * 64 + v)) (omega arith), w .down s v a b);
     }
   where
     inside : (i : ℕ) → i < n → rowAt xs i .step * 64 + rowAt xs i .place < 16384
     inside i l = omega (arith, w .steps i l, w .places i l, w .now)
+
+    listed : (i : ℕ) → i < n → Listed iy xs i → Listed ix xs i
+    listed i l g =
+        let x = same (rowAt xs i .step * 64 + rowAt xs i .place) (omega (arith, inside i l)) in
+        let y = same (16384 + (rowAt xs i .step * 64 + rowAt xs i .place)) (omega (arith, inside i l)) in
+        record { group = (omega (arith, g .group .0), omega (arith, g .group .1)) }
+
+-- what covers a row covers it at a later step, after cells that are no row's are changed, and where other cells of the index are
+pub covers-step : {xs : List ℕ} {n : ℕ} {ix : List ℕ} {t v : ℕ} {w : Cost} (u : ℕ) → t ≤ u → Covers xs n ix t v w → Covers xs n ix u v w
+covers-step u l f =
+    record {
+      of = λ i b p.
+          let k = f .of i b p in
+          record { at = k .at; inside = k .inside; listed = k .listed; place = k .place; later = k .later; soon = ⊎-elim (λ q. inl q) (λ q. inr (omega arith)) (k .soon); least = k .least };
+    }
+
+pub covers-kept : {xs ys : List ℕ} {n : ℕ} {ix : List ℕ} {t v : ℕ} {w : Cost} → ((j : ℕ) → j < n * 5 → getD ys j 0 ≡ getD xs j 0) → Covers xs n ix t v w → Covers ys n ix t v w
+covers-kept {xs} {ys} {n} {ix} {t} {v} {w} same f = record { of = λ i l p. old i l (f .of i l (ap (λ (r : Row). r .place) (e i l) ∙ p)) }
+  where
+    e : (i : ℕ) → i < n → rowAt xs i ≡ rowAt ys i
+    e i l = sym (row-kept xs ys i (λ j a b. same j (omega arith)))
+
+    old : (i : ℕ) → i < n → Cover xs n ix t w i → Cover ys n ix t w i
+    old i l k =
+        let h = e (k .at) (k .inside) in
+        record {
+          at = k .at;
+          inside = k .inside;
+          listed = record { group = subst (InGroup ix (k .at)) h (k .listed .group) };
+          place = sym (ap (λ (r : Row). r .place) h) ∙ k .place ∙ ap (λ (r : Row). r .place) (e i l);
+          later = omega (arith, k .later, ap (λ (r : Row). r .step) h, ap (λ (r : Row). r .step) (e i l));
+          soon = ⊎-elim (λ q. inl q) (λ q. inr (omega (arith, q, ap (λ (r : Row). r .step) h))) (k .soon);
+          least = subst (λ (r : Row). AtMost (r .cost) (add (rowAt ys i .cost) (times (r .step - rowAt ys i .step) w))) h
+              (subst (λ (r : Row). AtMost (rowAt xs (k .at) .cost) (add (r .cost) (times (rowAt xs (k .at) .step - r .step) w))) (e i l) (k .least));
+        }
+
+-- where another index lists what this one does
+pub covers-listed : {xs : List ℕ} {n : ℕ} {ix iy : List ℕ} {t v : ℕ} {w : Cost} → ((i : ℕ) → i < n → rowAt xs i .place ≡ v → Listed ix xs i → Listed iy xs i)
+    → Covers xs n ix t v w → Covers xs n iy t v w
+covers-listed g f =
+    record {
+      of = λ i b p.
+          let k = f .of i b p in
+          record { at = k .at; inside = k .inside; listed = g (k .at) (k .inside) (k .place ∙ p) (k .listed); place = k .place; later = k .later; soon = k .soon; least = k .least };
+    }
+
+-- waiting on is waiting from one row to the next and from there on
+pub lag-sum : (a b c : ℕ) (w : Cost) (i : ℕ) → a ≤ b → b ≤ c → fig (times (c - a) w) i ≡ fig (times (b - a) w) i + fig (times (c - b) w) i
+lag-sum a b c w i l m =
+    let e : c - a ≡ (b - a) + (c - b) = omega arith in
+    fig-times (c - a) w i ∙ ap (λ (n : ℕ). n * fig w i) e ∙ add-mul (b - a) (c - b) (fig w i) ∙ sym (ap₂ (λ (x y : ℕ). x + y) (fig-times (b - a) w i) (fig-times (c - b) w i))
+
+pub covers-same : {xs : List ℕ} {n : ℕ} {ix iy : List ℕ} {s t v : ℕ} {w : Cost} → ((i : ℕ) → i < 32832 → getD iy i 0 ≡ getD ix i 0) → Indexed xs n ix s → Covers xs n ix t v w → Covers xs n iy t v w
+covers-same {xs} {n} {ix} {iy} {s} {t} {v} same a f = covers-listed listed f
+  where
+    listed : (i : ℕ) → i < n → rowAt xs i .place ≡ v → Listed ix xs i → Listed iy xs i
+    listed i l p g =
+        let b : rowAt xs i .step * 64 + rowAt xs i .place < 16384 = omega (arith, a .steps i l, a .places i l, a .now) in
+        let x = same (rowAt xs i .step * 64 + rowAt xs i .place) (omega arith) in
+        let y = same (16384 + (rowAt xs i .step * 64 + rowAt xs i .place)) (omega arith) in
+        record { group = (omega (arith, g .group .0), omega (arith, g .group .1)) }

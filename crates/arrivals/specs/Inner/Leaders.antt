@@ -1,4 +1,5 @@
--- The rows of a place that lead a cost, sought group by group, the newest first.
+-- The rows of a place that lead a cost, sought group by group, the newest first. Those that are not listed need not be sought: where one leads, the row that
+-- covers it does.
 use mathlib.Core.Path.{_≡_, sym, _∙_, ap, subst}
 use mathlib.Core.List.{List}
 use mathlib.Core.Bool.{Bool}
@@ -12,7 +13,7 @@ use Rattle.arrivals.specs.Rows.{Row, rowAt}
 use Rattle.arrivals.specs.Inner.Rows.{rowsOf, tailOf, tail-any, tail-find, any-at, none-below}
 use Rattle.arrivals.specs.Inner.Entering.{RowLeads, Led}
 use Rattle.arrivals.specs.Inner.Offering.{Beaten}
-use Rattle.arrivals.specs.Inner.Index.{Indexed, Older, lowOf, highOf, row-low, older-past}
+use Rattle.arrivals.specs.Inner.Index.{Listed, Indexed, Cover, Covers, Older, lowOf, highOf, row-low, older-past, lag-sum}
 
 pub rest-led : (g lag rest : List ℕ) {qs : List Row} {b : Bool} → add rest lag ≡ g → Decided (Beaten qs rest) b → Decided (Any (λ q. AtMost (add (q .cost) lag) g) qs) b
 rest-led g lag rest e d =
@@ -34,25 +35,53 @@ module _ {xs : List ℕ} {n : ℕ} {ix : List ℕ} {t : ℕ} (w : Indexed xs n i
       any-at (RowLeads v t since wait g) xs n (f .at) (omega (arith, f .upto, b .0, b .1))
       (record { place = o .0; late = omega (arith, o .1); early = omega (arith, o .1); least = subst (λ (y : ℕ). AtMost (add (rowAt xs (f .at) .cost) (times (t - y) wait)) g) (sym (o .1)) (subst (λ (y : List ℕ). AtMost (add (rowAt xs (f .at) .cost) y) g) e (f .fits)) })
 
-  pub group-not : (lag : List ℕ) → s ≤ t → lag ≡ times (t - s) wait → (GroupLed lag → ⊥) → (i : ℕ) → i < n → rowAt xs i .place ≡ v → rowAt xs i .step ≡ s → RowLeads v t since wait g (rowAt xs i) → ⊥
+  pub group-not : (lag : List ℕ) → s ≤ t → lag ≡ times (t - s) wait → (GroupLed lag → ⊥) → (i : ℕ) → Listed ix xs i → rowAt xs i .place ≡ v → rowAt xs i .step ≡ s → RowLeads v t since wait g (rowAt xs i) → ⊥
   group-not lag m e nn i l p q d =
-      let r = row-low w i s v l q p in
+      let r = row-low i s v l q p in
       let j : lowOf ix s v + (i - lowOf ix s v) ≡ i = omega (arith, r .0) in
       nn (tail-any _ xs (lowOf ix s v) _ (i - lowOf ix s v) (omega (arith, r .0, r .1)) (subst (λ (y : ℕ). AtMost (add (rowAt xs y .cost) lag) g) (sym j)
       (subst (λ (y : List ℕ). AtMost (add (rowAt xs i .cost) y) g) (sym e) (subst (λ (y : ℕ). AtMost (add (rowAt xs i .cost) (times (t - y) wait)) g) q (d .least)))))
 
   abbrev pub Unled : ℕ → Type 0
-  Unled r = (i : ℕ) → i < n → rowAt xs i .place ≡ v → r ≤ rowAt xs i .step → RowLeads v t since wait g (rowAt xs i) → ⊥
+  Unled r = (i : ℕ) → i < n → Listed ix xs i → rowAt xs i .place ≡ v → r ≤ rowAt xs i .step → RowLeads v t since wait g (rowAt xs i) → ⊥
 
   pub unled-more : (lag : List ℕ) (r : ℕ) → s ≤ t → lag ≡ times (t - s) wait → (GroupLed lag → ⊥) → Older ix s v r → Unled (s + 1) → Unled r
-  unled-more lag r m e nn o u i l p q d =
+  unled-more lag r m e nn o u i l k p q d =
       ⊎-elim
-      (λ lt. let z = older-past w (omega (arith, w .now)) inside o i l p lt in omega arith)
-      (λ ge. ⊎-elim (λ lt. u i l p (omega arith) d) (λ le. group-not lag m e nn i l p (omega arith) d) (lt-or-le s (rowAt xs i .step)))
+      (λ lt. let z = older-past w (omega (arith, w .now)) inside o i l k p lt in omega arith)
+      (λ ge. ⊎-elim (λ lt. u i l k p (omega arith) d) (λ le. group-not lag m e nn i k p (omega arith) d) (lt-or-le s (rowAt xs i .step)))
       (lt-or-le (rowAt xs i .step) s)
 
-pub unled-all : (xs : List ℕ) (n t s v since : ℕ) (wait g : List ℕ) → s ≤ since → ((i : ℕ) → i < n → rowAt xs i .place ≡ v → s ≤ rowAt xs i .step → RowLeads v t since wait g (rowAt xs i) → ⊥) → Led (rowsOf xs n) v t since wait g → ⊥
-unled-all xs n t s v since wait g l u a = none-below _ xs n (λ j m d. u j m (d .place) (omega (arith, d .late)) d) a
+-- the row that covers one that leads, leads
+pub cover-leads : {xs : List ℕ} {n : ℕ} {ix : List ℕ} {t v since : ℕ} {wait g : List ℕ} (j : ℕ) (k : Cover xs n ix t wait j) → RowLeads v t since wait g (rowAt xs j) → RowLeads v t since wait g (rowAt xs (k .at))
+cover-leads {xs} {n} {ix} {t} {v} {since} {wait} {g} j k d =
+    let early : rowAt xs (k .at) .step ≤ t = ⊎-elim (λ e. omega (arith, d .early, ap (λ (i : ℕ). rowAt xs i .step) e)) (λ b. omega arith) (k .soon) in
+    record {
+      place = k .place ∙ d .place;
+      late = omega (arith, d .late, k .later);
+      early = early;
+      least = record {
+        every = λ i. omega (
+          arith,
+          fig-add (rowAt xs (k .at) .cost) (times (t - rowAt xs (k .at) .step) wait) i,
+          fig-add (rowAt xs j .cost) (times (rowAt xs (k .at) .step - rowAt xs j .step) wait) i,
+          fig-add (rowAt xs j .cost) (times (t - rowAt xs j .step) wait) i,
+          lag-sum (rowAt xs j .step) (rowAt xs (k .at) .step) t wait i (k .later) early,
+          k .least .every i,
+          d .least .every i,
+        );
+      };
+    }
+
+pub unled-all : (xs : List ℕ) (n : ℕ) (ix : List ℕ) (t s v since : ℕ) (wait g : List ℕ) → Covers xs n ix t v wait → s ≤ since
+    → ((i : ℕ) → i < n → Listed ix xs i → rowAt xs i .place ≡ v → s ≤ rowAt xs i .step → RowLeads v t since wait g (rowAt xs i) → ⊥) → Led (rowsOf xs n) v t since wait g → ⊥
+unled-all xs n ix t s v since wait g c l u a =
+    none-below _ xs n
+    (λ j m d.
+    let k = c .of j m (d .place) in
+    let e = cover-leads j k d in
+    u (k .at) (k .inside) (k .listed) (e .place) (omega (arith, e .late)) e)
+    a
 
 -- the rows of a span that is a group's
 pub span-as : {P : Row → Type 0} (xs : List ℕ) (a b c d : ℕ) {r : Bool} → a ≡ c → b ≡ d → Decided (Any P (tailOf xs a (b - a))) r → Decided (Any P (tailOf xs c (d - c))) r

@@ -10,7 +10,7 @@ use lib.ListN.{length, getD}
 use Rattle.sheet.specs.Lists.{Lex}
 use Rattle.costs.specs.Costs.{AtMost}
 use Rattle.costs.specs.Laws.Figures.{at-most-refl, at-most-trans}
-use Rattle.sheet.specs.Laws.Decided.{false-not-true, lt-or-le, Any, here, there, any-cons}
+use Rattle.sheet.specs.Laws.Decided.{false-not-true, lt-or-le, Any, here, there, any-cons, any-map}
 use Rattle.arrivals.specs.Rows.{Row, rowAt, Put}
 use Rattle.arrivals.specs.Laws.Rows.{row-kept}
 use Rattle.arrivals.specs.Inner.Rows.{tailOf, tail-more, tail-kept, put-tail}
@@ -106,6 +106,19 @@ swept-then p q r x y =
 -- S and R differ by costs that H says are led
 pub swept-as : {S R H : List ℕ → Type 0} {v t a : ℕ} {xs ys : List ℕ} {d e : ℕ} {ok : Bool} → ((h : List ℕ) → S h → R h) → ((h : List ℕ) → R h → S h ⊎ H h) → Swept S H v t a xs ys d ok e → Swept R H v t a xs ys d ok e
 swept-as f g x = record { below = x .below; room = x .room; done = λ e. offers-then f f (x .done e) offers-none; all = λ e h r. ⊎-elim (λ s. x .all e h s) (λ l. inr l) (g h r) }
+
+-- every cost of R is nowhere below one of S, and what H says of a cost it says of a greater one
+pub swept-under : {S R H : List ℕ → Type 0} {v t a : ℕ} {xs ys : List ℕ} {d e : ℕ} {ok : Bool} → ((h : List ℕ) → S h → R h) → ((h : List ℕ) → R h → (g : List ℕ) × S g × AtMost g h)
+    → ((g h : List ℕ) → AtMost g h → H g → H h) → Swept S H v t a xs ys d ok e → Swept R H v t a xs ys d ok e
+swept-under f g up x =
+    record {
+      below = x .below;
+      room = x .room;
+      done = λ e. offers-then f f (x .done e) offers-none;
+      all = λ e h r.
+          let q = g h r in
+          ⊎-elim (λ b. inl (any-map (λ p l. at-most-trans (p .cost) (q .0) h l (q .2)) b)) (λ l. inr (up (q .0) h (q .2) l)) (x .all e (q .0) (q .1));
+    }
 
 pub swept-ok : {S H : List ℕ → Type 0} {v t a : ℕ} {xs ys : List ℕ} {d e : ℕ} {ok : Bool} → ok ≡ true → Swept S H v t a xs ys d ok e → Swept S H v t a xs ys d true e
 swept-ok {S} {H} {v} {t} {a} {xs} {ys} {d} {e} {ok} q x = subst (λ (b : Bool). Swept S H v t a xs ys d b e) q x

@@ -1,5 +1,5 @@
 -- Sweeps over the rows of a group, of a place and of the corridors into a place: each cost that they arrive with at h is offered.
-use mathlib.Core.Path.{_≡_, sym, ap, _∙_, subst}
+use mathlib.Core.Path.{_≡_, refl, sym, ap, _∙_, subst}
 use mathlib.Core.List.{List}
 use mathlib.Core.Bool.{Bool, true}
 use mathlib.Core.Logic.{_⊎_, inl, inr, ⊎-elim}
@@ -7,17 +7,18 @@ use Prim.Native.Nat.{ℕ, _+_, _*_, _-_, _≤_, _<_}
 use native.Mathlib.Omega.{arith}
 use lib.ListN.{length, getD}
 use Rattle.sheet.specs.Laws.Decided.{lt-or-le, Any, All}
-use Rattle.costs.specs.Costs.{Cost}
+use Rattle.costs.specs.Costs.{Cost, add, times, AtMost}
+use Rattle.costs.specs.Laws.Figures.{fig-add}
 use Rattle.arrivals.specs.Rows.{Row, rowAt}
 use Rattle.arrivals.specs.Laws.Rows.{row-kept}
 use Rattle.arrivals.specs.Inner.Rows.{rowsOf, rows-kept, rows-find, any-at, Bounded}
 use Rattle.arrivals.specs.Inner.Network.{Case, caseOf, Link, linkOf, linkAt, linksOf, links-find, links-any, countOf}
 use Rattle.arrivals.specs.Inner.Chains.{byPlace, NextOne}
-use Rattle.arrivals.specs.Inner.Entering.{reach, Enters, Entry, LedAt, Ready, Complete}
+use Rattle.arrivals.specs.Inner.Entering.{reach, Enters, Entry, LedAt, led-up, Ready, Complete}
 use Rattle.arrivals.specs.Inner.Filling.{Reaching}
 use Rattle.arrivals.specs.Inner.Pruning.{Tried}
-use Rattle.arrivals.specs.Inner.Offering.{Swept, swept-then, swept-as}
-use Rattle.arrivals.specs.Inner.Index.{Indexed, Older, lowOf, highOf, newestOf, indexed-kept, older-most, older-past, row-low, row-newest}
+use Rattle.arrivals.specs.Inner.Offering.{Swept, swept-then, swept-as, swept-under}
+use Rattle.arrivals.specs.Inner.Index.{Listed, Indexed, Cover, Covers, Older, lowOf, highOf, newestOf, indexed-kept, covers-kept, older-most, older-past, row-low, low-row, row-newest, lag-sum}
 use Rattle.arrivals.specs.declared.network.Here.{Here}
 use Rattle.arrivals.specs.declared.network.Source.{Source}
 use Rattle.arrivals.specs.declared.index.Span.{Span}
@@ -32,6 +33,7 @@ pub record Sweepable (xs : List ℕ) (a d : ℕ) (ix : List ℕ) (h : Here) : Ty
   pub room : (a + d) * 5 ≤ length xs
   pub ready : Ready xs a h
   pub indexed : Indexed xs a ix (h .step .0)
+  pub covers : Covers xs a ix (h .step .0) (h .place .0) (h .wait)
 
 -- the rows of span p stand below row n and before step t
 pub record Before (xs : List ℕ) (n : ℕ) (p : Span) (t : ℕ) : Type 0 where
@@ -46,10 +48,11 @@ pub record From (xs : List ℕ) (lo hi : ℕ) (o : Source) (t : ℕ) (g : Cost) 
   pub upto : at < hi
   pub sum : g ≡ reach t (o .wait) (o .cost) (rowAt xs at)
 
--- the rows of the source at step s or later
-pub record Via (xs : List ℕ) (n : ℕ) (o : Source) (s t : ℕ) (g : Cost) : Type 0 where
+-- the rows of the source at step s or later that are listed
+pub record Via (xs ix : List ℕ) (n : ℕ) (o : Source) (s t : ℕ) (g : Cost) : Type 0 where
   pub at : ℕ
   pub inside : at < n
+  pub listed : Listed ix xs at
   pub late : s ≤ rowAt xs at .step
   pub tried : Tried o t g (rowAt xs at)
 
@@ -65,7 +68,7 @@ ready-kept {xs} {ys} {n} e same r =
     record { room = omega (arith, r .room); inside = r .inside; steps = r .steps; waits = r .waits; bounded = subst (All Bounded) (sym (rows-kept xs ys n same)) (r .bounded) }
 
 pub sweepable-kept : {xs ys : List ℕ} {a d : ℕ} {ix : List ℕ} {h : Here} (e : ℕ) → length ys ≡ length xs → ((j : ℕ) → j < a * 5 → getD ys j 0 ≡ getD xs j 0) → (a + e) * 5 ≤ length ys → Sweepable xs a d ix h → Sweepable ys a e ix h
-sweepable-kept e size same room s = record { room = room; ready = ready-kept size same (s .ready); indexed = indexed-kept same (s .indexed) }
+sweepable-kept e size same room s = record { room = room; ready = ready-kept size same (s .ready); indexed = indexed-kept same (s .indexed); covers = covers-kept same (s .covers) }
 
 pub reaching-kept : {free net xs ys : List ℕ} {n : ℕ} {h : Here} → length ys ≡ length xs → ((j : ℕ) → j < n * 5 → getD ys j 0 ≡ getD xs j 0) → Reaching free net xs n h → Reaching free net ys n h
 reaching-kept {free} {net} {xs} {ys} {n} {h} size same a =
@@ -119,25 +122,25 @@ module _ (h : Here) (a : ℕ) where
   pub from-none : (o : Source) (xs : List ℕ) (lo : ℕ) (g : Cost) → From xs lo lo o (h .step .0) g → LedAt (rowsOf xs a) h g
   from-none o xs lo g s = absurd (omega (arith, s .from, s .upto))
 
-  pub via-start : {ix : List ℕ} {n : ℕ} (o : Source) (xs : List ℕ) (s : ℕ) (g : Cost) → Indexed xs a ix n → (newestOf ix (o .place .0) ≤ s) ⊎ (s ≡ h .step .0) → Via xs a o s (h .step .0) g → LedAt (rowsOf xs a) h g
+  pub via-start : {ix : List ℕ} {n : ℕ} (o : Source) (xs : List ℕ) (s : ℕ) (g : Cost) → Indexed xs a ix n → (newestOf ix (o .place .0) ≤ s) ⊎ (s ≡ h .step .0) → Via xs ix a o s (h .step .0) g → LedAt (rowsOf xs a) h g
   via-start o xs s g w p z =
       absurd (⊎-elim (λ l. let q = row-newest w (z .at) (o .place .0) (z .inside) (z .tried .place) in omega (arith, z .late)) (λ e. omega (arith, z .late, z .tried .early)) p)
 
   pub via-step : {ix : List ℕ} (o : Source) (xs ys zs : List ℕ) (p r d e : ℕ) (ok : Bool) (f : ℕ) → Indexed xs a ix (h .step .0) → o .place .0 < 64 → o .floor .0 < p → p ≤ h .step .0 → Older ix (p - 1) (o .place .0) r
-      → SweptAt (Via xs a o p (h .step .0)) h a xs ys d true e → SweptAt (From ys (lowOf ix (p - 1) (o .place .0)) (highOf ix (p - 1) (o .place .0)) o (h .step .0)) h a ys zs e ok f → SweptAt (Via xs a o r (h .step .0)) h a xs zs d ok f
+      → SweptAt (Via xs ix a o p (h .step .0)) h a xs ys d true e → SweptAt (From ys (lowOf ix (p - 1) (o .place .0)) (highOf ix (p - 1) (o .place .0)) o (h .step .0)) h a ys zs e ok f → SweptAt (Via xs ix a o r (h .step .0)) h a xs zs d ok f
   via-step {ix} o xs ys zs p r d e ok f w inside l m old x y =
       swept-then
-      (λ g z. record { at = z .at; inside = z .inside; late = omega (arith, z .late, most); tried = z .tried })
+      (λ g z. record { at = z .at; inside = z .inside; listed = z .listed; late = omega (arith, z .late, most); tried = z .tried })
       (λ g z.
       let n = w .only s u (z .at) (omega (arith, w .now)) inside (z .from) (z .upto) in
       let i : z .at < a = omega (arith, z .upto, b .1) in
-      record { at = z .at; inside = i; late = omega (arith, n .1, most); tried = record { place = n .0; above = omega (arith, n .1); early = omega (arith, n .1); sum = z .sum ∙ ap (reach (h .step .0) (o .wait) (o .cost)) (same (z .at) i) } })
+      record { at = z .at; inside = i; listed = low-row xs ix (z .at) s u (z .from) (z .upto) (n .1) (n .0); late = omega (arith, n .1, most); tried = record { place = n .0; above = omega (arith, n .1); early = omega (arith, n .1); sum = z .sum ∙ ap (reach (h .step .0) (o .wait) (o .cost)) (same (z .at) i) } })
       (λ g z.
       ⊎-elim
-      (λ lt. inl (record { at = z .at; inside = z .inside; late = omega arith; tried = z .tried }))
+      (λ lt. inl (record { at = z .at; inside = z .inside; listed = z .listed; late = omega arith; tried = z .tried }))
       (λ ge.
-      let step : rowAt xs (z .at) .step ≡ s = ⊎-elim (λ lt. let q = older-past w (omega (arith, w .now)) inside old (z .at) (z .inside) (z .tried .place) lt in absurd (omega (arith, z .late))) (λ le. omega arith) (lt-or-le (rowAt xs (z .at) .step) s) in
-      let n = row-low w (z .at) s u (z .inside) step (z .tried .place) in
+      let step : rowAt xs (z .at) .step ≡ s = ⊎-elim (λ lt. let q = older-past w (omega (arith, w .now)) inside old (z .at) (z .inside) (z .listed) (z .tried .place) lt in absurd (omega (arith, z .late))) (λ le. omega arith) (lt-or-le (rowAt xs (z .at) .step) s) in
+      let n = row-low (z .at) s u (z .listed) step (z .tried .place) in
       inr (record { at = z .at; from = n .0; upto = n .1; sum = z .tried .sum ∙ sym (ap (reach (h .step .0) (o .wait) (o .cost)) (same (z .at) (z .inside))) }))
       (lt-or-le s (rowAt xs (z .at) .step)))
       x
@@ -158,11 +161,48 @@ module _ (h : Here) (a : ℕ) where
       same : (i : ℕ) → i < a → rowAt ys i ≡ rowAt xs i
       same i q = row-kept xs ys i (λ j b p. x .below j (omega arith))
 
-  pub via-end : (o : Source) (xs ys : List ℕ) (s d e : ℕ) → s ≤ o .floor .0 → SweptAt (Via xs a o s (h .step .0)) h a xs ys d true e → SweptAt (λ g. Any (Tried o (h .step .0) g) (rowsOf xs a)) h a xs ys d true e
-  via-end o xs ys s d e l x =
-      swept-as
+  -- what the row that covers a row of the source arrives with is nowhere above what that one does
+  cover-reach : {ix : List ℕ} (o : Source) (xs : List ℕ) (i : ℕ) (k : Cover xs a ix (h .step .0) (o .wait) i) → rowAt xs i .step < h .step .0
+      → AtMost (reach (h .step .0) (o .wait) (o .cost) (rowAt xs (k .at))) (reach (h .step .0) (o .wait) (o .cost) (rowAt xs i))
+  cover-reach o xs i k early =
+      let t = h .step .0 in
+      let q = rowAt xs (k .at) in
+      let r = rowAt xs i in
+      let soon : q .step < t = ⊎-elim (λ e. omega (arith, ap (λ (j : ℕ). rowAt xs j .step) e)) (λ b. b) (k .soon) in
+      record {
+        every = λ j. omega (
+          arith,
+          fig-add (add (q .cost) (times (t - 1 - q .step) (o .wait))) (o .cost) j,
+          fig-add (q .cost) (times (t - 1 - q .step) (o .wait)) j,
+          fig-add (add (r .cost) (times (t - 1 - r .step) (o .wait))) (o .cost) j,
+          fig-add (r .cost) (times (t - 1 - r .step) (o .wait)) j,
+          fig-add (r .cost) (times (q .step - r .step) (o .wait)) j,
+          lag-sum (r .step) (q .step) (t - 1) (o .wait) j (k .later) (omega arith),
+          k .least .every j,
+        );
+      }
+
+  pub via-end : (o : Source) (xs ys ix : List ℕ) (s d e : ℕ) → Covers xs a ix (h .step .0) (o .place .0) (o .wait) → s ≤ o .floor .0 → SweptAt (Via xs ix a o s (h .step .0)) h a xs ys d true e
+      → SweptAt (λ g. Any (Tried o (h .step .0) g) (rowsOf xs a)) h a xs ys d true e
+  via-end o xs ys ix s d e c l x =
+      swept-under
       (λ g z. any-at _ xs a (z .at) (z .inside) (z .tried))
-      (λ g z. let q = rows-find xs a z in inl (record { at = q .at; inside = omega (arith, q .upto); late = omega (arith, q .fits .above); tried = q .fits }))
+      (λ g z.
+      let q = rows-find xs a z in
+      let f = q .fits in
+      let k = c .of (q .at) (omega (arith, q .upto)) (f .place) in
+      let soon : rowAt xs (k .at) .step < h .step .0 = ⊎-elim (λ e. omega (arith, f .early, ap (λ (j : ℕ). rowAt xs j .step) e)) (λ b. b) (k .soon) in (
+        reach (h .step .0) (o .wait) (o .cost) (rowAt xs (k .at)),
+        record {
+          at = k .at;
+          inside = k .inside;
+          listed = k .listed;
+          late = omega (arith, f .above, k .later);
+          tried = record { place = k .place ∙ f .place; above = omega (arith, f .above, k .later); early = soon; sum = refl };
+        },
+        subst (AtMost (reach (h .step .0) (o .wait) (o .cost) (rowAt xs (k .at)))) (sym (f .sum)) (cover-reach o xs (q .at) k (f .early)),
+      ))
+      (λ f g l. led-up h f g l)
       x
 
   pub over-none : (k : Case) (xs net : List ℕ) (j m : ℕ) (g : Cost) → ((i : ℕ) → j ≤ i → i < m → linkOf net 1 i ≡ h .place .0 → ⊥) → Over (Entry h a k xs g) net j m → LedAt (rowsOf xs a) h g

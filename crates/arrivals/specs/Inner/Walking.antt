@@ -25,7 +25,7 @@ pub record Walking (free net xs ix : List ℕ) (n v t : ℕ) : Type 0 where
   pub last : t ≤ 255
   pub room : n * 5 ≤ length xs
   pub filled : Filled (caseOf free net) (rowsOf xs n) t v
-  pub index : IndexedShort xs n ix t net
+  pub index : IndexedShort xs n ix t t net
 
 pub walking-visiting : {free net xs ix : List ℕ} {n v t : ℕ} → Walking free net xs ix n v t → v < placesOf net → Visiting free net xs n v t
 walking-visiting w l = record { given = w .given; inside = l; first = w .first; last = w .last; room = w .room; filled = w .filled }
@@ -40,7 +40,7 @@ pub walking-walkable : {free net xs ix : List ℕ} {n v t : ℕ} → Walking fre
 walking-walkable w = record { given = w .given; last = w .last; size = λ l. w .index l .0 .size }
 
 -- at the beginning of a step, and after a place was filled in
-pub walking-first : {free net xs ix : List ℕ} {n t : ℕ} → Visiting free net xs n 0 t → IndexedShort xs n ix t net → Walking free net xs ix n 0 t
+pub walking-first : {free net xs ix : List ℕ} {n t : ℕ} → Visiting free net xs n 0 t → IndexedShort xs n ix t t net → Walking free net xs ix n 0 t
 walking-first p i = record { given = p .given; upto = omega arith; first = p .first; last = p .last; room = p .room; filled = p .filled; index = i }
 
 pub walking-on : {free net xs ys ix iy : List ℕ} {n v t : ℕ} {o : Outcome} → Walking free net xs ix n v t → v < placesOf net → Stepping free net ys iy t t (v + 1) o

@@ -1,13 +1,14 @@
 -- `arrivals::expand::from_link` meets its contract: what enters over corridor j is what the rows of its source arrive with, but for what the
 -- pruning rule spares; over a closed corridor, or one to another place, nothing does.
 -- Assumes nothing.
-use mathlib.Core.Path.{_∙_, _≡_, subst, sym}
+use mathlib.Core.Path.{_∙_, _≡_, ap, subst, sym}
 use Prim.Native.Nat.{ℕ}
 use native.Mathlib.Omega.{arith}
 use borrow.Author.Needs.{needs}
 use borrow.Author.Tests.{not-false, not-true}
 use Rattle.sheet.specs.Laws.Decided.{false-not-true}
-use Rattle.arrivals.specs.Inner.Index.{newestOf, none-after}
+use Rattle.arrivals.specs.Inner.Index.{Covers, newestOf, none-after}
+use Rattle.arrivals.specs.Inner.Network.{waitIn}
 use Rattle.arrivals.specs.Inner.Lent.{given-linked}
 use Rattle.arrivals.specs.Inner.Offering.{swept-as, swept-none}
 use Rattle.arrivals.specs.Inner.Pruning.{enters-none, enters-tried, fair-of, tried-enters}
@@ -51,7 +52,11 @@ source-of-requires : tie.Need-source-of-requires
 source-of-requires c κs = (c .before .before .before .before .before .before .before .before .before .before .before .before .before .before .before .before .before .before .pre .0 .given, c .before .before .before .before .before .before .before .before .before .before .before .before .before .before .before .before .before .before .pre .2, c .before .before .before .before .before .before .before .before .before .before .before .before .before .before .before .before .before .before .pre .0 .stands .first, c .before .before .before .before .before .before .before .before .before .before .before .before .before .before .before .before .before .before .pre .0 .stands .last)
 
 from-place-requires : tie.Need-from-place-requires
-from-place-requires c κs = (c .before .before .before .before .before .before .before .before .before .before .before .before .before .before .before .before .before .before .before .pre .1, fair-of _ _ (c .before .before .before .before .before .before .before .before .before .before .before .before .before .before .before .before .before .before .before .args .j) _ _ _ (c .before .before .before .before .before .before .before .before .before .before .before .before .before .before .before .before .before .before .before .pre .0 .given) (c .before .before .before .before .before .before .before .before .before .before .before .before .before .before .before .before .before .before .before .pre .2) (c .source-of .ensures))
+from-place-requires c κs =
+    let p = (c .before .before .before .before .before .before .before .before .before .before .before .before .before .before .before .before .before .before .before .pre) in
+    let o = (c .source-of) .ensures in
+    let f = fair-of _ _ ((c .before .before .before .before .before .before .before .before .before .before .before .before .before .before .before .before .before .before .before .args) .j) _ _ _ (p .0 .given) (p .2) o in
+    (p .1, f, subst (Covers _ _ _ _ _) (sym (o .wait ∙ ap (waitIn ((c .before .before .before .before .before .before .before .before .before .before .before .before .before .before .before .before .before .before .before .args) .net .now)) (sym (o .place)))) (p .3 _ (f .inside)))
 
 same-length : tie.Need-same-length
 same-length c = search needs

@@ -10,6 +10,7 @@ use borrow.Author.Needs.{needs}
 use borrow.Author.Tests.{not-false}
 use Rattle.arrivals.specs.Inner.Entering.{Entry}
 use Rattle.arrivals.specs.Inner.Network.{caseOf, countOf}
+use Rattle.arrivals.specs.Inner.Index.{covers-kept}
 use Rattle.arrivals.specs.Inner.Offering.{swept-full, swept-none, swept-ok}
 use Rattle.arrivals.specs.Inner.Sweeps.{Over, SweptAt, over-end, over-none, over-step, reaching-kept, sweepable-kept}
 use Rattle.arrivals.proofs.expand.from_links.Statement.{statement}
@@ -31,7 +32,7 @@ sub-j : tie.Need-sub-j Inv-loop μ-loop
 sub-j c = search needs
 
 from-link-requires : tie.Need-from-link-requires Inv-loop μ-loop
-from-link-requires c κs = let p = c .before .before .before .before .before .before .before .before .pre in let inv = c .before .before .loop .inv in (reaching-kept (inv .1) (inv .2 .below) (p .0), sweepable-kept _ (inv .1) (inv .2 .below) (inv .2 .room) (p .1), omega arith)
+from-link-requires c κs = let p = c .before .before .before .before .before .before .before .before .pre in let inv = c .before .before .loop .inv in (reaching-kept (inv .1) (inv .2 .below) (p .0), sweepable-kept _ (inv .1) (inv .2 .below) (inv .2 .room) (p .1), omega arith, λ v l. covers-kept (inv .2 .below) (p .2 v l))
 
 same-length : tie.Need-same-length Inv-loop μ-loop
 same-length c = search needs

@@ -15,7 +15,7 @@ use Rattle.arrivals.proofs.expand.from_place.Statement.{statement}
 use Rattle.arrivals.proofs.expand.from_place.Tie as tie
 
 abbrev Inv-loop : tie.InvT-loop
-Inv-loop table₀ a d ix from here e₀ s₀ table e s = (s ≤ here .step .0) × (here .step .0 ≤ 255) × (32896 ≤ length ix) × (length table ≡ length table₀) × SweptAt (Via table₀ a from s (here .step .0)) here a table₀ table d true e
+Inv-loop table₀ a d ix from here e₀ s₀ table e s = (s ≤ here .step .0) × (here .step .0 ≤ 255) × (32896 ≤ length ix) × (length table ≡ length table₀) × SweptAt (Via table₀ ix a from s (here .step .0)) here a table₀ table d true e
 
 abbrev μ-loop : tie.MeasureT-loop
 μ-loop table₀ a d ix from here e₀ s₀ table e s = s
@@ -54,7 +54,7 @@ same-length-2 : tie.Need-same-length-2 Inv-loop μ-loop
 same-length-2 c = c .before .before .loop .inv .3
 
 returns-2 : tie.Need-returns-2 Inv-loop μ-loop
-returns-2 c = via-end _ _ _ _ _ (c .before .before .loop .s) _ _ (omega arith) (c .before .before .loop .inv .4)
+returns-2 c = via-end _ _ _ _ _ _ (c .before .before .loop .s) _ _ ((c .before .before .before .before .before .before .pre) .2) (omega arith) (c .before .before .loop .inv .4)
 
 pub from-place-spec : {M : Type 1} → statement M
 from-place-spec =

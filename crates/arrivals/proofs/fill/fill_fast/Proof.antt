@@ -1,9 +1,11 @@
 -- `arrivals::fill::fill_fast` meets its contract: every cost of entering is offered, or, where the room ran out on the way, chosen.
 -- Assumes nothing.
+use mathlib.Core.Path.{sym, subst}
 use native.Mathlib.Omega.{arith}
 use borrow.Author.Needs.{needs}
 use Rattle.arrivals.specs.Inner.Filling.{visiting-kept, visiting-reach, visiting-stands}
 use Rattle.arrivals.specs.Inner.Gather.{grown-base, swept-filled}
+use Rattle.arrivals.specs.Inner.Index.{Covers}
 use Rattle.arrivals.specs.Inner.Offering.{swept-ok}
 use Rattle.arrivals.proofs.fill.fill_fast.Statement.{statement}
 use Rattle.arrivals.proofs.fill.fill_fast.Tie as tie
@@ -15,7 +17,7 @@ wait-of-requires : tie.Need-wait-of-requires
 wait-of-requires c κs = let p = c .before .before .before .before .before .pre .visiting in (omega (arith, p .inside, p .given .places), p .given .size)
 
 from-links-requires : tie.Need-from-links-requires
-from-links-requires c κs = let p = c .before .before .before .before .before .before .before .pre in let a = visiting-reach _ (p .visiting) (visiting-stands _ (p .visiting) (p .vacant) (c .before .before .first-step .ensures) (c .before .wait-of .ensures)) in (a, record { room = omega (arith, p .visiting .room); ready = a .ready; indexed = p .indexed })
+from-links-requires c κs = let p = c .before .before .before .before .before .before .before .pre in let a = visiting-reach _ (p .visiting) (visiting-stands _ (p .visiting) (p .vacant) (c .before .before .first-step .ensures) (c .before .wait-of .ensures)) in (a, record { room = omega (arith, p .visiting .room); ready = a .ready; indexed = p .indexed; covers = subst (Covers _ _ _ _ _) (sym ((c .before .wait-of) .ensures)) (p .covered _ (a .ready .inside)) }, p .covered)
 
 add-n : tie.Need-add-n
 add-n c = search needs

@@ -10,15 +10,16 @@ use borrow.Author.Tests.{not-false, not-true}
 use Rattle.sheet.specs.Laws.Decided.{false-not-true}
 use Rattle.arrivals.specs.Inner.Filling.{crowded-step, filled-end, result-done, result-full}
 use Rattle.arrivals.specs.Inner.Network.{caseOf, placesOf, Vacant}
+use Rattle.arrivals.specs.Inner.Settling.{walking-settling}
 use Rattle.arrivals.specs.Inner.Walking.{Walking, walking-first, walking-on, walking-walkable}
 use Rattle.arrivals.proofs.fill.fill_step.Statement.{statement}
 use Rattle.arrivals.proofs.fill.fill_step.Tie as tie
 
 abbrev Inv-loop : tie.InvT-loop
-Inv-loop table₀ rows ix₀ net runs t places n₀ v₀ table ix n v = (length table ≡ length table₀) × (length ix ≡ length ix₀) × Walking runs net table ix n v (t .0) × (v < placesOf net → Vacant (caseOf runs net) v (t .0))
+Inv-loop table₀ rows ix₀ net runs t dear places n₀ v₀ table ix n v = (length table ≡ length table₀) × (length ix ≡ length ix₀) × Walking runs net table ix n v (t .0) × (v < placesOf net → Vacant (caseOf runs net) v (t .0))
 
 abbrev μ-loop : tie.MeasureT-loop
-μ-loop table₀ rows ix₀ net runs t places n₀ v₀ table ix n v = placesOf net - v
+μ-loop table₀ rows ix₀ net runs t dear places n₀ v₀ table ix n v = placesOf net - v
 
 places-of-requires : tie.Need-places-of-requires Inv-loop μ-loop
 places-of-requires c κs = (c .before .before .before .before .pre) .0 .given .size
@@ -62,16 +63,22 @@ loop-again c =
     let r = (c .next-place2) .ensures in
     (search needs, search needs, r .passed _ (walking-on ((c .before .before .before .before .before .before .before .before .before .before .before .before .loop) .inv .2) (omega (arith, (c .before .before .before .before .before .before .before .before .before .before .before .before .before .before .before .before .places-of) .ensures)) ((c .before .before .before .before .before .before .before .before .visit) .ensures) (not-false _ ((c .before .before .before .if1) .left))), r .vacant)
 
+settle-requires : tie.Need-settle-requires Inv-loop μ-loop
+settle-requires c κs = let w = (c .before .before .before .loop) .inv .2 in (w .given, λ short. record { rows = _; settling = walking-settling w short })
+
 same-length-3 : tie.Need-same-length-3 Inv-loop μ-loop
-same-length-3 c = (c .before .loop) .inv .0
+same-length-3 c = (c .before .before .before .before .before .before .loop) .inv .0
 
 same-length-4 : tie.Need-same-length-4 Inv-loop μ-loop
-same-length-4 c = (c .before .loop) .inv .1
+same-length-4 c = search needs
 
 returns-2 : tie.Need-returns-2 Inv-loop μ-loop
 returns-2 c =
-    let w = (c .before .loop) .inv .2 in
-    record { result = result-done _ _ _ _ _ (w .room) (filled-end _ _ _ _ (w .upto) (omega (arith, (c .before .before .before .before .before .places-of) .ensures)) (w .filled)); index = λ e. w .index }
+    let w = (c .before .before .before .before .before .before .loop) .inv .2 in
+    record {
+      result = result-done _ _ _ _ _ (w .room) (filled-end _ _ _ _ (w .upto) (omega (arith, (c .before .before .before .before .before .before .before .before .before .before .places-of) .ensures)) (w .filled));
+      index = λ e short. let a = (c .before .before .settle) .ensures short .of _ (walking-settling w short) in (a .indexed, a .due, a .covered);
+    }
 
 pub fill-step-spec : {M : Type 1} → statement M
 fill-step-spec =
@@ -90,6 +97,7 @@ fill-step-spec =
     next-place-requires-2
     loop-less
     loop-again
+    settle-requires
     same-length-3
     same-length-4
     returns-2)

@@ -16,16 +16,16 @@ use Rattle.arrivals.proofs.fill.fill_steps.Statement.{statement}
 use Rattle.arrivals.proofs.fill.fill_steps.Tie as tie
 
 abbrev Inv-loop : tie.InvT-loop
-Inv-loop table₀ rows ix₀ net runs last n₀ t₀ table ix n t = (1 ≤ t) × (t ≤ last .0 + 1) × (n * 5 ≤ length table) × (length table ≡ length table₀) × (length ix ≡ length ix₀) × Filled (caseOf runs net) (rowsOf table n) t 0 × IndexedShort table n ix (t - 1) net
+Inv-loop table₀ rows ix₀ net runs last dear n₀ t₀ table ix n t = (1 ≤ t) × (t ≤ last .0 + 1) × (n * 5 ≤ length table) × (length table ≡ length table₀) × (length ix ≡ length ix₀) × Filled (caseOf runs net) (rowsOf table n) t 0 × IndexedShort table n ix (t - 1) t net
 
 abbrev μ-loop : tie.MeasureT-loop
-μ-loop table₀ rows ix₀ net runs last n₀ t₀ table ix n t = last .0 + 1 - t
+μ-loop table₀ rows ix₀ net runs last dear n₀ t₀ table ix n t = last .0 + 1 - t
 
 loop-holds : tie.Need-loop-holds Inv-loop μ-loop
 loop-holds c = let p = c .before .before .before .before .pre in (omega arith, omega arith, p .0 .room, refl, refl, p .0 .filled, p .1)
 
 fill-step-requires : tie.Need-fill-step-requires Inv-loop μ-loop
-fill-step-requires c κs = let inv = c .before .before .before .before .loop .inv in let p = c .before .before .before .before .before .before .before .before .before .pre .0 in (record { given = p .given; inside = p .inside; first = inv .0; last = omega (arith, c .before .before .before .before .before .before .before .before .before .pre .2); room = inv .2; filled = inv .5 }, λ b. (indexed-step _ (omega arith) (omega (arith, c .before .before .before .before .before .before .before .before .before .pre .2)) (inv .6 b .0), inv .6 b .1))
+fill-step-requires c κs = let inv = c .before .before .before .before .loop .inv in let p = c .before .before .before .before .before .before .before .before .before .pre .0 in (record { given = p .given; inside = p .inside; first = inv .0; last = omega (arith, c .before .before .before .before .before .before .before .before .before .pre .2); room = inv .2; filled = inv .5 }, λ b. (indexed-step _ (omega arith) (omega (arith, c .before .before .before .before .before .before .before .before .before .pre .2)) (inv .6 b .0), inv .6 b .1, inv .6 b .2))
 
 same-length : tie.Need-same-length Inv-loop μ-loop
 same-length c = search needs
@@ -43,7 +43,7 @@ loop-less : tie.Need-loop-less Inv-loop μ-loop
 loop-less c = search needs
 
 loop-again : tie.Need-loop-again Inv-loop μ-loop
-loop-again c = let r = c .before .before .before .before .before .fill-step .ensures in let e = not-false _ (c .if2 .left) in let t = c .before .before .before .before .before .before .before .before .before .before .loop .t in let z : t ≡ t + 1 - 1 = omega arith in (omega arith, omega arith, r .result .room, search needs, search needs, r .result .done e, λ b. let w = r .index e b in (subst (Indexed _ _ _) z (w .0), w .1))
+loop-again c = let r = c .before .before .before .before .before .fill-step .ensures in let e = not-false _ (c .if2 .left) in let t = c .before .before .before .before .before .before .before .before .before .before .loop .t in let z : t ≡ t + 1 - 1 = omega arith in (omega arith, omega arith, r .result .room, search needs, search needs, r .result .done e, λ b. let w = r .index e b in (subst (Indexed _ _ _) z (w .0), w .1, w .2))
 
 same-length-3 : tie.Need-same-length-3 Inv-loop μ-loop
 same-length-3 c = c .before .before .loop .inv .3

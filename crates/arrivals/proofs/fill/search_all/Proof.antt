@@ -15,11 +15,14 @@ slice-aggregate-first-row c = search needs
 first-row-requires : tie.Need-first-row-requires
 first-row-requires c κs = (c .before .before .before .before .before .pre .0, indexed-none (c .before .before .before .before .before .args .table .now) 32896 0 (omega arith) (omega arith), due-none _ 32896)
 
+is-somewhere-dear-requires : tie.Need-is-somewhere-dear-requires
+is-somewhere-dear-requires c κs = ((c .before .before .before .before .before .before .before .before .before .before .pre) .0 .size, (c .before .before .before .before .before .before .before .before .before .before .pre) .0 .few)
+
 slice-aggregate-fill-steps : tie.Need-slice-aggregate-fill-steps
 slice-aggregate-fill-steps c = search needs
 
 fill-steps-requires : tie.Need-fill-steps-requires
-fill-steps-requires c κs = let r = c .before .before .before .before .before .before .first-row .ensures in let p = c .before .before .before .before .before .before .before .before .before .before .before .before .pre in (record { given = p .0; inside = omega (arith, p .0 .start); first = omega arith; last = omega arith; room = r .result .room; filled = r .result .done (c .before .before .if1 .taken) }, r .index (c .before .before .if1 .taken), p .1)
+fill-steps-requires c κs = let r = c .before .before .before .before .before .before .before .first-row .ensures in let p = c .before .before .before .before .before .before .before .before .before .before .before .before .before .pre in (record { given = p .0; inside = omega (arith, p .0 .start); first = omega arith; last = omega arith; room = r .result .room; filled = r .result .done (c .before .before .before .if1 .taken) }, r .index (c .before .before .before .if1 .taken), p .1)
 
 same-length : tie.Need-same-length
 same-length c = search needs
@@ -39,6 +42,7 @@ search-all-spec =
     (tie.spec
     slice-aggregate-first-row
     first-row-requires
+    is-somewhere-dear-requires
     slice-aggregate-fill-steps
     fill-steps-requires
     same-length

@@ -1,10 +1,11 @@
 -- `arrivals::fill::visit` meets its contract: the place is filled in, and its new rows are noted in the index.
 -- Assumes nothing.
+use Prim.Native.Nat.{_<_}
 use native.Mathlib.Omega.{arith}
 use borrow.Author.Needs.{needs}
 use Rattle.arrivals.specs.Inner.Due.{due-more}
-use Rattle.arrivals.specs.Inner.Gather.{noted-more, noted-none}
-use Rattle.arrivals.specs.Inner.Index.{indexed-same}
+use Rattle.arrivals.specs.Inner.Gather.{noted-covers, noted-more, noted-none, covers-none}
+use Rattle.arrivals.specs.Inner.Index.{indexed-same, covers-same}
 use Rattle.arrivals.specs.Inner.Lent.{given-linked}
 use Rattle.arrivals.specs.Inner.Walking.{walking-visiting}
 use Rattle.arrivals.proofs.fill.visit.Statement.{statement}
@@ -22,7 +23,8 @@ returns c = record { result = c .before .before .fill-slow .ensures .result; ind
 fill-fast-requires : tie.Need-fill-fast-requires
 fill-fast-requires c κs =
     let p = c .before .before .before .before .before .before .before .pre in
-    record { visiting = walking-visiting (p .0) (p .1); vacant = p .2; indexed = p .0 .index (c .before .before .if1 .left) .0 }
+    let w = p .0 .index (c .before .before .if1 .left) in
+    record { visiting = walking-visiting (p .0) (p .1); vacant = p .2; indexed = w .0; covered = w .2 }
 
 note-requires : tie.Need-note-requires
 note-requires c κs =
@@ -52,11 +54,14 @@ returns-2 c =
     let f = c .before .before .before .before .before .before .before .before .before .before .before .before .fill-fast .ensures in
     let n = c .before .before .before .before .before .before .before .note .ensures in
     let k = c .before .before .mark-next .ensures in
+    let low : (c .before .before .before .before .before .before .before .before .before .before .before .before .before .before .before .before .before .before .before .before .args) .v .0 < 64 = omega (arith, p .1, p .0 .given .places) in
+    let more = noted-more _ _ _ _ _ _ _ _ _ low (p .0 .filled) (w .0) (f .grown) n in
     record {
       result = f .result;
       index = λ e b. (
-        indexed-same (k .size) (k .index) (noted-more _ _ _ _ _ _ _ _ _ (omega (arith, p .1, p .0 .given .places)) (p .0 .filled) (w .0) (f .grown) n),
+        indexed-same (k .size) (k .index) more,
         due-more _ _ _ _ _ _ _ _ (λ j l. given-linked (p .0 .given) .ends 0 j (omega arith) l) (w .0) (w .1) n k,
+        λ v l. covers-same (k .index) more (noted-covers _ _ _ _ _ _ _ _ _ low (p .0 .filled) (w .0) (f .grown) n (w .2 v l)),
       );
     }
 
@@ -71,7 +76,7 @@ returns-3 c =
     let p = c .before .before .before .before .before .before .before .before .before .before .before .pre in
     let w = p .0 .index (c .before .before .before .before .before .before .if1 .left) in
     let f = c .before .before .before .fill-fast .ensures in
-    record { result = f .result; index = λ e b. (noted-none _ _ _ _ _ _ _ (c .if2 .left) (w .0) (f .grown), w .1) }
+    record { result = f .result; index = λ e b. (noted-none _ _ _ _ _ _ _ (c .if2 .left) (w .0) (f .grown), w .1, λ v l. covers-none _ _ _ _ _ _ _ (c .if2 .left) (f .grown) (w .2 v l)) }
 
 pub visit-spec : {M : Type 1} → statement M
 visit-spec =

@@ -20,7 +20,7 @@ returns : tie.Need-returns
 returns c = swept-one (λ j l. refl) (c .before .before .before .before .before .pre .room) (offered-not (inl (yes-of (c .before .beaten .ensures) (c .if1 .taken))))
 
 led-walk-requires : tie.Need-led-walk-requires
-led-walk-requires c κs = (c .before .before .before .before .before .before .pre .ready, c .before .before .before .before .before .before .pre .indexed)
+led-walk-requires c κs = let p = c .before .before .before .before .before .before .pre in (p .ready, p .indexed, p .covers)
 
 same-length-2 : tie.Need-same-length-2
 same-length-2 c = search needs

@@ -1,0 +1,73 @@
+-- `arrivals::index::regroup` meets its contract: two stores, one of the first row, one of the row past the last with the step before.
+-- Assumes nothing.
+use native.Mathlib.Omega.{arith}
+use lib.ListN.{length-set}
+use Rattle.arrivals.specs.Inner.Settling.{regrouped}
+use borrow.Author.Needs.{needs}
+use Rattle.arrivals.proofs.index.regroup.Statement.{statement}
+use Rattle.arrivals.proofs.index.regroup.Tie as tie
+
+cast-at : tie.Need-cast-at
+cast-at c = search needs
+
+mul-at : tie.Need-mul-at
+mul-at c = search needs
+
+cast-at-2 : tie.Need-cast-at-2
+cast-at-2 c = search needs
+
+add-at : tie.Need-add-at
+add-at c = search needs
+
+cast-ix : tie.Need-cast-ix
+cast-ix c = search needs
+
+mul-ix : tie.Need-mul-ix
+mul-ix c = search needs
+
+slice-write-ix : tie.Need-slice-write-ix
+slice-write-ix c = search needs
+
+cast-ix-2 : tie.Need-cast-ix-2
+cast-ix-2 c = search needs
+
+mul-ix-2 : tie.Need-mul-ix-2
+mul-ix-2 c = search needs
+
+add-ix : tie.Need-add-ix
+add-ix c = search needs
+
+add-ix-2 : tie.Need-add-ix-2
+add-ix-2 c = search needs
+
+mul-ix-3 : tie.Need-mul-ix-3
+mul-ix-3 c = search needs
+
+slice-write-ix-2 : tie.Need-slice-write-ix-2
+slice-write-ix-2 c = simp length-set (omega arith)
+
+same-length : tie.Need-same-length
+same-length c = simp length-set
+
+returns : tie.Need-returns
+returns c = regrouped _ _ _ _ _ _ ((c .before .before .before .before .before .pre) .1) ((c .before .before .before .before .before .pre) .0) (omega (arith, (c .before .before .before .before .before .pre) .5, (c .before .before .before .before .before .pre) .1)) ((c .before .before .before .before .before .pre) .2)
+
+pub regroup-spec : {M : Type 1} → statement M
+regroup-spec =
+    tie.close
+    (tie.spec
+    cast-at
+    mul-at
+    cast-at-2
+    add-at
+    cast-ix
+    mul-ix
+    slice-write-ix
+    cast-ix-2
+    mul-ix-2
+    add-ix
+    add-ix-2
+    mul-ix-3
+    slice-write-ix-2
+    same-length
+    returns)
