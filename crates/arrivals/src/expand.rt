@@ -96,7 +96,7 @@ pub fn source_of(net: &[u32], runs: &[u16], j: usize, t: Step, first: Step) -> S
     Source {
         place,
         floor: later(first, since),
-        wait: wait_of(net, place),
+        wait: wait_of(net, link_end(net, j, 0)),
         cost: link_cost(net, j),
     }
 }
