@@ -30,7 +30,7 @@
  *   line is at fault. With a refusal every other field is 0.
  * - Kept, of a buffer, means: each element holds what it held before the call.
  * - A call keeps nothing between calls, allocates nothing and needs of the C library memcpy and memset alone. The
- *   archive has no data that is written and at most 32 bytes of constants beside its code. Calls may run on several
+ *   archive has no data that is written and at most 64 bytes of constants beside its code. Calls may run on several
  *   threads at once, each with buffers of its own; they may share a sheet that none of them writes.
  * - A call's own memory is the stack, at most PLANNER_MOST_STACK bytes. That and the figure at each call are measured
  *   (tests/stack, on a sheet with all places and steps; docs/DECISIONS.md, "Stack"), not proved.

@@ -1,7 +1,6 @@
 // The kinds of lines, a number for each in the order of kinds. One row for each, as specs/Kinds.antt has it; and the lengths of groups of lines. A row
 // is told by tests of the kind's number, since a constant table is made anew wherever it is named.
 ghost use Prim.Native.Nat.{_<_};
-ghost use Rattle.sheet.specs.Kinds.{kindC};
 ghost use Rattle.sheet.specs.Store.{kindCount};
 ghost use Rattle.sheet.specs.Inner.{RowIs};
 
@@ -172,24 +171,16 @@ fn occupancy_row() -> Row
     }
 }
 
-// The row of the kind k, which comes before C lines.
-fn early_row(k: usize) -> Row
-    requires { ⌜ k < kindC .order ⌝ }
+// The row of the kind k.
+pub fn row_of(k: usize) -> Row
+    requires { ⌜ k < kindCount ⌝ }
     ensures { λ r. ⌜ RowIs k r ⌝ }
 {
     if k == S_LINE {
         return head_row();
     }
-    wait_row()
-}
-
-// The row of the kind k. Five tests for equality one after another would become a table of constants.
-pub fn row_of(k: usize) -> Row
-    requires { ⌜ k < kindCount ⌝ }
-    ensures { λ r. ⌜ RowIs k r ⌝ }
-{
-    if k < C_LINE {
-        return early_row(k);
+    if k == W_LINE {
+        return wait_row();
     }
     if k == C_LINE {
         return corridor_row();
