@@ -9,7 +9,7 @@
 #include <string.h>
 #include <sys/mman.h>
 
-enum { LIMIT = PLANNER_MOST_STACK, STACK = 4 << 20, PATTERN = 0xA5, ARRIVALS = 200000, COSTS = 4000, BYTES = PLANNER_MOST_BYTES };
+enum { LIMIT = PLANNER_MOST_STACK, STACK = 4 << 20, PATTERN = 0xA5, ARRIVALS = 2000000, COSTS = 4000, BYTES = PLANNER_MOST_BYTES };
 
 static uint8_t sheet[BYTES], written[BYTES];
 static size_t sheet_len;
@@ -17,11 +17,13 @@ static uint32_t arrivals[ARRIVALS], list[COSTS];
 static PlannerSheetRead answer;
 static uint32_t refusal;
 
-/* The sheet: a grid of 8 by 8 places, each occupied for three steps, a closure of each corridor to the right, and 255 steps. */
+/* The sheet: a grid of 8 by 8 places, waiting dearer at each fifth, each occupied for three steps, a closure of each corridor to the right, and 255
+ * steps. */
 static void write_sheet(void)
 {
     char *at = (char *)sheet;
-    at += sprintf(at, "S,64,255,0,63,1,0,0,0\n");
+    at += sprintf(at, "S,64,255,0,63,0\n");
+    for (int v = 0; v < 64; v++) at += sprintf(at, "W,%d,%d,0,0\n", v, v % 5 == 4 ? 3 : 1);
     for (int v = 0; v < 64; v++) {
         if (v % 8 < 7) at += sprintf(at, "C,%d,%d,%d,1,0\n", v, v + 1, 1 + v % 3);
         if (v < 56) at += sprintf(at, "C,%d,%d,1,%d,1\n", v, v + 8, v % 4);
@@ -44,7 +46,8 @@ static void *run_read(void *unused)
 static void *run_write(void *unused)
 {
     const uint32_t *lines = answer.lines;
-    refusal = planner_write(answer.head, 8, answer.corridors, lines[1] * 5, answer.closures, lines[2] * 3, answer.occupancies, lines[3] * 3, written, BYTES)
+    refusal = planner_write(answer.head, 5, answer.waits, lines[1] * 4, answer.corridors, lines[2] * 5, answer.closures, lines[3] * 3, answer.occupancies,
+                            lines[4] * 3, written, BYTES)
                   .refusal;
     return unused;
 }
