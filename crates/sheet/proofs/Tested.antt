@@ -2,16 +2,15 @@
 -- Test 3: the first line is of the first kind, and some line is of a later kind exactly where a later count is not 0.
 -- Assumes nothing.
 use mathlib.Core.Path.{_≡_, refl, sym, _∙_, ap}
-use mathlib.Core.Logic.{inl}
 use mathlib.Core.Bool.{Bool, true, false, not, _&&_, _||_}
-use mathlib.Core.List.{List, [], _∷_, _++_, map, append-assoc}
+use mathlib.Core.List.{List, [], _∷_, _++_, map}
 use Prim.Native.Nat.{ℕ, zero, suc, _+_, _*_, _-_, _≤_, _<_}
 use native.Mathlib.Omega.{arith}
 use lib.Dec.{ltb, leb, eqb}
-use lib.ListN.{length, take, drop, length-drop, List·getD-append}
+use lib.ListN.{length, take, drop, length-drop}
 use lib.Seq.{getD-take, getD-drop, take-take}
 use borrow.Author.Tests.{ltb-true, ltb-false, eq-eqb, ne-eqb, eqb-true, eqb-false, not-false}
-use Rattle.sheet.specs.Lists.{pick, number, any, flat}
+use Rattle.sheet.specs.Lists.{pick, number, any}
 use Rattle.sheet.specs.Computed.{lexb}
 use Rattle.sheet.specs.Kinds.{width, kindS, kindW, kindC, kindX, kindO}
 use Rattle.sheet.specs.Lines.{Line}
@@ -26,7 +25,7 @@ use Rattle.sheet.specs.Laws.Keys.{GroupIs, listed-in, in-listed}
 use Rattle.sheet.specs.Laws.Passed.{or-false, any-false, false-any}
 use Rattle.sheet.specs.Laws.Turns.{other-turn}
 use Rattle.sheet.specs.Laws.Kinds.{order-at, kind-at, order-below, key-inside}
-use Rattle.sheet.specs.Laws.Groups.{group-none, first-head, head-group}
+use Rattle.sheet.specs.Laws.Groups.{group-none}
 use Rattle.sheet.specs.declared.kinds.Row.{Row}
 use Rattle.sheet.specs.declared.seek.Group.{Group}
 use Rattle.sheet.proofs.Passing.{counted}

@@ -1,9 +1,9 @@
 -- Rows that are left out of the index because a later row of their place undercuts them (document 02, E8; live rows). A group may be shortened by rows for
 -- which rows of step t stand, and a group may point past groups that are empty: the index still has what it promises, and the rows that it lists before
 -- step t + 1 cover them all.
-use mathlib.Core.Path.{_≡_, refl, sym, ap, _∙_, subst}
+use mathlib.Core.Path.{_≡_, sym, ap, _∙_, subst}
 use mathlib.Core.List.{List}
-use mathlib.Core.Bool.{Bool, true, false}
+use mathlib.Core.Bool.{Bool, false}
 use mathlib.Core.Logic.{_⊎_, inl, inr, ⊎-elim}
 use Prim.Native.Nat.{ℕ, _+_, _*_, _-_, _/_, _%_, _≤_, _<_}
 use native.Mathlib.Omega.{arith}
@@ -18,9 +18,9 @@ use Rattle.costs.specs.Priced.{Within}
 use Rattle.costs.specs.Laws.Figures.{fig-add, within-more, within-times}
 use Rattle.arrivals.specs.Rows.{Row, rowAt}
 use Rattle.arrivals.specs.Inner.Rows.{rowsOf, all-at, tailOf, tail-find, Bounded}
-use Rattle.arrivals.specs.Inner.Network.{waitIn, linkOf, countOf}
+use Rattle.arrivals.specs.Inner.Network.{waitIn, linkOf}
 use Rattle.arrivals.specs.Inner.Offering.{Beaten}
-use Rattle.arrivals.specs.Inner.Index.{indexRoom, lowOf, highOf, backOf, newestOf, dueOf, InGroup, Listed, Indexed, Cover, Covers, Older, covers-step, row-low, low-row, older-past, lag-sum}
+use Rattle.arrivals.specs.Inner.Index.{indexRoom, lowOf, highOf, backOf, Listed, Indexed, Cover, Older, covers-step, row-low, low-row, older-past, lag-sum}
 use Rattle.arrivals.specs.Inner.Due.{Due, Covered}
 use Rattle.arrivals.specs.Inner.Walking.{Walking}
 use Rattle.arrivals.specs.declared.index.Span.{Span}

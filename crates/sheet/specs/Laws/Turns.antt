@@ -3,22 +3,22 @@
 use mathlib.Core.Path.{_≡_, refl, sym, _∙_, ap, subst}
 use mathlib.Core.Logic.{inl, inr, _≢_}
 use mathlib.Core.Bool.{Bool, true, false, not, _&&_, _||_}
-use mathlib.Core.List.{List, [], _∷_, _++_, map}
+use mathlib.Core.List.{List, [], _∷_, _++_}
 use Prim.Native.Nat.{ℕ, zero, suc, _+_, _≤_, _<_}
 use native.Mathlib.Omega.{arith}
 use lib.Dec.{ltb, eqb}
 use lib.ListN.{length, getD, take, length-append}
-use borrow.Author.Tests.{ltb-true, ltb-false, lt-ltb, le-ltb, eq-eqb, ne-eqb, eqb-true, eqb-false, not-false}
-use Rattle.sheet.specs.Lists.{pick, number, _∈_, any, Lex}
+use borrow.Author.Tests.{ltb-true, lt-ltb, eq-eqb, ne-eqb, eqb-true, eqb-false, not-false}
+use Rattle.sheet.specs.Lists.{number, _∈_, any, Lex}
 use Rattle.sheet.specs.Sorting.{Ascending}
 use Rattle.sheet.specs.Kinds.{Kind, width, kindW}
 use Rattle.sheet.specs.Lines.{Line, line}
-use Rattle.sheet.specs.Sheet.{placeOf, group, headIn, waiting, outOfTurn, lacking}
+use Rattle.sheet.specs.Sheet.{placeOf, group, headIn, waiting, outOfTurn}
 use Rattle.sheet.specs.Valid.{Turned}
-use Rattle.sheet.specs.Laws.Order.{and-true, true-and}
+use Rattle.sheet.specs.Laws.Order.{and-true}
 use Rattle.sheet.specs.Laws.Judge.{Passes}
 use Rattle.sheet.specs.Laws.Passed.{or-false, fault-passed}
-use Rattle.sheet.specs.Laws.Groups.{isKind, group-append, group-own}
+use Rattle.sheet.specs.Laws.Groups.{isKind, group-append}
 
 -- how many W lines there are
 abbrev pub waitCount : List Line → ℕ

@@ -2,7 +2,6 @@
 -- Assumes nothing.
 use Prim.Native.Nat.{_-_, _≤_}
 use native.Mathlib.Omega.{arith}
-use Rattle.arrivals.specs.Inner.Network.{countOf}
 use Rattle.arrivals.proofs.live.is_somewhere_dear.Statement.{statement}
 use Rattle.arrivals.proofs.live.is_somewhere_dear.Tie as tie
 
