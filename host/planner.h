@@ -167,6 +167,8 @@ PlannerSheetWritten planner_write(const uint32_t *head, size_t head_len, const u
  * 9: zeros from its first element to its last.
  * list: a row for each front cost (c1, c2, c3, arrival step), ascending by c1, c2, c3, then zeros to its end. The
  * arrival step is the earliest at which a lawful journey with that cost arrives. Refused: kept.
+ * Time: where the table has little more room than needed, or less, the last rows are found by scans of all rows, which
+ * can take a hundred times as long. Twice the room needed is enough to be spared that.
  * Stack: 195,880 bytes measured. */
 PlannerFrontAnswer planner_front(const uint8_t *sheet, size_t sheet_len, uint32_t *arrivals, size_t arrivals_len,
                                  uint32_t *list, size_t list_len);

@@ -18,7 +18,7 @@ use Rattle.costs.specs.Priced.{Within}
 use Rattle.costs.specs.Laws.Figures.{fig-add, within-more, within-times}
 use Rattle.arrivals.specs.Rows.{Row, rowAt}
 use Rattle.arrivals.specs.Inner.Rows.{rowsOf, all-at, tailOf, tail-find, Bounded}
-use Rattle.arrivals.specs.Inner.Network.{waitIn, linkOf}
+use Rattle.arrivals.specs.Inner.Network.{waitIn, linkOf, countOf, dearOf}
 use Rattle.arrivals.specs.Inner.Offering.{Beaten}
 use Rattle.arrivals.specs.Inner.Index.{indexRoom, lowOf, highOf, backOf, Listed, Indexed, Cover, Older, covers-step, row-low, low-row, older-past, lag-sum}
 use Rattle.arrivals.specs.Inner.Due.{Due, Covered}
@@ -237,6 +237,10 @@ module _ {net xs : List ℕ} {n : ℕ} {ix iy : List ℕ} {t lo hi b s v : ℕ} 
 
   pub settled : Settling net xs n iy t
   settled = record { room = a .room; short = a .short; bounded = a .bounded; indexed = indexed; due = due; covered = covered }
+
+-- waiting is dearer where no corridor leads to
+abbrev pub NowhereDear : List ℕ → Type 0
+NowhereDear net = (j : ℕ) → j < countOf net → dearOf net j ≡ 0
 
 -- row k is nowhere below one of the rows of a span after waiting at cost lag
 abbrev pub Undercut : List ℕ → Cost → Span → ℕ → Type 0
