@@ -32,6 +32,7 @@ static const char *const meanings[] = {
     [PLANNER_NOT_ON_FRONT] = "no journey on the front has this number",
     [PLANNER_ROOM_PATH] = "the path buffer is shorter than the journey",
     [PLANNER_ROOM_SHEET] = "the buffer is shorter than the sheet",
+    [PLANNER_MONTH_LINES] = "the month has no line, or more than 4,096",
     [PLANNER_NO_CORRIDOR] = "the closure names no corridor of the sheet",
     [PLANNER_LATE] = "the occupancy begins after the last step",
 };

@@ -1,10 +1,11 @@
 /* The planner's calls for a host in C or C++, in target/staticlib/libplanner.a (made by `rt staticlib planner`).
  *
  * The sheet, the front, the tie rule and the refusals are those of document 01, "The corridor sheet and the journeys
- * it offers", with what document 02 changed (E2: the time to unload; E4: the kinds of bytes; E5: the closures; E6:
- * PLANNER_LATE; E8: waiting costs by place; E9: the tie rule); their open points are decided in docs/DECISIONS.md. What
- * each call hands back and leaves in every lent buffer is proved of the calls in crates/planner/src/lib.rt. That this
- * header declares those calls is not proved; tests/host runs each of them through it.
+ * it offers", with what document 02 changed (E2: the time to unload; E3: PLANNER_MONTH_LINES; E4: the kinds of bytes;
+ * E5: the closures; E6: PLANNER_LATE; E8: waiting costs by place; E9: the tie rule); their open points are decided in
+ * docs/DECISIONS.md. What each call hands back and leaves in every lent buffer is proved of the calls in
+ * crates/planner/src/lib.rt. That this header declares those calls is not proved; tests/host runs each of them through
+ * it.
  *
  * The lines of a sheet come in the order S, W, C, X, O: one S, one W for each place, up to 256 of each other kind.
  *
@@ -19,6 +20,11 @@
  * A closure, `X,from,to,step`, between the C and the O lines, closes the corridor from the one place to the other to a
  * cart that would depart by it at that step, 0 to 255; one at the last step or past it has no effect. The other
  * direction is not closed by it: for a bed that is moved towards the cart the sheet names the cart's direction.
+ *
+ * The costs handed back, one for each journey driven, make a month. The program of bin/month, which is not in the
+ * archive, takes them as lines `M,c1,c2,c3`, 1 to 4,096 of them, each figure 0 to 15,300,000, the most that a journey
+ * can cost, and prints for each figure, 1 to 3, a line `A,figure,total,least,greatest,mean`: all exact but the mean,
+ * the nearest whole number, a half going up.
  *
  * Holds for every call:
  * - An array is passed as a pointer and a length, the count of its elements. A pointer is never null, not even where
@@ -83,6 +89,8 @@ enum PlannerRefusal {
     PLANNER_NOT_ON_FRONT = 10,    /* a journey number not on the front */
     PLANNER_ROOM_PATH = 11,       /* a path buffer shorter than the arrival step + 1 */
     PLANNER_ROOM_SHEET = 12,      /* a buffer shorter than the sheet to be written */
+    /* of a month, by the program of bin/month: no call of this header hands it back */
+    PLANNER_MONTH_LINES = 14,     /* no line, at line 0, or a 4,097th */
     /* of the sheet */
     PLANNER_NO_CORRIDOR = 15,     /* a closure that names no corridor of the sheet, by both its ends */
     PLANNER_LATE = 16             /* an occupancy that begins after the last step; to end after it is no fault */

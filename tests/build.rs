@@ -5,7 +5,7 @@ use std::fs;
 use std::path::{Path, PathBuf};
 
 /// The references: each is a file in src/, with its slips in slips/.
-const REFERENCES: [&str; 2] = ["sheet", "step_by_step"];
+const REFERENCES: [&str; 3] = ["month", "sheet", "step_by_step"];
 
 fn main() {
     if env::var("CARGO_FEATURE_STUB").is_ok() {

@@ -1,5 +1,5 @@
-# Sheets at the ends of a sheet's length and of the program's room, and ways to deliver a sheet, for tests/program,
-# tests/plan and tests/host: a function prints each, and its comment says what it offers.
+# Sheets at the ends of a sheet's length and of the program's room, for tests/program, tests/plan and tests/host: a
+# function prints each, and its comment says what it offers.
 
 # The W lines of so many places, all of one cost: waits PLACES COST.
 waits() {
@@ -81,29 +81,4 @@ many_arrivals() {
         ends = split("17,19 18,19 17,20 15,21 13,22 9,23 1,24 1,25", pairs, " ")
         for (n = 1; n < ends + more; n++) print "C," pairs[n] ",0,0,0"
     }' | sort -t, -k2,2n -k3,3n
-}
-
-# A file's bytes in pieces, one of them at the end of a sheet's length.
-in_pieces() {
-    head -c 3 "$1"
-    sleep 0.05
-    head -c 16384 "$1" | tail -c +4
-    sleep 0.05
-    tail -c +16385 "$1"
-}
-
-# A file's bytes, each written by itself.
-byte_by_byte() {
-    at=0
-    while [ "$at" -lt "$(wc -c < "$1")" ]; do
-        dd status=none bs=1 count=1 skip="$at" if="$1"
-        at=$((at + 1))
-    done
-}
-
-# A file's lines, the last after so many seconds: late SECONDS FILE.
-late() {
-    sed '$d' "$2"
-    sleep "$1"
-    tail -n 1 "$2"
 }

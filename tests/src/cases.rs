@@ -12,6 +12,9 @@
 //! the arrivals table, and for each cost `J,` with its row of the list and `P,` with the places. With
 //! `N,NUMBER,ARRIVALS,PATH` a case is one of a journey with that number and arrays of those lengths; the answer is
 //! `R,refusal,line`, or `J,` and `P,`.
+//!
+//! A case of a month has several lines: `= NAME`, the month as one text or several, `"TEXT"` as that of a sheet, one after the
+//! other, and the page.
 
 use crate::groups::{Groups, ascending_closures, ascending_corridors, ascending_occupancies, ascending_waits};
 use crate::page::PROGRAM_LENS;
@@ -41,6 +44,13 @@ pub struct FrontCase {
     pub page: String,
 }
 
+/// A month with its page.
+pub struct MonthCase {
+    pub name: String,
+    pub month: Vec<u8>,
+    pub page: String,
+}
+
 /// What is asked of a sheet, with the lengths of the lent arrays.
 pub enum Asked {
     Front([usize; 2]),
@@ -64,8 +74,18 @@ pub fn kinds(content: &str) -> Vec<u32> {
 
 /// The cases of fronts in a stored file's content.
 pub fn front_cases(content: &str) -> Vec<FrontCase> {
+    long_cases(content, front_case)
+}
+
+/// The cases of months in a stored file's content.
+pub fn month_cases(content: &str) -> Vec<MonthCase> {
+    long_cases(content, month_case)
+}
+
+/// The cases of several lines, the first of which begins with =.
+fn long_cases<T>(content: &str, case: fn(&[&str]) -> T) -> Vec<T> {
     let lines: Vec<&str> = case_lines(content).collect();
-    lines.chunk_by(|_, next| !next.starts_with('=')).map(front_case).collect()
+    lines.chunk_by(|_, next| !next.starts_with('=')).map(case).collect()
 }
 
 /// The lines that are cases.
@@ -107,6 +127,14 @@ fn front_case(lines: &[&str]) -> FrontCase {
             .collect()
     };
     FrontCase { name, text: of("SWCXO").into_bytes(), asked: asked_of(&of("LN")), page: of("RFAJP") }
+}
+
+/// The case that some lines are.
+fn month_case(lines: &[&str]) -> MonthCase {
+    let name = lines[0].trim_start_matches("= ").to_string();
+    let (texts, page): (Vec<&str>, Vec<&str>) = lines[1..].iter().partition(|line| line.starts_with('"'));
+    let month = texts.iter().flat_map(|text| unescaped(text.trim_matches('"'))).collect();
+    MonthCase { name, month, page: page.iter().map(|line| format!("{line}\n")).collect() }
 }
 
 /// What is asked by a line `L,ARRIVALS,LIST` or `N,NUMBER,ARRIVALS,PATH`, or without a line.

@@ -1,10 +1,12 @@
-//! Damage that texts and groups share: to the order of lines, and to single numbers; and damage to waits and closures.
+//! Damage that texts and groups share: to the order of lines, and to single numbers; damage to waits and closures, and to
+//! months.
 
 use crate::random::Random;
 
 mod lines;
 pub mod of_closures;
 pub mod of_groups;
+pub mod of_months;
 pub mod of_text;
 pub mod of_waits;
 

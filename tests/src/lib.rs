@@ -12,10 +12,13 @@ pub mod family;
 pub mod groups;
 pub mod layers;
 pub mod lent;
+pub mod month;
+pub mod months;
 pub mod page;
 #[cfg(feature = "stub")]
 #[path = "stub.rs"]
 pub mod planner;
+pub mod process;
 pub mod program;
 pub mod random;
 pub mod sheet;

@@ -5,22 +5,13 @@ use Prim.Native.Nat.{ℕ, _*_}
 use lib.ListN.{length}
 use Rattle.sheet.specs.Lists.{pick, bind, filled}
 use Rattle.sheet.specs.Sheet.{Sheet, told, readOf}
-use Rattle.sheet.specs.Text.{printed}
+use Rattle.sheet.specs.Text.{printed, mostPrinted, refusalLine}
 use Rattle.costs.specs.Costs.{Cost}
 use Rattle.arrivals.specs.Computed.{leading}
 use Rattle.arrivals.specs.Table.{crowded}
 use Rattle.journeys.specs.Computed.{journeyOf, arrivalOf, front}
 use Rattle.journeys.specs.Calls.{frontRow, overfull}
 use Rattle.page.specs.declared.PageText.{PageText}
-
--- the most digits of a printed number
-abbrev pub mostPrinted : ℕ
-mostPrinted = 10
-
--- `R,number,line`
-unfoldable pub refusalLine : ℕ → ℕ → List ℕ
-unfolding printed
-refusalLine k n = printed mostPrinted 82 (k ∷ n ∷ [])
 
 -- `F,costs,arrivals`
 unfoldable pub frontLine : Sheet → List ℕ

@@ -1,9 +1,8 @@
 // The page that the program prints for the bytes of a sheet (document 01, "The program reads a sheet on standard input ...").
 ghost use mathlib.Core.Path.{_≡_};
-ghost use lib.ListN.{length};
 ghost use Rattle.sheet.specs.Store.{SomeStore, sheetIn};
 ghost use Rattle.sheet.specs.Laws.Puts.{Puts};
-ghost use Rattle.page.specs.Page.{refusalLine, pageOn, page, pageRoom, held};
+ghost use Rattle.page.specs.Page.{pageOn, page, held};
 ghost use Rattle.page.specs.Inner.{Lent, Servable};
 use crate::offers::put_journeys;
 use intervals::derive;
@@ -12,6 +11,7 @@ use sheet::kinds::KINDS;
 use sheet::kinds::STORE;
 use sheet::reader::read_into;
 use sheet::text::put_line;
+use sheet::text::put_refusal;
 
 pub mod offers; // offers.rt: the lines of each front cost
 
@@ -19,15 +19,6 @@ pub mod offers; // offers.rt: the lines of each front cost
 pub struct PageText {
     pub bytes: [u8; 163840],
     pub count: usize,
-}
-
-// Writes the page of a refusal; the count of its bytes.
-fn put_refusal(out: &mut [u8], number: u32, line: u32) -> usize
-    requires { ⌜ length (now out) ≡ pageRoom ⌝ }
-    ensures { λ r. ⌜ Puts (refusalLine number line) (now (out .entry)) 0 (now (out .exit)) r ⌝ }
-{
-    let told = [number as u64, line as u64];
-    put_line(out, 0, 82, &told, 10)
 }
 
 // Writes the page of the sheet in the array: the counts and the lines of each front cost, or the refusal alone; the count of its bytes. The sheet is

@@ -20,7 +20,7 @@ use Rattle.sheet.specs.Inner.{spanOf, fieldFrom, DigitsAre, FieldIs}
 use Rattle.sheet.specs.declared.lines.Field.{Field}
 use Rattle.sheet.specs.Laws.Passed.{or-false}
 use Rattle.sheet.specs.Laws.Decimal.{below-or-not, NumberIs, number-is}
-use Rattle.sheet.proofs.Parts.{span-le, span-stop, span-end}
+use Rattle.sheet.specs.Laws.Parts.{span-le, span-stop, span-end}
 
 -- a digit is no comma
 pub no-comma : (l : List ℕ) (i : ℕ) → kindOf (getD l i 0) ≡ digit → kindOf (getD l i 0) ≡ comma → ⊥

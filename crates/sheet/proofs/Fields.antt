@@ -12,7 +12,7 @@ use Rattle.sheet.specs.Lists.{_then_}
 use Rattle.sheet.specs.Decimal.{numberOf}
 use Rattle.sheet.specs.Lines.{numbersOf}
 use Rattle.sheet.specs.Inner.{spanOf, partsFrom}
-use Rattle.sheet.proofs.Parts.{parts-step, parts-none}
+use Rattle.sheet.specs.Laws.Parts.{parts-step, parts-none}
 
 -- numbers in front of numbers that may be missing
 abbrev pub ontoAll : List ℕ → Option (List ℕ) → Option (List ℕ)

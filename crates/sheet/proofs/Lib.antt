@@ -1,5 +1,4 @@
 pub mod Digits
-pub mod Parts
 pub mod Fields
 pub mod LineLaws
 pub mod Passing
@@ -7,7 +6,6 @@ pub mod Standing
 pub mod Tested
 pub mod FirstFault
 pub mod Storing
-pub mod LineEnding
 pub mod Reached
 pub mod Reading
 pub mod Writing

@@ -14,9 +14,10 @@ use Rattle.sheet.specs.Lists.{pick, _then_, number}
 use Rattle.sheet.specs.Bytes.{comma}
 use Rattle.sheet.specs.Kinds.{Kind, width, kindS}
 use Rattle.sheet.specs.Lines.{line, withLetter, numbersOf, ofFields, lineOf}
-use Rattle.sheet.specs.Inner.{spanOf, partsFrom, asNumbers, Forms, SomeForms, positionOf, lineOfKinds, LineIs}
+use Rattle.sheet.specs.Inner.{spanOf, partsFrom, asNumbers, positionOf}
+use Rattle.sheet.specs.Forms.{Forms, SomeForms, lineOfKinds, LineIs}
 use Rattle.sheet.specs.declared.lines.Parsed.{Parsed}
-use Rattle.sheet.proofs.Parts.{span-le, split-step}
+use Rattle.sheet.specs.Laws.Parts.{span-le, split-step}
 
 -- k is the position of the kind o among ks, or their count where there is none
 abbrev Stands : List Kind → ℕ → Option Kind → Type 0

@@ -15,7 +15,8 @@ use Rattle.sheet.specs.Lines.{Line, line}
 use Rattle.sheet.specs.Sheet.{Sheet, sheetOf, groupsOf, linesFrom, lacking, Outcome, refused, loaded, judge, mostBytes, readOf}
 use Rattle.sheet.specs.Calls.{readAnswer, readCall}
 use Rattle.sheet.specs.Store.{spread, StoreOf, VerdictIs, Blank}
-use Rattle.sheet.specs.Inner.{lineAt, Stored, Reached, Takes, LacksIs, Forms, LineIs, asParsed}
+use Rattle.sheet.specs.Inner.{lineAt, Stored, Reached, Takes, LacksIs}
+use Rattle.sheet.specs.Forms.{Forms, LineIs, asParsed}
 use Rattle.sheet.specs.LineEnds.{linesBy, EndIs, left, ReadUpTo, stopped, OverIs, TurnIs}
 use Rattle.sheet.specs.Laws.Groups.{passes-groups, lines-sheet}
 use Rattle.sheet.specs.Laws.Runs.{AllRuns}

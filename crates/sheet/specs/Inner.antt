@@ -5,14 +5,14 @@ use mathlib.Core.List.{List, [], _∷_, _++_, map}
 use mathlib.Core.Option.{Option, some, none}
 use Prim.Native.Nat.{ℕ, zero, suc, _+_, _*_, _-_, _≤_, _<_}
 use lib.Dec.{ltb, leb, eqb}
-use lib.ListN.{length, getD, take, drop}
+use lib.ListN.{length, take, drop}
 use lib.Seq.{sets}
 use Rattle.sheet.specs.Lists.{pick, number, any, rows, bind}
 use Rattle.sheet.specs.Computed.{lexb}
 use Rattle.sheet.specs.Bytes.{kindOf, comma, split}
 use Rattle.sheet.specs.Decimal.{digitsFrom, numberOf, mostDigits}
-use Rattle.sheet.specs.Kinds.{Limit, between, place, cost, Pair, alone, different, ordered, Kind, width, kindS, kindW, kindC, kindO, kinds}
-use Rattle.sheet.specs.Lines.{Line, line, lineOf}
+use Rattle.sheet.specs.Kinds.{Limit, between, place, cost, Pair, alone, different, ordered, width, kindW, kindC, kindO, kinds}
+use Rattle.sheet.specs.Lines.{Line, line}
 use Rattle.sheet.specs.Sheet.{Sheet, group, unknown, fault, lacking, Outcome, refused, loaded, judge}
 use Rattle.sheet.specs.Text.{lineText, sheetText}
 use Rattle.sheet.specs.Calls.{readAnswer, groupRows}
@@ -166,32 +166,10 @@ asField r = pick (r .ok) (some (r .value)) none
 abbrev pub asNumbers : ℕ → Parsed → Option (List ℕ)
 asNumbers w r = pick (r .ok) (some (take w (r .values))) none
 
--- the letters and the counts of numbers of these kinds of lines, of at most eight numbers each
-pub record Forms (ks : List Kind) (letters widths : List ℕ) : Type 0 where
-  pub letters-are : letters ≡ map (λ k. k .letter) ks
-  pub widths-are : widths ≡ map width ks
-  pub narrow : (i : ℕ) → number widths i ≤ 8
-
-pub record SomeForms (letters widths : List ℕ) : Type 0 where
-  pub kinds-of : List Kind
-  pub forms : Forms kinds-of letters widths
-
 -- the position of the first c in a list, or its length
 abbrev pub positionOf : ℕ → List ℕ → ℕ
 positionOf c [] = 0
 positionOf c (x ∷ l) = let r = suc (positionOf c l) in pick (eqb x c) 0 r
-
--- the line of the kind at position k of ks whose numbers stand in the array v
-abbrev pub lineOfKinds : List Kind → ℕ → List ℕ → Line
-lineOfKinds ks k v = line (getD ks k kindS) (take (width (getD ks k kindS)) v)
-
-abbrev pub asParsed : List Kind → Parsed → Option Line
-asParsed ks r = pick (r .ok) (some (lineOfKinds ks (r .kind) (r .values))) none
-
--- r is what the bytes p of a line stand for, among lines of these forms
-pub record LineIs (most : ℕ) (letters widths p : List ℕ) (r : Parsed) : Type 0 where
-  pub known : r .ok ≡ true → r .kind < length letters
-  pub of : (ks : List Kind) → Forms ks letters widths → asParsed ks r ≡ lineOf most ks p
 
 -- the bytes from a position on up to the first comma
 abbrev pub fieldFrom : List ℕ → ℕ → List ℕ

@@ -12,6 +12,8 @@ pub mod Shape
 pub mod Decimal
 pub mod Printed
 pub mod LineText
+pub mod Parts
+pub mod LineEnding
 pub mod Passed
 pub mod Limits
 pub mod Groups

@@ -12,6 +12,7 @@ pub mod Valid
 pub mod Calls
 pub mod Store
 pub mod Seek
+pub mod Forms
 pub mod Inner
 pub mod LineEnds
 pub mod Laws

@@ -1,4 +1,4 @@
--- What is written of lines (document 01, "The sheet" and "Written sheet"): a letter, a comma before each number, a line feed.
+-- What is written of lines (document 01, "The sheet", "Written sheet" and "What is handed back"): a letter, a comma before each number, a line feed.
 use mathlib.Core.List.{List, [], _∷_, _++_}
 use Prim.Native.Nat.{ℕ}
 use Rattle.sheet.specs.Lists.{bind}
@@ -23,3 +23,12 @@ lineText most l = printed most (l .kind .letter) (l .numbers)
 unfoldable pub sheetText : Sheet → List ℕ
 unfolding lineText
 sheetText s = bind (sheetLines s) (lineText mostDigits)
+
+-- the most digits that a number of 32 bits is printed with
+abbrev pub mostPrinted : ℕ
+mostPrinted = 10
+
+-- `R,number,line`
+unfoldable pub refusalLine : ℕ → ℕ → List ℕ
+unfolding printed
+refusalLine k n = printed mostPrinted 82 (k ∷ n ∷ [])

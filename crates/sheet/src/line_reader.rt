@@ -19,7 +19,7 @@ pub enum LineEnd {
 }
 
 // Where the line from `at` on ends.
-fn end_at(src: &[u8], at: usize) -> LineEnd
+pub fn end_at(src: &[u8], at: usize) -> LineEnd
     ensures { λ r. ⌜ EndIs (now (src .entry)) at r ⌝ }
 {
     if src.len() <= at {

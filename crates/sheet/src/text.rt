@@ -4,7 +4,7 @@ ghost use Prim.Native.Nat.{_+_, _*_, _≤_, _<_};
 ghost use lib.ListN.{length};
 ghost use lib.Seq.{sets};
 ghost use Rattle.sheet.specs.Decimal.{digitsOf};
-ghost use Rattle.sheet.specs.Text.{numberText, printed};
+ghost use Rattle.sheet.specs.Text.{numberText, printed, refusalLine};
 ghost use Rattle.sheet.specs.Store.{kindCount, SomeStore};
 ghost use Rattle.sheet.specs.Inner.{GroupFits, groupBytes, groupText, BytesAre, PutsSheet, SheetFits};
 ghost use Rattle.sheet.specs.Laws.Puts.{Puts};
@@ -52,6 +52,15 @@ pub fn put_line(out: &mut [u8], at: usize, letter: u8, numbers: &[u64], most: us
     }
     out[next] = 10;
     next + 1
+}
+
+// Writes the line of a refusal to the front of the buffer; the count of its bytes.
+pub fn put_refusal(out: &mut [u8], number: u32, line: u32) -> usize
+    requires { ⌜ 24 ≤ length (now out) ⌝ }
+    ensures { λ r. ⌜ Puts (refusalLine number line) (now (out .entry)) 0 (now (out .exit)) r ⌝ }
+{
+    let told = [number as u64, line as u64];
+    put_line(out, 0, 82, &told, 10)
 }
 
 // Writes the numbers to the front of `to`.

@@ -7,7 +7,7 @@ use std::fmt;
 /// words.
 #[derive(Clone, Copy, Debug, PartialEq, Eq, Hash)]
 pub struct Refusal {
-    /// 1 to 7, 15 and 16 are the sheet's refusals, 8 to 12 the caller's.
+    /// 1 to 7, 15 and 16 are the sheet's refusals, 8 to 12 the caller's; 14 is a month's, and no call hands it back.
     pub number: u32,
     /// The line at fault.
     pub line: u32,
@@ -34,6 +34,7 @@ impl Refusal {
             10 => "no journey on the front has this number",
             11 => "the path buffer is shorter than the journey",
             12 => "the buffer is shorter than the sheet",
+            14 => "the month has no line, or more than 4,096",
             15 => "the closure names no corridor of the sheet",
             16 => "the occupancy begins after the last step",
             _ => "the planner gives no such number",

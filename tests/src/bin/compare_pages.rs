@@ -10,19 +10,16 @@ use planner_tests::damage::of_text::TEXT_DAMAGES;
 use planner_tests::families::{FAMILIES, random_family};
 use planner_tests::layers::layered_text;
 use planner_tests::page::page_of;
+use planner_tests::process;
 use planner_tests::program::{self, ByRefusal, Counts, Options, Tallies};
 use planner_tests::random::Random;
 use planner_tests::sheet::read_sheet;
 use planner_tests::small::{damaged_text, is_small, small_text};
 use planner_tests::step_by_step::offered;
-use std::io::{self, ErrorKind, Write};
-use std::process::{Command, ExitCode, Stdio};
+use std::process::ExitCode;
 
 const SHEET_CASES: &str = include_str!("../../cases/sheets.txt");
 const FRONT_CASES: &str = include_str!("../../cases/fronts.txt");
-
-/// The program.
-const PLAN: &str = concat!(env!("CARGO_MANIFEST_DIR"), "/../target/bin/plan");
 
 /// So many texts are damaged in each run.
 const DAMAGED: u64 = 5;
@@ -114,23 +111,7 @@ fn compare_cases() -> Result<usize, String> {
 
 /// The page of a text, on which the program and the references agree, or a report of the difference.
 fn compare_page(text: &[u8]) -> Result<String, String> {
-    let printed = printed_for(text).map_err(|error| format!("{PLAN}: {error}"))?;
-    let expected = page_of(&offered(text));
-    if printed == expected.as_bytes() {
-        return Ok(expected);
-    }
-    let [input, printed] = [text, &printed].map(|bytes| bytes.escape_ascii());
-    Err(format!(
-        "the pages differ\n  text of {} bytes \"{input}\"\n  printed  \"{printed}\"\n  expected {expected:?}",
-        text.len()
-    ))
-}
-
-/// What the program prints for a text on standard input; it need not take all of the text.
-fn printed_for(text: &[u8]) -> io::Result<Vec<u8>> {
-    let mut plan = Command::new(PLAN).stdin(Stdio::piped()).stdout(Stdio::piped()).spawn()?;
-    let written = plan.stdin.take().expect("standard input is piped").write_all(text);
-    written.or_else(|error| if error.kind() == ErrorKind::BrokenPipe { Ok(()) } else { Err(error) })?;
-    let output = plan.wait_with_output()?;
-    if output.status.success() { Ok(output.stdout) } else { Err(io::Error::other(output.status.to_string())) }
+    let page = page_of(&offered(text));
+    process::compare_page(process::plan, text, &page)?;
+    Ok(page)
 }

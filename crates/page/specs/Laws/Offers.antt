@@ -11,7 +11,7 @@ use lib.Seq.{take-at, drop-append-add, getD-append-seam, length-take-le}
 use Rattle.sheet.specs.Lists.{_∈_, number, bind, filled}
 use Rattle.sheet.specs.Sheet.{Sheet}
 use Rattle.sheet.specs.Store.{sheetIn}
-use Rattle.sheet.specs.Text.{printed}
+use Rattle.sheet.specs.Text.{printed, mostPrinted}
 use Rattle.sheet.specs.Laws.Decided.{from-of}
 use Rattle.sheet.specs.Laws.Puts.{Puts, puts-as, puts-append, puts-length, puts-none, puts-more, puts-all, puts-fits}
 use Rattle.sheet.specs.Laws.Stores.{length-filled}
@@ -24,7 +24,7 @@ use Rattle.journeys.specs.Held.{Layable}
 use Rattle.journeys.specs.Laws.Journeys.{has-three, journey-length, journey-short}
 use Rattle.journeys.specs.Laws.Front.{front-on}
 use Rattle.journeys.specs.Laws.Served.{member, list-length}
-use Rattle.page.specs.Page.{mostPrinted, journeyLines, offerLines}
+use Rattle.page.specs.Page.{journeyLines, offerLines}
 use Rattle.page.specs.Inner.{costIn, Printable, Offered}
 
 -- the numbers of the row of a front cost

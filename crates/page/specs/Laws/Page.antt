@@ -12,14 +12,14 @@ use borrow.Author.Tests.{ne-eqb, lt-ltb, le-ltb, lt-leb}
 use Rattle.sheet.specs.Lists.{pick, bind}
 use Rattle.sheet.specs.Sheet.{Sheet, Outcome, refused, loaded, told, mostBytes, readOf}
 use Rattle.sheet.specs.Valid.{Valid}
-use Rattle.sheet.specs.Text.{printed}
+use Rattle.sheet.specs.Text.{printed, mostPrinted, refusalLine}
 use Rattle.sheet.specs.Laws.RoundTrip.{read-refused, read-valid}
 use Rattle.costs.specs.Costs.{Cost}
 use Rattle.arrivals.specs.Table.{crowded}
 use Rattle.journeys.specs.Journeys.{HasCost}
 use Rattle.journeys.specs.Computed.{journeyOf, arrivalOf, front}
 use Rattle.journeys.specs.Calls.{cleared, frontRow, overfull, FrontEnd, frontRefused, frontServed, frontOn, frontCall, JourneyEnd, journeyRefused, tooShort, journeyServed, journeyOn, journeyCall}
-use Rattle.page.specs.Page.{mostPrinted, refusalLine, frontLine, journeyLines, offerLines, tableNumbers, listNumbers, pageOn, page}
+use Rattle.page.specs.Page.{frontLine, journeyLines, offerLines, tableNumbers, listNumbers, pageOn, page}
 use Rattle.journeys.specs.Laws.Journeys.{journey-length, journey-short}
 use Rattle.journeys.specs.Laws.Front.{front-on}
 use Rattle.journeys.specs.Laws.Served.{member}

@@ -3,19 +3,17 @@
 use mathlib.Core.Path.{_≡_, refl}
 use mathlib.Core.Bool.{Bool, true, false}
 use mathlib.Core.List.{List, [], _∷_, _++_}
-use Prim.Native.Nat.{ℕ, suc, _+_, _*_, _≤_, _<_}
+use Prim.Native.Nat.{ℕ, _+_, _*_, _≤_, _<_}
 use native.Mathlib.Omega.{arith}
-use native.Mathlib.Nat.{suc-mul}
 use lib.ListN.{length, getD, length-append}
 use borrow.Author.Tests.{ltb-false}
-use Rattle.sheet.specs.Lists.{pick, number, bind}
+use Rattle.sheet.specs.Lists.{pick, number}
 use Rattle.sheet.specs.Sheet.{Sheet, Outcome, refused, loaded, told, readOf}
 use Rattle.sheet.specs.Valid.{Valid}
-use Rattle.sheet.specs.Text.{numberText, printed}
+use Rattle.sheet.specs.Text.{numberText, printed, mostPrinted, refusalLine}
 use Rattle.sheet.specs.Laws.Decimal.{digits-at-most}
 use Rattle.sheet.specs.Laws.RoundTrip.{read-valid}
-use Rattle.sheet.specs.Laws.Puts.{Puts}
-use Rattle.sheet.specs.Laws.Printed.{number-length, printed-length, digits-most}
+use Rattle.sheet.specs.Laws.Printed.{number-length, bind-long, printed-long, printed-most, refusal-long}
 use Rattle.costs.specs.Costs.{Cost}
 use Rattle.arrivals.specs.Laws.Bounds.{way-place}
 use Rattle.arrivals.specs.Computed.{leading}
@@ -26,34 +24,22 @@ use Rattle.journeys.specs.Calls.{frontRow, overfull}
 use Rattle.journeys.specs.Laws.Journeys.{has-three, journeyOf-selected, journey-short}
 use Rattle.journeys.specs.Laws.Front.{front-on}
 use Rattle.journeys.specs.Laws.Served.{member}
-use Rattle.page.specs.Page.{mostPrinted, refusalLine, frontLine, journeyLines, offerLines, tableNumbers, listNumbers, pageOn, page, pageRoom}
-
--- each member at most m long, all of them at most so many times m
-bind-long : {A : Type 0} (f : A → List ℕ) (m : ℕ) (d : A) (l : List A) → ((i : ℕ) → i < length l → length (f (getD l i d)) ≤ m) → length (bind l f) ≤ length l * m
-bind-long f m d [] h = omega arith
-bind-long f m d (x ∷ l) h =
-    omega (arith, length-append (f x) (bind l f), h 0 (omega arith), bind-long f m d l (λ i k. h (suc i) (omega arith)), suc-mul (length l) m)
-
-number-long : (n : ℕ) → length (numberText mostPrinted n) ≤ 11
-number-long n = omega (arith, number-length mostPrinted n, digits-most mostPrinted n)
+use Rattle.page.specs.Page.{frontLine, journeyLines, offerLines, tableNumbers, listNumbers, pageOn, page, pageRoom}
 
 place-long : (n : ℕ) → n < 64 → length (numberText mostPrinted n) ≤ 3
 place-long n h = omega (arith, number-length mostPrinted n, digits-at-most mostPrinted 1 n (omega arith))
-
-printed-long : (c m : ℕ) (ns : List ℕ) → ((i : ℕ) → i < length ns → length (numberText mostPrinted (number ns i)) ≤ m) → length (printed mostPrinted c ns) ≤ length ns * m + 2
-printed-long c m ns h = omega (arith, printed-length mostPrinted c ns, bind-long (numberText mostPrinted) m 0 ns h)
 
 -- the lines of a front cost
 module _ (s : Sheet) (v : Valid s) (g : Cost) (h : HasCost s g) where
   cost-long : length (printed mostPrinted 74 (frontRow s g)) ≤ 46
   cost-long =
-      omega (arith, printed-long 74 11 (frontRow s g) (λ i k. number-long (number (frontRow s g) i)), length-append g (arrivalOf s g ∷ []), has-three s g h)
+      omega (arith, printed-most mostPrinted 74 (frontRow s g), length-append g (arrivalOf s g ∷ []), has-three s g h)
 
   path-long : length (printed mostPrinted 80 (journeyOf s g)) ≤ 770
   path-long =
       let j = journeyOf-selected s g h .journey in
       omega
-      (arith, printed-long 80 3 (journeyOf s g) (λ i k. place-long (number (journeyOf s g) i) (omega (arith, way-place s v (j .A) (journeyOf s g) g (j .way) i (omega (arith, k, j .way .places)), v .most-places))), journey-short s g v h)
+      (arith, printed-long mostPrinted 80 3 (journeyOf s g) (λ i k. place-long (number (journeyOf s g) i) (omega (arith, way-place s v (j .A) (journeyOf s g) g (j .way) i (omega (arith, k, j .way .places)), v .most-places))), journey-short s g v h)
 
   lines-long : length (journeyLines s g) ≤ 816
   unfolding journeyLines
@@ -64,20 +50,11 @@ unfolding offerLines
 offers-long s v = bind-long (journeyLines s) 816 [] (front s) (λ i k. lines-long s v (getD (front s) i []) (front-on s (getD (front s) i []) (member (front s) i k) .has))
 
 pub two-long : (c m n : ℕ) → length (printed mostPrinted c (m ∷ n ∷ [])) ≤ 24
-two-long c m n = omega (arith, printed-long c 11 (m ∷ n ∷ []) (λ i k. number-long (number (m ∷ n ∷ []) i)))
+two-long c m n = printed-most mostPrinted c (m ∷ n ∷ [])
 
 front-long : (s : Sheet) → length (frontLine s) ≤ 24
 unfolding frontLine
 front-long s = two-long 70 (length (front s)) (length (leading s))
-
--- the line of a refusal, written
-pub refusal-puts : (k n : ℕ) {out out′ : List ℕ} {r : ℕ} → Puts (printed mostPrinted 82 (k ∷ n ∷ [])) out 0 out′ r → Puts (refusalLine k n) out 0 out′ r
-unfolding refusalLine
-refusal-puts k n p = p
-
-refusal-long : (k n : ℕ) → length (refusalLine k n) ≤ 24
-unfolding refusalLine
-refusal-long k n = two-long 82 k n
 
 -- 200 costs fit
 pub few-costs : (s : Sheet) → overfull s listNumbers ≡ false → length (front s) ≤ 200

@@ -7,16 +7,16 @@ use mathlib.Core.List.{List, [], _∷_, _++_}
 use Prim.Native.Nat.{ℕ, _*_, _-_, _≤_, _/_}
 use native.Mathlib.Omega.{arith}
 use lib.ListN.{length, take, replicate}
-use lib.Seq.{sets, take-at}
+use lib.Seq.{take-at}
 use borrow.Author.Tests.{le-ltb}
 use Rattle.sheet.specs.Lists.{bind, filled}
 use Rattle.sheet.specs.Sheet.{Sheet, told, readOf}
 use Rattle.sheet.specs.Store.{sheetIn, VerdictIs}
-use Rattle.sheet.specs.Text.{printed}
+use Rattle.sheet.specs.Text.{printed, mostPrinted, refusalLine}
 use Rattle.sheet.specs.declared.reader.Verdict.{Verdict}
 use Rattle.sheet.specs.Laws.Store.{store-sheet, store-valid}
-use Rattle.sheet.specs.Laws.Stores.{sets-filled, length-filled}
-use Rattle.sheet.specs.Laws.Puts.{Puts, puts-as, puts-length, puts-append}
+use Rattle.sheet.specs.Laws.Stores.{length-filled}
+use Rattle.sheet.specs.Laws.Puts.{Puts, puts-as, puts-length, puts-append, puts-filled}
 use Rattle.arrivals.specs.Computed.{leading}
 use Rattle.arrivals.specs.Table.{crowded, arrivalTable}
 use Rattle.journeys.specs.Computed.{front}
@@ -24,7 +24,7 @@ use Rattle.journeys.specs.Calls.{frontRow, overfull, FrontEnd, frontEnd, frontS
 use Rattle.journeys.specs.declared.FrontAnswer.{FrontAnswer}
 use Rattle.journeys.specs.Laws.Served.{on-served, list-length}
 use Rattle.journeys.specs.Laws.Searched.{ready-is}
-use Rattle.page.specs.Page.{mostPrinted, refusalLine, frontLine, offerLines, tableNumbers, listNumbers, pageOn, page, pageRoom, held}
+use Rattle.page.specs.Page.{frontLine, offerLines, tableNumbers, listNumbers, pageOn, page, pageRoom, held}
 use Rattle.page.specs.declared.PageText.{PageText}
 use Rattle.page.specs.Inner.{Lent, Servable, Offered}
 use Rattle.page.specs.Laws.Room.{few-costs, served-fits, page-fits}
@@ -127,9 +127,8 @@ module _ (b : List ℕ) (lines all : List ℕ) (r : Verdict) (v : VerdictIs (rea
 pub page-held : (b out : List ℕ) (n : ℕ) → Puts (page b) (replicate pageRoom 0) 0 out n → record { bytes = out; count = n } ≡ held b
 unfolding held
 page-held b out n p =
-    let f : sets (replicate pageRoom 0) 0 (page b) ≡ filled pageRoom (page b) = sets-filled pageRoom [] (page b) 0 refl (omega (arith, page-fits b)) in
-    let c : n ≡ length (page b) = omega (arith, p .next-is) in
-    λ i. record { bytes = (p .out-is ∙ f) i; count = c i }
+    let f = puts-filled pageRoom (page-fits b) p in
+    λ i. record { bytes = f .0 i; count = f .1 i }
 
 pub held-within : (r : PageText) (b : List ℕ) → r ≡ held b → r .count ≤ length (r .bytes)
 unfolding held

@@ -1,27 +1,18 @@
 -- `plan::main` meets its contract: what is read and what is written lies within the buffers.
 -- Assumes nothing.
-use Prim.Native.Nat.{ℕ, _≤_}
-use mathlib.Core.Path.{_≡_, sym, subst}
-use mathlib.Core.List.{List}
-use lib.ListN.{length}
+use mathlib.Core.Path.{sym}
 use lib.Seq.{length-take-le}
 use borrow.Author.Needs.{needs}
 use Rattle.page.specs.Laws.Whole.{held-within}
-use Rattle.plan.specs.declared.Input.{Input}
-use Rattle.plan.specs.declared.Input.the-variants.{Bytes}
-use Rattle.plan.specs.Inner.{Within}
+use Rattle.input.specs.Laws.Input.{within-read}
 use Rattle.plan.proofs.main.Statement.{statement}
 use Rattle.plan.proofs.main.Tie as tie
 
--- what reading promises, of the bytes that it gave
-within-read : {r : Input} {n : ℕ} (buffer : List ℕ) → r ≡ Bytes n → Within r buffer → n ≤ length buffer
-within-read buffer e h = subst (λ (r : Input). Within r buffer) e h
+slice-aggregate-read-input : tie.Need-slice-aggregate-read-input
+slice-aggregate-read-input c = search needs
 
-slice-aggregate-read-sheet : tie.Need-slice-aggregate-read-sheet
-slice-aggregate-read-sheet c = search needs
-
-read-sheet-requires : tie.Need-read-sheet-requires
-read-sheet-requires c κs = search needs
+read-input-requires : tie.Need-read-input-requires
+read-input-requires c κs = search needs
 
 enum-known-input : tie.Need-enum-known-input
 enum-known-input c = search needs
@@ -39,7 +30,7 @@ returns : tie.Need-returns
 returns c = search needs
 
 array-share-prefix-sheet : tie.Need-array-share-prefix-sheet
-array-share-prefix-sheet c = within-read _ (c .before .input .given .1) (c .before .before .before .before .read-sheet .ensures)
+array-share-prefix-sheet c = within-read _ (c .before .input .given .1) (c .before .before .before .before .read-input .ensures)
 
 slice-aggregate-page-of : tie.Need-slice-aggregate-page-of
 slice-aggregate-page-of c = sym (length-take-le _ _ (array-share-prefix-sheet (c .before)))
@@ -72,8 +63,8 @@ pub main-spec : {M : Type 1} → statement M
 main-spec =
     tie.close
     (tie.spec
-    slice-aggregate-read-sheet
-    read-sheet-requires
+    slice-aggregate-read-input
+    read-input-requires
     enum-known-input
     enum-told
     slice-aggregate-write-all

@@ -10,7 +10,7 @@ use Prim.Native.Nat.{ℕ, zero, suc, _+_, _/_, _%_, _^_, _≤_, _<_}
 use native.Mathlib.Omega.{arith}
 use lib.Dec.{eqb}
 use lib.ListN.{length}
-use borrow.Author.Tests.{eq-eqb, ne-eqb, eqb-true, not-true}
+use borrow.Author.Tests.{eq-eqb, ne-eqb, eqb-true, eqb-false, not-true}
 use Rattle.sheet.specs.Lists.{pick, _then_, _∈_, all, bind}
 use Rattle.sheet.specs.Bytes.{kindOf, digit, comma, lineFeed, letter, onto, split}
 use Rattle.sheet.specs.Decimal.{numberOf, digitsOf}
@@ -36,8 +36,11 @@ pub record Lettered (ks : List Kind) : Type 0 where
   pub letters : (k : Kind) → k ∈ ks → kindOf (k .letter) ≡ letter
 
 -- no byte of the list is of the kind k
-abbrev Without : ℕ → List ℕ → Type 0
+abbrev pub Without : ℕ → List ℕ → Type 0
 Without k a = (x : ℕ) → x ∈ a → kindOf x ≡ k → ⊥
+
+pub without : (k : ℕ) (a : List ℕ) → all (λ x. not (eqb (kindOf x) k)) a ≡ true → Without k a
+without k a h x m e = eqb-false (kindOf x) k (not-true (eqb (kindOf x) k) (all-true (λ y. not (eqb (kindOf y) k)) a h x m)) e
 
 -- parts, joined by the byte s
 abbrev joined : ℕ → List (List ℕ) → List ℕ
@@ -150,6 +153,15 @@ then-some none f b e = let z : _≡_ {A = ℕ} 0 1 = cc in absurd (omega arith)
 then-some (some a) f b e = (a, refl, e)
 
 module _ (most : ℕ) (ks : List Kind) where
+  -- a part and its line feed, and what follows
+  pub part-then : (p b : List ℕ) → linesOf most ks (p ∷ split lineFeed b) ≡ lineOf most ks p ∷ textLines most ks b
+  unfolding textLines linesOf
+  part-then p b = let r = split-some lineFeed b in rw (r .2)
+
+  pub text-then : (p b : List ℕ) → Without lineFeed p → textLines most ks (p ++ (10 ∷ b)) ≡ lineOf most ks p ∷ textLines most ks b
+  unfolding textLines
+  text-then p b h = ap (linesOf most ks) (split-part lineFeed p 10 b h kind-feed) ∙ part-then p b
+
   -- written, then read
   module _ (p : 1 ≤ most) (t : Lettered ks) where
     numbers-text : (ns : List ℕ) → ((n : ℕ) → n ∈ ns → n < 10 ^ most) → numbersOf most (length ns) (map (digitsOf most) ns) ≡ some ns
@@ -176,12 +188,8 @@ module _ (most : ℕ) (ks : List Kind) where
 
     -- a line's text, and lines after it
     line-then : (l : Line) → ShapedIn ks l → (b : List ℕ) → textLines most ks (lineText most l ++ b) ≡ lineOf most ks (lineBytes most l) ∷ textLines most ks b
-    unfolding textLines linesOf lineText printed
-    line-then l s b =
-        let r = split-some lineFeed b in
-        ap (textLines most ks) (append-assoc (lineBytes most l) (10 ∷ []) b)
-        ∙ ap (linesOf most ks) (split-part lineFeed (lineBytes most l) 10 b (no-feed l s) kind-feed)
-        ∙ rw (r .2)
+    unfolding lineText printed
+    line-then l s b = ap (textLines most ks) (append-assoc (lineBytes most l) (10 ∷ []) b) ∙ text-then (lineBytes most l) b (no-feed l s)
 
     -- the text of lines reads as the lines
     pub lines-back : (ls : List Line) → AllShapedIn ks ls → ((l : Line) → l ∈ ls → Small most l) → textLines most ks (bind ls (lineText most)) ≡ map some ls

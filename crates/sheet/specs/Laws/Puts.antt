@@ -1,12 +1,12 @@
 -- Bytes written into a buffer, one run after another: a run right after a run, one byte, and the runs of the members of a list, one member more at a time.
 use mathlib.Core.Path.{_≡_, refl, sym, _∙_, ap, subst}
 use mathlib.Core.List.{List, [], _∷_, _++_}
-use Prim.Native.Nat.{ℕ, _+_, _≤_, _<_}
+use Prim.Native.Nat.{ℕ, _+_, _-_, _≤_, _<_}
 use native.Mathlib.Omega.{arith}
-use lib.ListN.{length, take, getD, set, length-append}
+use lib.ListN.{length, take, getD, set, replicate, length-append}
 use lib.Seq.{sets, length-sets, take-all}
-use Rattle.sheet.specs.Lists.{bind}
-use Rattle.sheet.specs.Laws.Stores.{sets-append}
+use Rattle.sheet.specs.Lists.{bind, filled}
+use Rattle.sheet.specs.Laws.Stores.{sets-append, sets-filled}
 use Rattle.sheet.specs.Laws.Binds.{bind-more, bind-part}
 
 -- the bytes were written from `at` on, and what is past them was kept; `next` is the position after them
@@ -46,3 +46,9 @@ pub puts-fits : {A : Type 0} (f : A → List ℕ) (d : A) (l : List A) (i : ℕ)
     → n + length (f (getD l i d)) ≤ at + length (bind l f)
 puts-fits f d l i h p =
     omega (arith, p .next-is, ap (λ (k : List ℕ). length k) (bind-more f d l i h), length-append (bind (take i l) f) (f (getD l i d)), bind-part f (i + 1) l)
+
+-- a text in a buffer of zeros
+pub puts-filled : (n : ℕ) {text out : List ℕ} {m : ℕ} → length text ≤ n → Puts text (replicate n 0) 0 out m → (out ≡ filled n text) × (m ≡ length text)
+puts-filled n {text} h p =
+    let z : n ≡ n - 0 = omega arith in
+    (p .out-is ∙ ap (λ (k : ℕ). sets (replicate k 0) 0 text) z ∙ sets-filled n [] text 0 refl (omega arith), omega (arith, p .next-is))

@@ -6,10 +6,9 @@ use Prim.Native.Nat.{ℕ}
 use native.Mathlib.Omega.{arith}
 use lib.ListN.{length, take, replicate}
 use borrow.Author.Needs.{needs}
-use Rattle.sheet.specs.Text.{printed}
+use Rattle.sheet.specs.Text.{printed, mostPrinted}
 use Rattle.sheet.specs.Laws.Stores.{take-sets}
 use Rattle.sheet.specs.Laws.Puts.{puts-as}
-use Rattle.page.specs.Page.{mostPrinted}
 use Rattle.page.proofs.offers.put_row.Statement.{statement}
 use Rattle.page.proofs.offers.put_row.Tie as tie
 

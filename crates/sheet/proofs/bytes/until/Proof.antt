@@ -7,7 +7,7 @@ use native.Mathlib.Omega.{arith}
 use lib.ListN.{length, drop}
 use borrow.Author.Needs.{needs}
 use Rattle.sheet.specs.Inner.{spanOf}
-use Rattle.sheet.proofs.Parts.{span-stop, span-more, span-end}
+use Rattle.sheet.specs.Laws.Parts.{span-stop, span-more, span-end}
 use Rattle.sheet.proofs.bytes.until.Statement.{statement}
 use Rattle.sheet.proofs.bytes.until.Tie as tie
 

@@ -46,7 +46,7 @@ use denote.Triple.Clauses.{ensured, lasts}
 use Rattle.sheet.specs.LineEnds.{EndsAt}
 use Rattle.sheet.specs.declared.line_reader.LineReader.{LineReader}
 use Rattle.sheet.specs.declared.line_reader.LineEnd.the-variants.{At}
-use Rattle.sheet.proofs.LineEnding.{end-inside}
+use Rattle.sheet.specs.Laws.LineEnding.{end-inside}
 use Rattle.sheet.proofs.line_reader.LineReader as T
 use Rattle.sheet.proofs.line_reader.LineReader.Laws as T′
 use Rattle.sheet.proofs.line_reader.after_feed as callee

@@ -1,7 +1,7 @@
 -- `sheet::line_reader::end_at` meets its contract: nothing is left, the line feed is missing, or it is where `until` finds it.
 -- Assumes nothing.
 use borrow.Author.Needs.{needs}
-use Rattle.sheet.proofs.LineEnding.{finds-over, finds-missing, finds-feed}
+use Rattle.sheet.specs.Laws.LineEnding.{finds-over, finds-missing, finds-feed}
 use Rattle.sheet.proofs.line_reader.end_at.Statement.{statement}
 use Rattle.sheet.proofs.line_reader.end_at.Tie as tie
 

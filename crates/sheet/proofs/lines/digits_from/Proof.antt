@@ -13,7 +13,7 @@ use Rattle.sheet.specs.Decimal.{digitsFrom}
 use Rattle.sheet.specs.Inner.{spanOf, fieldFrom}
 use Rattle.sheet.specs.Laws.Decimal.{digit-byte}
 use Rattle.sheet.proofs.Digits.{no-comma, reads-on, digits-many, digits-stop, digits-over}
-use Rattle.sheet.proofs.Parts.{span-more}
+use Rattle.sheet.specs.Laws.Parts.{span-more}
 use Rattle.sheet.proofs.lines.digits_from.Statement.{statement}
 use Rattle.sheet.proofs.lines.digits_from.Tie as tie
 

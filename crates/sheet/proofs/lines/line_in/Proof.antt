@@ -8,7 +8,7 @@ use lib.ListN.{length}
 use borrow.Author.Needs.{needs}
 use Rattle.sheet.specs.Bytes.{comma}
 use Rattle.sheet.specs.Inner.{spanOf}
-use Rattle.sheet.proofs.Parts.{span-le}
+use Rattle.sheet.specs.Laws.Parts.{span-le}
 use Rattle.sheet.proofs.LineLaws.{forms-widths, line-not-one, line-unknown, letter-below, line-known}
 use Rattle.sheet.proofs.lines.line_in.Statement.{statement}
 use Rattle.sheet.proofs.lines.line_in.Tie as tie

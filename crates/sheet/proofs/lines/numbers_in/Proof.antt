@@ -14,7 +14,7 @@ use Rattle.sheet.specs.Bytes.{comma}
 use Rattle.sheet.specs.Lines.{numbersOf}
 use Rattle.sheet.specs.Inner.{partsFrom, asNumbers}
 use Rattle.sheet.specs.declared.lines.Parsed.{Parsed}
-use Rattle.sheet.proofs.Parts.{span-le}
+use Rattle.sheet.specs.Laws.Parts.{span-le}
 use Rattle.sheet.proofs.Fields.{soFar, so-missing, so-bad, so-more, so-extra, so-all, onto-none}
 use Rattle.sheet.proofs.lines.numbers_in.Statement.{statement}
 use Rattle.sheet.proofs.lines.numbers_in.Tie as tie

@@ -52,7 +52,7 @@ use denote.Triple.Walked.{says, needs, Stays, stay-none, stay-none-slice, stay-s
 use denote.Exit.{yes}
 use denote.Triple.Clauses.{Lasts, ensured, lasts}
 use Rattle.sheet.specs.Kinds.{kinds}
-use Rattle.sheet.specs.Inner.{Forms}
+use Rattle.sheet.specs.Forms.{Forms}
 use Rattle.sheet.specs.LineEnds.{EndIs, EndsAt, ReadUpTo, OverIs, TurnIs}
 use Rattle.sheet.specs.declared.line_reader.LineReader.{LineReader}
 use Rattle.sheet.specs.declared.line_reader.LineEnd.{LineEnd}
@@ -60,7 +60,7 @@ use Rattle.sheet.specs.declared.line_reader.LineEnd.the-variants.{At as 
 use Rattle.sheet.specs.declared.reader.FormsOfLines.{FormsOfLines}
 use Rattle.sheet.specs.declared.reader.Turn.{Turn}
 use Rattle.sheet.proofs.Again.{LentAgain, lends-again, comes-back}
-use Rattle.sheet.proofs.LineEnding.{end-inside}
+use Rattle.sheet.specs.Laws.LineEnding.{end-inside}
 use Rattle.sheet.proofs.line_reader.LineReader as R
 use Rattle.sheet.proofs.line_reader.LineReader.Laws as R′
 use Rattle.sheet.proofs.line_reader.LineEnd as E

@@ -9,7 +9,7 @@ use borrow.Author.Tests.{not-true, not-false}
 use Rattle.sheet.specs.LineEnds.{EndIs}
 use Rattle.sheet.specs.declared.line_reader.LineEnd.{LineEnd}
 use Rattle.sheet.specs.declared.line_reader.LineEnd.the-variants.{At}
-use Rattle.sheet.proofs.LineEnding.{end-inside}
+use Rattle.sheet.specs.Laws.LineEnding.{end-inside}
 use Rattle.sheet.proofs.Reading.{stored-few, turn-over, turn-cut, turn-bad, turn-fault, turn-taken}
 use Rattle.sheet.proofs.reader.take_next.Statement.{statement}
 use Rattle.sheet.proofs.reader.take_next.Tie as tie

@@ -1,11 +1,11 @@
--- `plan::read_sheet` meets its contract: the count of bytes read stays within the buffer, and each turn leaves fewer to read.
+-- `input::read_input` meets its contract: the count of bytes read stays within the buffer, and each turn leaves fewer to read.
 -- Assumes nothing.
 use Prim.Native.Nat.{_≤_, _-_}
 use mathlib.Core.Path.{_≡_}
 use lib.ListN.{length}
 use borrow.Author.Needs.{needs}
-use Rattle.plan.proofs.read_sheet.Statement.{statement}
-use Rattle.plan.proofs.read_sheet.Tie as tie
+use Rattle.input.proofs.read_input.Statement.{statement}
+use Rattle.input.proofs.read_input.Tie as tie
 
 abbrev Inv-loop : tie.InvT-loop
 Inv-loop buffer₀ n₀ buffer n = (length buffer ≡ length buffer₀) × (n ≤ length buffer)
@@ -67,8 +67,8 @@ same-length-3 c = search needs
 returns-3 : tie.Need-returns-3 Inv-loop μ-loop
 returns-3 c = search needs
 
-pub read-sheet-spec : {M : Type 1} → statement M
-read-sheet-spec =
+pub read-input-spec : {M : Type 1} → statement M
+read-input-spec =
     tie.close
     (tie.spec
     Inv-loop

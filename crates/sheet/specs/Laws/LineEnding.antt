@@ -1,25 +1,26 @@
 -- Where the line from a position on ends: the lines of what is left of a text go by what the search for the line feed finds.
--- Assumes nothing.
+-- A line that ends inside a text stays as it is, whatever may follow the text.
 use mathlib.Core.Path.{_≡_, refl, sym, _∙_, ap, subst}
-use mathlib.Core.Logic.{_≢_}
+use mathlib.Core.Logic.{_≢_, _⊎_, inl, inr, ⊎-elim}
 use mathlib.Core.Bool.{Bool, true, false}
-use mathlib.Core.List.{List, [], _∷_}
-use mathlib.Core.Option.{none}
+use mathlib.Core.List.{List, [], _∷_, _++_}
+use mathlib.Core.Option.{Option, none}
 use Prim.Native.Nat.{ℕ, suc, _+_, _-_, _≤_, _<_}
 use native.Mathlib.Omega.{arith}
 use lib.Dec.{leb, eqb}
-use lib.ListN.{length, take, drop, length-drop, drop-of-length-le}
+use lib.ListN.{length, take, drop, length-append, length-drop, drop-of-length-le}
 use lib.Seq.{take-all, drop-drop}
 use borrow.Author.Tests.{leb-true, leb-false, eqb-false, le-leb, lt-leb, eq-eqb, ne-eqb}
 use Rattle.sheet.specs.Lists.{pick}
-use Rattle.sheet.specs.Bytes.{lineFeed, split}
+use Rattle.sheet.specs.Bytes.{kindOf, lineFeed, onto, split}
 use Rattle.sheet.specs.Kinds.{Kind}
-use Rattle.sheet.specs.Lines.{lineOf, linesOf, textLines}
+use Rattle.sheet.specs.Lines.{Line, lineOf, linesOf, textLines}
 use Rattle.sheet.specs.Inner.{spanOf}
 use Rattle.sheet.specs.LineEnds.{feedFrom, lineEndAt, EndIs}
 use Rattle.sheet.specs.declared.line_reader.LineEnd.{LineEnd}
 use Rattle.sheet.specs.declared.line_reader.LineEnd.the-variants.{At, Missing, Over}
-use Rattle.sheet.proofs.Parts.{span-le, parts-none, parts-here, split-step}
+use Rattle.sheet.specs.Laws.LineText.{part-then}
+use Rattle.sheet.specs.Laws.Parts.{span-le, parts-none, parts-here, split-step}
 
 unended : (most : ℕ) (ks : List Kind) (s : List ℕ) → 1 ≤ length s → linesOf most ks (s ∷ []) ≡ none ∷ []
 unfolding linesOf
@@ -88,3 +89,43 @@ module _ (src : List ℕ) (at : ℕ) where
           found = rw (lt-leb (length src) at h, ne-eqb (feedFrom src at) (length src) (λ z. q (d ∙ z))) (ap At d);
           lines = λ most ks. text-line most ks (drop at src) l ∙ rw (drop-drop (suc (spanOf lineFeed (drop at src))) at src, m, n);
         }
+
+-- the parts of a text b, by what may follow it: the first is p and ends inside b, and t is what is left of b; or it holds all of b
+abbrev Front : ℕ → List ℕ → (List ℕ → List (List ℕ)) → Type 0
+Front k b parts =
+    ((p t : List ℕ) × (length b ≡ length p + suc (length t)) × ((r : List ℕ) → parts r ≡ p ∷ split k (t ++ r)))
+    ⊎ ((r : List ℕ) → (q : List ℕ) × (ps : List (List ℕ)) × (parts r ≡ (b ++ q) ∷ ps))
+
+split-front : (k : ℕ) (b : List ℕ) → Front k b (λ r. split k (b ++ r))
+unfolding split
+split-front k [] = inr (λ r. (_, _, split-step k r))
+split-front k (x ∷ b) = go (eqb (kindOf x) k) (split-front k b)
+  where
+    go : (o : Bool) → Front k b (λ r. split k (b ++ r)) → Front k (x ∷ b) (λ r. pick o ([] ∷ split k (b ++ r)) (onto x (split k (b ++ r))))
+    go true s = inl ([], b, omega arith, λ r. refl)
+    go false (inl s) = inl (x ∷ s .0, s .1, omega (arith, s .2), λ r. ap (onto x) (s .3 r))
+    go false (inr f) = inr (λ r. (f r .0, f r .1, ap (onto x) (f r .2)))
+
+-- texts that more may follow
+module _ (most : ℕ) (ks : List Kind) where
+  -- whatever may follow, the text b begins with the line p and its line feed, and goes on with t
+  pub record Begins (b p t : List ℕ) : Type 0 where
+    pub longer : length b ≡ length p + suc (length t)
+    pub lines : (r : List ℕ) → textLines most ks (b ++ r) ≡ lineOf most ks p ∷ textLines most ks (t ++ r)
+
+  -- whatever may follow, test 2 refuses the first line
+  pub record Refused (b : List ℕ) : Type 0 where
+    pub lines : (r : List ℕ) → (ls : List (Option Line)) × (textLines most ks (b ++ r) ≡ none ∷ ls)
+
+  -- a text that no line begins with: its first line ends inside it, or is refused
+  pub text-front : (b : List ℕ) → 1 ≤ length b → ((q : List ℕ) → lineOf most ks (b ++ q) ≡ none) → ((p t : List ℕ) × Begins b p t) ⊎ Refused b
+  unfolding textLines linesOf
+  text-front b h n =
+      ⊎-elim
+      (λ s. inl (s .0, s .1, record { longer = s .2; lines = λ r. ap (linesOf most ks) (s .3 r) ∙ part-then most ks (s .0) (s .1 ++ r) }))
+      (λ f. inr (record { lines = λ r. let l = past (f r .0) (f r .1) in (l .0, ap (linesOf most ks) (f r .2) ∙ l .1) }))
+      (split-front lineFeed b)
+    where
+      past : (q : List ℕ) (ps : List (List ℕ)) → (ls : List (Option Line)) × (linesOf most ks ((b ++ q) ∷ ps) ≡ none ∷ ls)
+      past q [] = ([], unended most ks (b ++ q) (omega (arith, length-append b q)))
+      past q (p ∷ ps) = (linesOf most ks (p ∷ ps), ap (λ (o : Option Line). o ∷ linesOf most ks (p ∷ ps)) (n q))

@@ -1,5 +1,4 @@
 -- Laws of the parts between the bytes of a kind, and of the search for the first byte of it.
--- Assumes nothing.
 use mathlib.Core.Bool.{Bool, true, false}
 use mathlib.Core.Path.{_≡_, refl, _∙_}
 use mathlib.Core.List.{List, [], _∷_}

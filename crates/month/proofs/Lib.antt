@@ -1,0 +1,4 @@
+pub mod Holding
+pub mod Taking
+pub mod Reading
+pub mod Printing

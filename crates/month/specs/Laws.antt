@@ -1,0 +1,5 @@
+pub mod Mean
+pub mod Figures
+pub mod Page
+pub mod Cut
+pub mod Served

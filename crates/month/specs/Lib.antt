@@ -1,0 +1,4 @@
+pub mod Month
+pub mod Inner
+pub mod Laws
+pub mod Examples
