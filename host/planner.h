@@ -24,7 +24,7 @@
  * The costs handed back, one for each journey driven, make a month. The program of bin/month, which is not in the
  * archive, takes them as lines `M,c1,c2,c3`, 1 to 4,096 of them, each figure 0 to 15,300,000, the most that a journey
  * can cost, and prints for each figure, 1 to 3, a line `A,figure,total,least,greatest,mean`: all exact but the mean,
- * the nearest whole number, a half going up.
+ * the nearest whole number, a half going to the even neighbour.
  *
  * Holds for every call:
  * - An array is passed as a pointer and a length, the count of its elements. A pointer is never null, not even where

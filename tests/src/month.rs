@@ -1,5 +1,5 @@
-// The reference for the page of a month, written from document 02, E3, alone: the costs of the journeys driven as lines
-// `M,c1,c2,c3`, and for each figure one line `A,figure,total,least,greatest,mean`.
+// The reference for the page of a month, written from document 02, E3 and E7, alone: the costs of the journeys driven as
+// lines `M,c1,c2,c3`, and for each figure one line `A,figure,total,least,greatest,mean`.
 
 use crate::page::line_of;
 
@@ -64,9 +64,9 @@ fn figure_line(figure: usize, costs: &[[u128; 3]]) -> String {
     line_of('A', &[figure as u128, total, values[0], values[values.len() - 1], mean_of(total, count)])
 }
 
-/// The whole number nearest to the mean of so many values; of two that are equally near the greater.
+/// The whole number nearest to the mean of so many values; of two that are equally near the even one.
 fn mean_of(total: u128, count: u128) -> u128 {
     let below = total / count;
-    let distance = |mean: u128| (mean * count).abs_diff(total);
-    if distance(below) < distance(below + 1) { below } else { below + 1 }
+    let rank = |mean: u128| ((mean * count).abs_diff(total), mean % 2);
+    if rank(below) < rank(below + 1) { below } else { below + 1 }
 }

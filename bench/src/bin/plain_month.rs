@@ -41,7 +41,7 @@ fn page_of(month: &[u8]) -> String {
         Err((refusal, line)) => return format!("R,{refusal},{line}\n"),
     };
     let line = |(number, Figure { total, least, greatest }): (usize, Figure)| {
-        let mean = (2 * total + lines) / (2 * lines);
+        let mean = (total as f64 / lines as f64).round_ties_even();
         format!("A,{},{total},{least},{greatest},{mean}\n", number + 1)
     };
     figures.into_iter().enumerate().map(line).collect()

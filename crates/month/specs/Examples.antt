@@ -1,4 +1,4 @@
--- Small months at the ends of the sentences of document 02, E3, computed: from the bytes on standard input to the bytes printed, one table, one theorem.
+-- Small months at the ends of the sentences of E3 and E7, document 02, computed: from the bytes on standard input to those printed, one table, one theorem.
 -- Laws/Cut.antt has the 4,097th line (`almost-page`, `almost-ended`).
 use mathlib.Core.Path.{_≡_, refl}
 use mathlib.Core.List.{List, [], _∷_, map}
@@ -15,8 +15,10 @@ shows i o = record { input = i; output = o }
 
 abbrev pub months : List Printed
 months =
-    -- 2 and 3 give 3; 0 and 1 give 1; a half at the upper end
-    shows "M,2,0,15300000\nM,3,1,15299999\n" "A,1,5,2,3,3\nA,2,1,0,1,1\nA,3,30599999,15299999,15300000,15300000\n"
+    -- 2 and 3 give 2; 0 and 1 give 0; a half at the upper end
+    shows "M,2,0,15300000\nM,3,1,15299999\n" "A,1,5,2,3,2\nA,2,1,0,1,0\nA,3,30599999,15299999,15300000,15300000\n"
+    -- 3 and 4 give 4; 1 and 2 give 2; a half next to the upper end
+    ∷ shows "M,3,1,15299998\nM,4,2,15299999\n" "A,1,7,3,4,4\nA,2,3,1,2,2\nA,3,30599997,15299998,15299999,15299998\n"
     -- one line
     ∷ shows "M,7,0,15300000\n" "A,1,7,7,7,7\nA,2,0,0,0,0\nA,3,15300000,15300000,15300000,15300000\n"
     -- a third goes down, two thirds go up

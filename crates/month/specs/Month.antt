@@ -1,5 +1,5 @@
--- The month on one page (document 02, E3): lines `M,c1,c2,c3`, 1 to 4,096 of them, each figure 0 to 15,300,000 in up to eight digits; for each figure one line
--- `A,figure,total,least,greatest,mean`; a refusal is `R,number,line` alone.
+-- The month on one page (document 02, E3, and the mean of E7): lines `M,c1,c2,c3`, 1 to 4,096 of them, each figure 0 to 15,300,000 in up to eight digits; for
+-- each figure one line `A,figure,total,least,greatest,mean`; a refusal is `R,number,line` alone.
 use mathlib.Core.Bool.{Bool}
 use mathlib.Core.List.{List, [], _∷_, _++_, map}
 use mathlib.Core.Option.{Option, some, none}
@@ -47,9 +47,11 @@ abbrev pub greatest : List ℕ → ℕ
 greatest [] = 0
 greatest (n ∷ ns) = let r = greatest ns in pick (leb r n) n r
 
--- the mean of n numbers of the total t: the nearest whole number, a half going up
+-- the mean of n numbers of the total t: the nearest whole number; a half goes to the even neighbour, which of q and q + 1 is q + q % 2
 unfoldable pub mean : ℕ → ℕ → ℕ
-mean t n = pick (leb n (2 * (t % n))) (suc (t / n)) (t / n)
+mean t n =
+    let q = t / n in
+    pick (eqb (2 * (t % n)) n) (q + q % 2) (pick (leb n (2 * (t % n))) (suc q) q)
 
 -- the most digits of a total: 4,096 times 15,300,000 has 11
 abbrev pub totalDigits : ℕ

@@ -1,4 +1,4 @@
-// The figures of the costs so far: total, least and greatest of each (document 02, E3), and the mean.
+// The figures of the costs so far: total, least and greatest of each (document 02, E3), and the mean (E7).
 ghost use mathlib.Core.Path.{_≡_};
 ghost use Prim.Native.Nat.{_≤_};
 ghost use lib.Dec.{leb};
@@ -39,15 +39,21 @@ pub fn add_cost(totals: &mut [u64], leasts: &mut [u32], greatests: &mut [u32], c
     }
 }
 
-// The mean of n numbers of that total: the nearest whole number, a half going up.
+// The mean of n numbers of that total: the nearest whole number, a half going to the even neighbour.
 pub fn mean_of(total: u64, n: u32) -> u64
     requires { ⌜ (total ≤ mostTotal) × (1 ≤ n) × (n ≤ mostLines) ⌝ }
     ensures { λ r. ⌜ r ≡ mean total n ⌝ }
 {
     let count = n as u64;
     let whole = total / count;
-    if count <= 2 * (total % count) {
-        return whole + 1;
+    let next = whole + 1;
+    let even = whole + whole % 2;
+    let twice = 2 * (total % count);
+    if twice == count {
+        return even;
     }
-    whole
+    if twice < count {
+        return whole;
+    }
+    next
 }

@@ -3,8 +3,8 @@
 //!
 //! `compare_months [--seed N] [--runs N]`: each run is one month in order and three damaged ones, each tenth run also a month
 //! with a line too many. The exit status is 0 if all pages agree and each refusal number, also of the 4,097th line,
-//! count of lines, way to draw figures, length, kind of damage, remainder of a mean, size of a total, and place of the least
-//! and the greatest came up often.
+//! count of lines, way to draw figures, length, kind of damage, remainder of a mean, neighbour of a half, size of a total,
+//! and place of the least and the greatest came up often.
 
 use planner_tests::cases::month_cases;
 use planner_tests::damage::of_months::MONTH_DAMAGES;
@@ -32,15 +32,17 @@ const DECIDING: usize = 29 * (MOST_LINES + 1);
 /// The lengths of months that must come up.
 const LENGTHS: [&str; 3] = ["fewer than 118,813 bytes", "118,813 bytes", "more"];
 
-/// The means that must come up, by where they lie between two whole numbers, and the totals.
+/// The means that must come up, by where they lie between two whole numbers, those at a half by the even neighbour, and the
+/// totals.
 const MEANS: [&str; 4] = ["whole", "nearer to the lower", "at a half", "nearer to the upper"];
+const HALVES: [&str; 4] = ["to the lower", "to the upper", "of 4,096 lines, to the lower", "of 4,096, to the upper"];
 const TOTALS: [&str; 2] = ["of up to 32 bits", "of more"];
 
 /// The lines that must come up as the only ones with the least or with the greatest.
 const EXTREMES: [&str; 4] = ["least first", "least last", "greatest first", "greatest last"];
 
 /// How many months met each refusal number, at any line and at the 4,097th, each count of lines, way to draw figures, length
-/// and kind of damage, and how many figures met each kind of mean, total and extreme.
+/// and kind of damage, and how many figures met each kind of mean, half, total and extreme.
 #[derive(Default)]
 struct Tally {
     refusals: ByRefusal,
@@ -50,6 +52,7 @@ struct Tally {
     lengths: Tallies<{ LENGTHS.len() }>,
     damages: Tallies<{ MONTH_DAMAGES.len() }>,
     means: Tallies<{ MEANS.len() }>,
+    halves: Tallies<{ HALVES.len() }>,
     totals: Tallies<{ TOTALS.len() }>,
     extremes: Tallies<{ EXTREMES.len() }>,
 }
@@ -79,6 +82,7 @@ fn counts(tally: &Tally) -> Vec<Counts> {
         Counts::of("lengths of months", &LENGTHS, &tally.lengths),
         Counts::of("damage to months", &MONTH_DAMAGES, &tally.damages),
         Counts::of("means of pages that are served", &MEANS, &tally.means),
+        Counts::of("means at a half", &HALVES, &tally.halves).once_in(400),
         Counts::of("totals of pages that are served", &TOTALS, &tally.totals),
         Counts::of("the only extremes of two lines or more", &EXTREMES, &tally.extremes),
     ]
@@ -135,6 +139,9 @@ fn count_figure(values: &[u128], tally: &mut Tally) {
     let [total, count] = [values.iter().sum(), values.len() as u128];
     let remainder = total % count;
     tally.means[if remainder == 0 { 0 } else { 1 + side(2 * remainder, count) }] += 1;
+    if 2 * remainder == count {
+        tally.halves[2 * usize::from(values.len() == MOST_LINES) + (total / count % 2) as usize] += 1;
+    }
     tally.totals[usize::from(total >> 32 > 0)] += 1;
     let [first, last] = [values[0], values[values.len() - 1]];
     let extremes = [
