@@ -15,6 +15,7 @@ pub mod index; // index.rt: where the rows of a place and step stand
 pub mod offers; // offers.rt: costs offered to the rows of a place and step
 pub mod expand; // expand.rt: every cost of entering a place at a step
 pub mod select; // select.rt: the rows of a place and step, one after another
+pub mod watch; // watch.rt: which places are looked at at a step
 pub mod live; // live.rt: rows that are looked at no more
 pub mod fill; // fill.rt: all rows, place by place and step by step
 

@@ -2,10 +2,11 @@
 use mathlib.Core.Path.{_≡_}
 use mathlib.Core.Bool.{Bool, true, false, _&&_}
 use mathlib.Core.List.{List}
-use Prim.Native.Nat.{ℕ, _+_, _*_, _≤_, _<_}
+use Prim.Native.Nat.{ℕ, _+_, _*_, _≤_, _<_, _/_}
 use lib.Dec.{leb, eqb}
 use lib.ListN.{length}
 use Rattle.sheet.specs.Lists.{pick, number}
+use Rattle.intervals.specs.Sets.{Has, Kept}
 
 -- line k occupies place v at step t
 abbrev pub coversb : List ℕ → ℕ → ℕ → ℕ → Bool
@@ -49,3 +50,11 @@ pub record InRun (since : List ℕ) (v a t : ℕ) : Type 0 where
 pub record FilledRun (v a : ℕ) (before after : List ℕ) : Type 0 where
   pub hit : (t : ℕ) → t < 256 → InRun before v a t → entry after v t ≡ a + 1
   pub kept : (w t : ℕ) → w < 64 → t < 256 → (w ≡ v → InRun before v a t → ⊥) → entry after w t ≡ entry before w t
+
+-- the place of each of the first n lines is in the set of the step after its last
+pub record Followed (occupancies : List ℕ) (n : ℕ) (before after : List ℕ) : Type 0 where
+  pub kept : Kept before after
+  pub own : (k : ℕ) → k < n → Has (number after (number occupancies (k * 3 + 2) + 1)) (number occupancies (k * 3))
+
+abbrev pub FollowedBy : List ℕ → List ℕ → List ℕ → Type 0
+FollowedBy occupancies = Followed occupancies (length occupancies / 3)

@@ -15,6 +15,7 @@ use sheet::kinds::O_LINE;
 use sheet::kinds::OCCUPANCY;
 
 pub mod stays; // stays.rt: from which steps a place stays free for a while
+pub mod sets; // sets.rt: sets of places, and the places of which a free run begins
 
 // Sets every entry to 0.
 fn clear(since: &mut [u16])

@@ -1,42 +1,15 @@
 -- `intervals::derive` meets its contract: the occupancies of the sheet stand at their base in the array.
 -- Assumes nothing.
-use mathlib.Core.Path.{_≡_, sym, _∙_, ap, subst}
+use mathlib.Core.Path.{sym, subst}
 use mathlib.Core.List.{List}
-use Prim.Native.Nat.{ℕ, _+_, _*_, _-_, _≤_, _%_}
+use Prim.Native.Nat.{ℕ}
 use native.Mathlib.Omega.{arith}
-use lib.ListN.{length, take, drop}
 use borrow.Author.Needs.{needs}
-use Rattle.sheet.specs.Lists.{number}
-use Rattle.sheet.specs.Kinds.{width, kindO}
-use Rattle.sheet.specs.Store.{baseOf, partOf, SomeStore}
-use Rattle.sheet.specs.Laws.Rows.{flat-length, flat-whole}
-use Rattle.sheet.specs.Laws.Store.{store-counts, store-few, store-part, store-wide, store-valid}
+use Rattle.sheet.specs.Laws.Store.{store-counts}
 use Rattle.intervals.specs.FirstSteps.{ValidGroup, SinceTable}
+use Rattle.intervals.proofs.Occupancies.{few, inside, part, group}
 use Rattle.intervals.proofs.derive.Statement.{statement}
 use Rattle.intervals.proofs.derive.Tie as tie
-
-module _ (lines all : List ℕ) (q : SomeStore lines all) where
-  few : number lines (kindO .order) ≤ 256
-  few = store-few (q .store) (kindO .order) (omega arith) .0
-
-  inside : baseOf (kindO .order) + number lines (kindO .order) * width kindO ≤ length all
-  inside = store-few (q .store) (kindO .order) (omega arith) .1
-
-  part : partOf lines all (kindO .order) ≡ take (baseOf (kindO .order) + number lines (kindO .order) * width kindO - baseOf (kindO .order)) (drop (baseOf (kindO .order)) all)
-  part = let e : number lines (kindO .order) * width kindO ≡ baseOf (kindO .order) + number lines (kindO .order) * width kindO - baseOf (kindO .order) = omega arith in ap (λ (n : ℕ). take n (drop (baseOf (kindO .order)) all)) e
-
-  group : ValidGroup (partOf lines all (kindO .order))
-  group =
-      let s = q .sheet in
-      let v = store-valid (q .store) in
-      let w = store-wide (q .store) (kindO .order) (omega arith) in
-      let e = store-part (q .store) (kindO .order) (omega arith) in
-      record {
-        most = omega (arith, ap length e, flat-length (width kindO) (s .occupancies) w, q .store .valid .most-occupancies);
-        whole = ap (λ (l : List ℕ). length l % width kindO) e ∙ flat-whole (width kindO) (s .occupancies) w;
-        place = λ o m. omega (arith, v .occupancies o m .place, v .most-places);
-        step = λ o m. v .occupancies o m .in-day;
-      }
 
 shared-slice-read-e : tie.Need-shared-slice-read-e
 shared-slice-read-e c = omega (arith, store-counts (c .before .before .before .pre .store))
