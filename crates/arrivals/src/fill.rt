@@ -2,10 +2,7 @@
 use crate::expand::from_links;
 use crate::index::INDEX;
 use crate::index::Span;
-use crate::index::mark_next;
 use crate::index::note;
-use crate::index::rests;
-use crate::live::is_somewhere_dear;
 use crate::live::settle;
 use crate::network::Here;
 use crate::network::places_of;
@@ -16,7 +13,11 @@ use crate::rows::clear;
 use crate::rows::clear_from;
 use crate::rows::push_row;
 use crate::select::fill_place;
+use crate::watch::is_somewhere_dear;
+use crate::watch::led_on;
+use crate::watch::step_set;
 use intervals::first_step;
+use intervals::sets::next_in;
 use sheet::Place;
 use sheet::Step;
 ghost use mathlib.Core.Bool.{true};
@@ -24,10 +25,10 @@ ghost use Prim.Native.Nat.{_+_, _≤_, _<_};
 ghost use lib.ListN.{length};
 ghost use Rattle.arrivals.specs.Inner.Network.{placesOf, caseOf, Vacant};
 ghost use Rattle.arrivals.specs.Inner.Lent.{Given};
-ghost use Rattle.arrivals.specs.Inner.Filling.{Visiting, Visited, Result};
+ghost use Rattle.arrivals.specs.Inner.Filling.{Visiting, Visited, Grown, Result};
 ghost use Rattle.arrivals.specs.Inner.Index.{Indexed};
-ghost use Rattle.arrivals.specs.Inner.Due.{Due, IndexedShort, Stepping, Fast};
-ghost use Rattle.arrivals.specs.Inner.Walking.{Walking, Walkable, IdleIs, PassedTo};
+ghost use Rattle.arrivals.specs.Inner.Due.{IndexedShort, Stepping, Fast, Watching, Onward, SteppedOn};
+ghost use Rattle.arrivals.specs.Inner.Walking.{Walking, PassedTo};
 ghost use Rattle.arrivals.specs.Inner.Ending.{Ends};
 
 // Fills in place v at step t: every offer is judged once; where the room runs out on the way, as fill_place does.
@@ -80,35 +81,23 @@ pub fn fill_slow(
     fill_place(table, n, net, runs, here)
 }
 
-// Is place v to be passed over at step t: is it occupied, or does the pruning rule spare every row?
-pub fn is_idle(table: &[u32], ix: &[u32], net: &[u32], runs: &[u16], v: Place, t: Step) -> bool
-    requires { ⌜ (Walkable (now runs) (now net) (now table) (now ix) (t .0)) × (v .0 < placesOf (now net)) ⌝ }
-    ensures { λ r. ⌜ IdleIs (now (runs .entry)) (now (net .entry)) (now (table .entry)) (now (ix .entry)) (v .0) (t .0) r ⌝ }
-{
-    let since = first_step(runs, v, t);
-    if since.0 == t.0 {
-        return false;
-    }
-    if table.len() <= 41943039 {
-        if rests(ix, net, v, t) {
-            return true;
-        }
-    }
-    t.0 < since.0
-}
-
-// The first place from v on that is to be filled in at step t, or the number of places where there is none.
-pub fn next_place(table: &[u32], ix: &[u32], net: &[u32], runs: &[u16], v: u32, t: Step) -> u32
-    requires { ⌜ Walkable (now runs) (now net) (now table) (now ix) (t .0) ⌝ }
-    ensures { λ r. ⌜ PassedTo (now (runs .entry)) (now (net .entry)) (now (table .entry)) (now (ix .entry)) v (t .0) r ⌝ }
+// The first place from v on that is looked at at step t and free then, or the number of places where there is none.
+pub fn next_place(set: u64, net: &[u32], runs: &[u16], v: u32, t: Step) -> u32
+    requires { ⌜ (Given (now runs) (now net)) × (t .0 ≤ 255) ⌝ }
+    ensures { λ r. ⌜ PassedTo (now (runs .entry)) (now (net .entry)) set v (t .0) r ⌝ }
 {
     let places = places_of(net);
     let mut u = v;
     while u < places {
-        if !is_idle(table, ix, net, runs, Place(u), t) {
-            return u;
+        let w = next_in(set, u);
+        if places <= w {
+            return places;
         }
-        u += 1;
+        let since = first_step(runs, Place(w), t);
+        if since.0 <= t.0 {
+            return w;
+        }
+        u = w + 1;
     }
     u
 }
@@ -125,7 +114,8 @@ pub fn visit(
 ) -> Outcome
     requires { ⌜ (Walking (now runs) (now net) (now table) (now ix) n (v .0) (t .0)) × (v .0 < placesOf (now net))
         × (Vacant (caseOf (now runs) (now net)) (v .0) (t .0)) ⌝ }
-    ensures { λ r. ⌜ Stepping (now (runs .entry)) (now (net .entry)) (now (table .exit)) (now (ix .exit)) (t .0) (t .0) (v .0 + 1) r ⌝ }
+    ensures { λ r. ⌜ (Stepping (now (runs .entry)) (now (net .entry)) (now (table .exit)) (now (ix .exit)) (t .0) (t .0) (v .0 + 1) r)
+        × (Grown (now (table .entry)) (now (table .exit)) n (r .rows) (v .0) (t .0)) ⌝ }
 {
     if 41943039 < table.len() {
         return fill_slow(table, n, net, runs, v, t);
@@ -135,59 +125,82 @@ pub fn visit(
     let rows = r.rows;
     if n < rows {
         note(ix, Span { lo: n, hi: rows }, v, t);
-        mark_next(ix, net, v, Step(t.0 + 1));
     }
     Outcome { ok, rows }
 }
 
-// Fills in step t. `dear` tells whether waiting is dearer somewhere than where a corridor comes from: then rows are undercut at almost every step.
+// How a step ends: with its rows and the places that corridors lead to from them, or with more rows than there is room for.
+pub struct Stepped {
+    pub ok: bool,
+    pub rows: usize,
+    pub next: u64,
+}
+
+// Fills in step t, where corridors lead to `next` from the rows of the step before.
 pub fn fill_step(
     table: &mut [u32],
     rows: usize,
     ix: &mut [u32],
+    sets: &[u64],
     net: &[u32],
     runs: &[u16],
     t: Step,
-    dear: bool,
-) -> Outcome
-    requires { ⌜ (Visiting (now runs) (now net) (now table) rows 0 (t .0)) × (IndexedShort (now table) rows (now ix) (t .0) (t .0) (now net)) ⌝ }
-    ensures { λ r. ⌜ Stepping (now (runs .entry)) (now (net .entry)) (now (table .exit)) (now (ix .exit)) (t .0) (t .0 + 1) 0 r ⌝ }
+    next: u64,
+) -> Stepped
+    requires { ⌜ (Visiting (now runs) (now net) (now table) rows 0 (t .0)) × (IndexedShort (now table) rows (now ix) (t .0) (t .0) (now net))
+        × (Watching (now runs) (now net) (now sets)) × (Onward (now net) (now table) rows (t .0) next) ⌝ }
+    ensures { λ r. ⌜ SteppedOn (now (runs .entry)) (now (net .entry)) (now (table .exit)) (now (ix .exit)) (t .0) r ⌝ }
 {
+    let set = step_set(sets, next, t);
     let places = places_of(net);
     let mut n = rows;
-    let mut v = next_place(table, ix, net, runs, 0, t);
+    let mut onward = 0u64;
+    let mut v = next_place(set, net, runs, 0, t);
     while v < places {
         let r = visit(table, n, ix, net, runs, Place(v), t);
         let ok = r.ok;
-        n = r.rows;
+        let m = r.rows;
         if !ok {
-            return Outcome { ok: false, rows: n };
+            return Stepped {
+                ok: false,
+                rows: m,
+                next: 0,
+            };
         }
-        v = next_place(table, ix, net, runs, v + 1, t);
+        onward = led_on(sets, onward, Place(v), n, m);
+        n = m;
+        v = next_place(set, net, runs, v + 1, t);
     }
-    settle(table, ix, net, runs, t, dear);
-    Outcome { ok: true, rows: n }
+    settle(table, ix, net, runs, t, is_somewhere_dear(sets));
+    Stepped {
+        ok: true,
+        rows: n,
+        next: onward,
+    }
 }
 
-// Fills in every step to the last.
+// Fills in every step to the last. At step 1 every place is looked at.
 pub fn fill_steps(
     table: &mut [u32],
     rows: usize,
     ix: &mut [u32],
+    sets: &[u64],
     net: &[u32],
     runs: &[u16],
     last: Step,
-    dear: bool,
 ) -> Outcome
-    requires { ⌜ (Visiting (now runs) (now net) (now table) rows 0 1) × (IndexedShort (now table) rows (now ix) 0 1 (now net)) × (last .0 ≤ 255) ⌝ }
+    requires { ⌜ (Visiting (now runs) (now net) (now table) rows 0 1) × (IndexedShort (now table) rows (now ix) 0 1 (now net)) × (last .0 ≤ 255)
+        × (Watching (now runs) (now net) (now sets)) ⌝ }
     ensures { λ r. ⌜ Result (caseOf (now (runs .entry)) (now (net .entry))) (now (table .exit)) (last .0 + 1) 0 (r .ok) (r .rows) ⌝ }
 {
     let mut n = rows;
     let mut t = 1;
+    let mut next = 18446744073709551615u64;
     while t <= last.0 {
-        let r = fill_step(table, n, ix, net, runs, Step(t), dear);
+        let r = fill_step(table, n, ix, sets, net, runs, Step(t), next);
         let ok = r.ok;
         n = r.rows;
+        next = r.next;
         if !ok {
             return Outcome { ok: false, rows: n };
         }
@@ -198,7 +211,7 @@ pub fn fill_steps(
 
 // The row of the start, where that is free at step 0.
 pub fn first_row(table: &mut [u32], ix: &mut [u32], net: &[u32], runs: &[u16]) -> Outcome
-    requires { ⌜ (Given (now runs) (now net)) × (Indexed (now table) 0 (now ix) 0) × (Due (now net) (now ix)) ⌝ }
+    requires { ⌜ (Given (now runs) (now net)) × (Indexed (now table) 0 (now ix) 0) ⌝ }
     ensures { λ r. ⌜ Stepping (now (runs .entry)) (now (net .entry)) (now (table .exit)) (now (ix .exit)) 0 1 0 r ⌝ }
 {
     let start = start_of(net);
@@ -211,13 +224,12 @@ pub fn first_row(table: &mut [u32], ix: &mut [u32], net: &[u32], runs: &[u16]) -
     }
     push_row(table, 0, start, Step(0), [0; 3]);
     note(ix, Span { lo: 0, hi: 1 }, start, Step(0));
-    mark_next(ix, net, start, Step(1));
     Outcome { ok: true, rows: 1 }
 }
 
 // All the rows of the search, after which the table is as it was, or more of them than there is room for.
-pub fn search_all(table: &mut [u32], net: &[u32], runs: &[u16], last: Step) -> Outcome
-    requires { ⌜ (Given (now runs) (now net)) × (last .0 ≤ 255) ⌝ }
+pub fn search_all(table: &mut [u32], sets: &[u64], net: &[u32], runs: &[u16], last: Step) -> Outcome
+    requires { ⌜ (Given (now runs) (now net)) × (last .0 ≤ 255) × (Watching (now runs) (now net) (now sets)) ⌝ }
     ensures { λ r. ⌜ Result (caseOf (now (runs .entry)) (now (net .entry))) (now (table .exit)) (last .0 + 1) 0 (r .ok) (r .rows) ⌝ }
 {
     let mut ix = [0; INDEX];
@@ -225,18 +237,17 @@ pub fn search_all(table: &mut [u32], net: &[u32], runs: &[u16], last: Step) -> O
     let ok = r.ok;
     let rows = r.rows;
     if ok {
-        let dear = is_somewhere_dear(net);
-        return fill_steps(table, rows, &mut ix, net, runs, last, dear);
+        return fill_steps(table, rows, &mut ix, sets, net, runs, last);
     }
     Outcome { ok: false, rows }
 }
 
 // All the rows of the search, and zeros after them; or zeros alone where there is no room.
-pub fn fill(table: &mut [u32], net: &[u32], runs: &[u16], last: Step) -> Outcome
-    requires { ⌜ (Given (now runs) (now net)) × (last .0 ≤ 255) ⌝ }
+pub fn fill(table: &mut [u32], sets: &[u64], net: &[u32], runs: &[u16], last: Step) -> Outcome
+    requires { ⌜ (Given (now runs) (now net)) × (last .0 ≤ 255) × (Watching (now runs) (now net) (now sets)) ⌝ }
     ensures { λ r. ⌜ Ends (caseOf (now (runs .entry)) (now (net .entry))) (last .0) (length (now (table .entry))) (now (table .exit)) r ⌝ }
 {
-    let r = search_all(table, net, runs, last);
+    let r = search_all(table, sets, net, runs, last);
     let ok = r.ok;
     let rows = r.rows;
     if ok {

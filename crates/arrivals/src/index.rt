@@ -1,8 +1,4 @@
-// Where the rows of a place and step stand, and which places may be entered.
-use crate::network::is_steady;
-use crate::network::last_link;
-use crate::network::link_end;
-use crate::network::next_link;
+// Where the rows of a place and step stand.
 use crate::network::wide;
 use sheet::Place;
 use sheet::Step;
@@ -10,22 +6,16 @@ ghost use mathlib.Core.Path.{_≡_};
 ghost use mathlib.Core.Logic.{_⊎_};
 ghost use Prim.Native.Nat.{_<_, _≤_};
 ghost use lib.ListN.{length};
-ghost use Rattle.arrivals.specs.Inner.Network.{countOf};
 ghost use Rattle.arrivals.specs.Inner.Index.{indexRoom, lowOf, highOf, newestOf, Older, NotedAs};
-ghost use Rattle.arrivals.specs.Inner.Due.{MarkedOne, Marked, Rests};
 ghost use Rattle.arrivals.specs.Inner.Settling.{Regrouped};
-ghost use Rattle.arrivals.specs.Inner.Chains.{byPlace, Chained};
-ghost use Rattle.arrivals.specs.Inner.Lent.{Closing, Linked};
 
 // The parts of the index: from 0 the first row of each step and place; then the row past the last, with the step before; the step past the rows of each
-// place; the step up to which it may be entered; and its length.
+// place; and its length.
 pub const ENDS: usize = 16384;
 
 pub const NEWEST: usize = 32768;
 
-pub const DUE: usize = 32832;
-
-pub const INDEX: usize = 32896;
+pub const INDEX: usize = 32832;
 
 // The rows from lo to hi.
 pub struct Span {
@@ -98,36 +88,4 @@ pub fn regroup(ix: &mut [u32], span: Span, v: Place, s: Step, back: Step)
     let at = s.0 as usize * 64 + v.0 as usize;
     ix[at] = span.lo as u32;
     ix[ENDS + at] = span.hi as u32 * 512 + back.0;
-}
-
-// Does the pruning rule cover every corridor into place v at step t, and has no place before it rows at step t - 1?
-pub fn rests(ix: &[u32], net: &[u32], v: Place, t: Step) -> bool
-    requires { ⌜ (v .0 < 64) × (indexRoom ≤ length (now ix)) × (Closing (now net)) ⌝ }
-    ensures { λ r. ⌜ Rests (now (ix .entry)) (now (net .entry)) (v .0) (t .0) r ⌝ }
-{
-    if ix[DUE + v.0 as usize] < t.0 {
-        return is_steady(net, v, t);
-    }
-    false
-}
-
-// Place v may be entered at step s.
-pub fn mark(ix: &mut [u32], v: Place, s: Step)
-    requires { ⌜ (v .0 < 64) × (indexRoom ≤ length (now ix)) ⌝ }
-    ensures { λ _. ⌜ MarkedOne (now (ix .entry)) (now (ix .exit)) (v .0) (s .0) ⌝ }
-{
-    ix[DUE + v.0 as usize] = s.0;
-}
-
-// The places that corridors lead to from u may be entered at step s.
-pub fn mark_next(ix: &mut [u32], net: &[u32], u: Place, s: Step)
-    requires { ⌜ (u .0 < 64) × (indexRoom ≤ length (now ix)) × (Linked (now net)) × (Chained (byPlace 0) (now net) (countOf (now net))) ⌝ }
-    ensures { λ _. ⌜ Marked (now (ix .entry)) (now (ix .exit)) (now (net .entry)) 0 (countOf (now (net .entry))) (u .0) (s .0) ⌝ }
-{
-    let mut j = last_link(net, 0, u);
-    while 0 < j {
-        j -= 1;
-        mark(ix, link_end(net, j, 1), s);
-        j = next_link(net, 0, j, u);
-    }
 }

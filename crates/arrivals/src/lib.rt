@@ -6,6 +6,8 @@ ghost use Rattle.arrivals.specs.Search.{searchOn, searchEnd};
 use crate::fill::fill;
 use crate::lay::lay;
 use crate::network::NETWORK;
+use crate::watch::SETS;
+use crate::watch::watch;
 use sheet::Step;
 
 pub mod rows; // rows.rt: the rows of the lent table
@@ -33,7 +35,9 @@ pub fn search(lines: &[u32], all: &[u32], since: &[u16], table: &mut [u32]) -> S
 {
     let mut net = [0; NETWORK];
     lay(lines, all, &mut net);
-    let r = fill(table, &net, since, Step(all[1]));
+    let mut sets = [0u64; SETS];
+    watch(lines, all, &net, &mut sets);
+    let r = fill(table, &sets, &net, since, Step(all[1]));
     let ok = r.ok;
     let rows = r.rows;
     Searched {

@@ -5,8 +5,6 @@ use crate::index::group;
 use crate::index::newest;
 use crate::index::older;
 use crate::index::regroup;
-use crate::network::count_of;
-use crate::network::is_dear;
 use crate::network::places_of;
 use crate::network::wait_of;
 use crate::offers::beaten;
@@ -17,14 +15,14 @@ use intervals::first_step;
 use sheet::Place;
 use sheet::Step;
 ghost use mathlib.Core.Path.{_≡_};
-ghost use mathlib.Core.Bool.{true, false};
+ghost use mathlib.Core.Bool.{true};
 ghost use Prim.Native.Nat.{_+_, _*_, _<_, _≤_};
 ghost use lib.ListN.{length};
 ghost use Rattle.costs.specs.Priced.{Within};
 ghost use Rattle.arrivals.specs.Rows.{rowAt};
-ghost use Rattle.arrivals.specs.Inner.Network.{netRoom, countOf, placesOf};
+ghost use Rattle.arrivals.specs.Inner.Network.{placesOf};
 ghost use Rattle.arrivals.specs.Inner.Lent.{Given};
-ghost use Rattle.arrivals.specs.Inner.Settling.{NowhereDear, Undercut, Spans, FirstLive, LastLive, Shortening, Shortened, Settles, Settleable};
+ghost use Rattle.arrivals.specs.Inner.Settling.{Undercut, Spans, FirstLive, LastLive, Shortening, Shortened, Settles, Settleable};
 
 // Is one of the rows of a span nowhere above row k after waiting at cost lag?
 pub fn is_undercut(table: &[u32], k: usize, lag: [u32; 3], by: Span) -> bool
@@ -127,17 +125,4 @@ pub fn settle(table: &[u32], ix: &mut [u32], net: &[u32], runs: &[u16], t: Step,
     for v in 0..places_of(net) {
         settle_place(table, ix, net, runs, Place(v), t);
     }
-}
-
-// Is waiting dearer somewhere than where a corridor comes from?
-pub fn is_somewhere_dear(net: &[u32]) -> bool
-    requires { ⌜ (netRoom ≤ length (now net)) × (countOf (now net) ≤ 256) ⌝ }
-    ensures { λ r. ⌜ (r ≡ false → NowhereDear (now (net .entry))) ⌝ }
-{
-    for j in 0..count_of(net) {
-        if is_dear(net, j) {
-            return true;
-        }
-    }
-    false
 }

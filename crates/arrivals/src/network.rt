@@ -13,7 +13,6 @@ ghost use Rattle.arrivals.specs.Inner.Network.{netRoom, waitIn, linkOf, 
 ghost use Rattle.arrivals.specs.Inner.Network.{closureOf, closuresOf, intoOf, Closes};
 ghost use Rattle.arrivals.specs.Inner.Chains.{byPlace, byCell, cell, lastOf, Chained, NextOne};
 ghost use Rattle.arrivals.specs.Inner.Lent.{Closing};
-ghost use Rattle.arrivals.specs.Inner.Pruning.{SteadyIs, NoneInto};
 
 // The parts of the array: from 0 the costs of waiting; then two chains of corridors; the corridors; their number, that of places, the start and the
 // number of closures; by place, 1 where a closure leads to it and 2 where waiting is dearer than where a corridor comes from; by corridor, whether it is
@@ -213,47 +212,6 @@ pub fn is_dear(net: &[u32], j: usize) -> bool
     ensures { λ r. ⌜ (r ≡ false → dearOf (now (net .entry)) j ≡ 0) ⌝ }
 {
     net[DEAR + j] != 0
-}
-
-// Is no closure of step s one that leads to place v? The last closure of their cell is the one before closure `last`.
-pub fn none_into(net: &[u32], last: usize, v: Place, s: Step) -> bool
-    requires { ⌜ (Closing (now net)) × (v .0 < 64) × (last ≡ lastOf byCell (now net) (cell (v .0) (s .0))) ⌝ }
-    ensures { λ r. ⌜ NoneInto (now (net .entry)) (v .0) (s .0) r ⌝ }
-{
-    let at = cell_of(v, s);
-    let mut x = last;
-    while 0 < x {
-        x -= 1;
-        let to = closure_number(net, x, 1);
-        let step = closure_number(net, x, 2);
-        if (to == v.0) & (step == s.0) {
-            return false;
-        }
-        x = next_shut(net, x, at);
-    }
-    true
-}
-
-// Does the pruning rule cover every corridor into place v at step t by the departure at t - 2? Where there is none, it does not.
-pub fn is_steady(net: &[u32], v: Place, t: Step) -> bool
-    requires { ⌜ (v .0 < 64) × (Closing (now net)) ⌝ }
-    ensures { λ r. ⌜ SteadyIs (now (net .entry)) (v .0) (t .0) r ⌝ }
-{
-    if net[INTO + v.0 as usize] == 2 {
-        return false;
-    }
-    if net[SHUT_COUNT] == 0 {
-        return true;
-    }
-    if t.0 < 2 {
-        return false;
-    }
-    let s = Step(t.0 - 2);
-    let last = last_shut(net, cell_of(v, s));
-    if last == 0 {
-        return true;
-    }
-    none_into(net, last, v, s)
 }
 
 // One more than the last corridor whose place q is v.

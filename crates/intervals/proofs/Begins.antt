@@ -47,8 +47,8 @@ module _ (l since : List ℕ) (s : Sheet) (same : s .occupancies ≡ groupRows k
       let c = taken-covered l s same v (t - 1) (occupied (freeb s v (t - 1)) refl) in
       let a = covers-true l v (t - 1) (c .0) (c .2) in
       let past : number l (c .0 * 3 + 2) + 1 ≡ t =
-          ⊎-elim
-          (λ lt. omega (arith, a .2))
-          (λ le. absurd (true≢false (sym (true-covers l v t (c .0) (a .0) (omega (arith, a .1)) le) ∙ free-uncovered l s same v t free (c .0) (c .1))))
-          (lt-or-le (number l (c .0 * 3 + 2)) t) in
+      ⊎-elim
+      (λ lt. omega (arith, a .2))
+      (λ le. absurd (true≢false (sym (true-covers l v t (c .0) (a .0) (omega (arith, a .1)) le) ∙ free-uncovered l s same v t free (c .0) (c .1))))
+      (lt-or-le (number l (c .0 * 3 + 2)) t) in
       subst (λ (i : ℕ). Has (number ys i) v) past (subst (λ (w : ℕ). Has (number ys (number l (c .0 * 3 + 2) + 1)) w) (a .0) (f .own (c .0) (c .1)))

@@ -11,17 +11,18 @@ use Rattle.sheet.specs.Laws.Order.{Lex-trans}
 use Rattle.sheet.specs.Laws.Decided.{lt-or-le, Any, All, In, here, there, none, more, any-cons, any-nil, all-head, all-tail, all-map, all-both, all-join, any-map, any-all, any-right, any-left, any-split, none-of}
 use Rattle.costs.specs.Costs.{Cost, add, times, AtMost}
 use Rattle.costs.specs.Laws.Figures.{fig-add, at-most-refl, at-most-trans, Lex-compared}
+use Rattle.intervals.specs.Sets.{Has}
 use Rattle.arrivals.specs.Rows.{Row, rowAt, Put}
 use Rattle.arrivals.specs.Laws.Rows.{row-path}
-use Rattle.arrivals.specs.Inner.Rows.{rowsOf, all-at, rows-kept, rows-tail, tailOf, tail-zero, Bounded}
+use Rattle.arrivals.specs.Inner.Rows.{rowsOf, rows-find, all-at, rows-kept, rows-tail, tailOf, tail-zero, Bounded}
 use Rattle.arrivals.specs.Inner.Network.{Case, caseOf, Link, Legal, since, sinceIn, Vacant, linkOf, linksOf, links-find, countOf}
 use Rattle.arrivals.specs.Inner.Entering.{Enters, RowLeads, Led, LedAt, Stands, Cand, Lead, Open, Less, cand-down, cand-bounded, self-leads, led-lead}
 use Rattle.arrivals.specs.Inner.Pruning.{Steady, steady-none}
 use Rattle.arrivals.specs.Inner.Filling.{Sound, entered, Falling, more-falling, Filled, startRow, row-after, filling-of, filled-place, filled-as, result-done, Grown, grown-none, grown-more, Visiting, Visited}
 use Rattle.arrivals.specs.Inner.Offering.{Beaten, Thin, thin-none, thin-drop, thin-keep, Stops, stops-none, stops-at, Insert, insert-here, insert-past, Offered, offered-not, offered-in, Offers, offers-none, offers-more}
 use Rattle.arrivals.specs.Inner.Sweeps.{SweptAt}
-use Rattle.arrivals.specs.Inner.Index.{Indexed, Covers, newestOf, dueOf, row-newest-in, indexed-more, indexed-kept, covers-more, covers-kept, NotedAs}
-use Rattle.arrivals.specs.Inner.Due.{Due}
+use Rattle.arrivals.specs.Inner.Index.{Indexed, Covers, indexed-more, indexed-kept, covers-more, covers-kept, NotedAs}
+use Rattle.arrivals.specs.Inner.Due.{Lookout}
 use Rattle.arrivals.specs.declared.network.Here.{Here}
 
 abbrev pub Apart : List ℕ → Row → Type 0
@@ -184,15 +185,10 @@ swept-filled k xs ys rows d h legal st f s =
       grown = record { more = omega arith; below = s .below; own = λ i l m. let q : rows + (i - rows) ≡ i = omega arith in let w = tail-all ys rows d (i - rows) (omega arith) (g .0) in subst (λ (j : ℕ). (rowAt ys j .place ≡ v) × (rowAt ys j .step ≡ t)) q (w .place, w .step) };
     }
 
--- a place that rests adds nothing: the rule covers every corridor into it
-pub rests-filled : (free net xs ix : List ℕ) (rows v t : ℕ) → Visiting free net xs rows v t → Indexed xs rows ix t → Due net ix → sinceIn free v t < t → Steady (caseOf free net) v t → dueOf ix v < t
-    → Visited (caseOf free net) xs xs rows v t (record { ok = true; rows = rows })
-rests-filled free net xs ix rows v t a w d began steady late =
-    record {
-      result = result-done k xs t (v + 1) rows (a .room)
-          (filled-place k rs t v (filling-of k rs t v (a .filled)) (λ g o. o .unled (steady-none k (a .given .legal) rs v t g (a .filled .complete) (a .last) began steady old (o .cand .over))));
-      grown = grown-none xs rows v t;
-    }
+-- a place that is not looked at adds nothing: the rule covers every corridor into it
+pub unwatched-filled : (free net xs : List ℕ) (rows v t set : ℕ) → Visiting free net xs rows v t → Lookout free net xs rows t set → (Has set v → ⊥) → sinceIn free v t < t → Filled (caseOf free net) (rowsOf xs rows) t (v + 1)
+unwatched-filled free net xs rows v t set a look out began =
+    filled-place k rs t v (filling-of k rs t v (a .filled)) (λ g o. o .unled (steady-none k (a .given .legal) rs v t g (a .filled .complete) (a .last) began (look .steady v (omega (arith, a .inside, a .given .places)) out) old (o .cand .over)))
   where
     k : Case
     k = caseOf free net
@@ -200,12 +196,18 @@ rests-filled free net xs ix rows v t a w d began steady late =
     rs : List Row
     rs = rowsOf xs rows
 
-    old : (l : Link) → In l (linksOf net (countOf net)) → l .to ≡ v → (r : Row) → In r (rowsOf xs rows) → r .place ≡ l .from → r .step + 1 < t
-    old l m into r i p =
+    old : (l : Link) → In l (linksOf net (countOf net)) → l .to ≡ v → (r : Row) → In r (rowsOf xs rows) → r .place ≡ l .from → r .step < t → r .step + 1 < t
+    old l m into r i p early =
         let q = links-find net (countOf net) m in
-        let from : linkOf net 0 (q .at) ≡ r .place = ap (λ (x : Link). x .from) (q .fits) ∙ sym p in
+        let from : r .place ≡ linkOf net 0 (q .at) = p ∙ sym (ap (λ (x : Link). x .from) (q .fits)) in
         let to : linkOf net 1 (q .at) ≡ v = ap (λ (x : Link). x .to) (q .fits) ∙ into in
-        omega (arith, row-newest-in w r i, subst (λ (u : ℕ). newestOf ix u ≤ dueOf ix v) from (subst (λ (u : ℕ). newestOf ix (linkOf net 0 (q .at)) ≤ dueOf ix u) to (d .due (q .at) (q .upto))))
+        let w = rows-find xs rows i in
+        ⊎-elim
+        (λ lt. lt)
+        (λ ge.
+        let e : r .step + 1 ≡ t = omega arith in
+        absurd (out (subst (Has set) to (look .onward (q .at) (w .at) (q .upto) (omega (arith, w .upto)) (ap (λ (x : Row). x .place) (w .fits) ∙ from) (ap (λ (x : Row). x .step + 1) (w .fits) ∙ e)))))
+        (lt-or-le (r .step + 1) t)
 
 pub grown-base : (xs ys zs : List ℕ) (n m v t : ℕ) → ((j : ℕ) → j < n * 5 → getD ys j 0 ≡ getD xs j 0) → Grown ys zs n m v t → Grown xs zs n m v t
 grown-base xs ys zs n m v t same g = record { more = g .more; below = λ j l. g .below j l ∙ same j l; own = g .own }

@@ -1,7 +1,6 @@
 -- Where the rows of each step and place stand: for step s and place v, at s * 64 + v, the first row; 16384 further, the row past the last, times
--- 512, and one more than the last step before s at which v has rows. At 32768 + v, one more than the last step at which v has rows; 64 further,
--- one more than the last step at which a place from which a corridor leads to v has rows (Due). Rows for which a later row of their place stands may
--- be left out: Covers says for which (document 02, E8; the search: live rows).
+-- 512, and one more than the last step before s at which v has rows. At 32768 + v, one more than the last step at which v has rows. Rows for
+-- which a later row of their place stands may be left out: Covers says for which (document 02, E8; the search: live rows).
 use mathlib.Core.Path.{_≡_, refl, sym, ap, ap₂, _∙_, subst}
 use mathlib.Core.List.{List}
 use mathlib.Core.Logic.{_⊎_, inl, inr, ⊎-elim}
@@ -21,7 +20,7 @@ use Rattle.arrivals.specs.Inner.Filling.{Grown}
 
 -- the length of the list
 abbrev pub indexRoom : ℕ
-indexRoom = 32896
+indexRoom = 32832
 
 abbrev pub lowOf : List ℕ → ℕ → ℕ → ℕ
 lowOf ix s v = getD ix (s * 64 + v) 0
@@ -43,7 +42,7 @@ pub record Listed (ix xs : List ℕ) (i : ℕ) : Type 0 where
   pub group : InGroup ix i (rowAt xs i)
 
 pub record Indexed (xs : List ℕ) (n : ℕ) (ix : List ℕ) (t : ℕ) : Type 0 where
-  pub size : 32896 ≤ length ix
+  pub size : 32832 ≤ length ix
   pub now : t ≤ 255
   pub places : (i : ℕ) → i < n → rowAt xs i .place < 64
   pub steps : (i : ℕ) → i < n → rowAt xs i .step ≤ t
@@ -69,10 +68,6 @@ pub record Cover (xs : List ℕ) (n : ℕ) (ix : List ℕ) (t : ℕ) (w : Cost) 
 -- some listed row covers each row of place v, where waiting costs w
 pub record Covers (xs : List ℕ) (n : ℕ) (ix : List ℕ) (t v : ℕ) (w : Cost) : Type 0 where
   pub of : (i : ℕ) → i < n → rowAt xs i .place ≡ v → Cover xs n ix t w i
-
--- at 32832 + v, one more than the last step at which a place from which a corridor leads to v has rows, or more
-abbrev pub dueOf : List ℕ → ℕ → ℕ
-dueOf ix v = getD ix (32832 + v) 0
 
 -- the step past the rows of v before step s, as far as the index shows
 abbrev pub Older : List ℕ → ℕ → ℕ → ℕ → Type 0
@@ -140,7 +135,6 @@ pub record Noted (ix iy : List ℕ) (lo hi s v b : ℕ) : Type 0 where
   pub highs : (r u : ℕ) → r ≤ 255 → u < 64 → (r ≡ s → u ≡ v → ⊥) → highOf iy r u ≡ highOf ix r u
   pub backs : (r u : ℕ) → r ≤ 255 → u < 64 → (r ≡ s → u ≡ v → ⊥) → backOf iy r u ≡ backOf ix r u
   pub newests : (u : ℕ) → u < 64 → (u ≡ v → ⊥) → newestOf iy u ≡ newestOf ix u
-  pub dues : (u : ℕ) → dueOf iy u ≡ dueOf ix u
 
 pub record NotedAs (ix iy : List ℕ) (lo hi s v : ℕ) : Type 0 where
   pub last : ℕ
@@ -148,7 +142,7 @@ pub record NotedAs (ix iy : List ℕ) (lo hi s v : ℕ) : Type 0 where
   pub past : (newestOf ix v ≤ last) ⊎ (last ≡ s)
   pub noted : Noted ix iy lo hi s v last
 
-pub noted : (ix : List ℕ) (lo hi s v b : ℕ) → s ≤ 255 → v < 64 → b ≤ s → 32896 ≤ length ix → Noted ix (set (set (set ix (32768 + v) (s + 1)) (s * 64 + v) lo) (16384 + (s * 64 + v)) (hi * 512 + b)) lo hi s v b
+pub noted : (ix : List ℕ) (lo hi s v b : ℕ) → s ≤ 255 → v < 64 → b ≤ s → 32832 ≤ length ix → Noted ix (set (set (set ix (32768 + v) (s + 1)) (s * 64 + v) lo) (16384 + (s * 64 + v)) (hi * 512 + b)) lo hi s v b
 noted ix lo hi s v b l m bs size =
     record {
       size = simp length-set (omega arith);
@@ -160,7 +154,6 @@ noted ix lo hi s v b l m bs size =
       highs = λ r u a c n. ap (λ (x : ℕ). x / 512) (cell r u a c n);
       backs = λ r u a c n. ap (λ (x : ℕ). x % 512) (cell r u a c n);
       newests = λ u c n. skip3 (32768 + u) (λ e. omega arith) ∙ skip2 (32768 + u) (λ e. omega arith) ∙ skip1 (32768 + u) (λ e. n (omega arith));
-      dues = λ u. skip3 (32832 + u) (λ e. omega arith) ∙ skip2 (32832 + u) (λ e. omega arith) ∙ skip1 (32832 + u) (λ e. omega arith);
     }
   where
     i1 : List ℕ
@@ -336,7 +329,7 @@ pub indexed-step : {xs : List ℕ} {n : ℕ} {ix : List ℕ} {t : ℕ} (u : ℕ)
 indexed-step u l m w =
     record { size = w .size; now = m; places = w .places; steps = λ i b. omega (arith, w .steps i b); order = w .order; only = w .only; newest = w .newest; latest = λ v b. omega (arith, w .latest v b); back = w .back; down = w .down }
 
-pub indexed-none : (xs : List ℕ) (n t : ℕ) → 32896 ≤ n → t ≤ 255 → Indexed xs 0 (replicate n 0) t
+pub indexed-none : (xs : List ℕ) (n t : ℕ) → 32832 ≤ n → t ≤ 255 → Indexed xs 0 (replicate n 0) t
 indexed-none xs n t l m =
     record {
       size = omega (arith, length-replicate {A = ℕ} n 0);

@@ -109,29 +109,16 @@ pub record Fresh (k : Case) (l : Link) (t f : ℕ) : Type 0 where
 pub record Steady (k : Case) (v t : ℕ) : Type 0 where
   pub every : (l : Link) → In l (k .links) → l .to ≡ v → Cheap (k .wait) l × (openb l (t - 2) ≡ true)
 
--- what an answer says of every list of first steps that goes with the network; an answer false says nothing
-pub record SteadyIs (net : List ℕ) (v t : ℕ) (r : Bool) : Type 0 where
-  pub of : (free : List ℕ) → Given free net → r ≡ true → Steady (caseOf free net) v t
-
--- no closure of step s leads to v where r is true
-pub record NoneInto (net : List ℕ) (v s : ℕ) (r : Bool) : Type 0 where
-  pub of : r ≡ true → (x : ℕ) → x < closuresOf net → closureOf net 2 x ≡ s → closureOf net 1 x ≡ v → ⊥
-
-pub steady-of : (net : List ℕ) (v t : ℕ) (r : Bool) → (intoOf net v ≡ 2 → ⊥) → NoneInto net v (t - 2) r → SteadyIs net v t r
-steady-of net v t r cheap none =
+pub steady-of : (free net : List ℕ) (v t : ℕ) → Given free net → ((j : ℕ) → j < countOf net → linkOf net 1 j ≡ v → dearOf net j ≡ 0)
+    → ((x : ℕ) → x < closuresOf net → closureOf net 2 x ≡ t - 2 → closureOf net 1 x ≡ v → ⊥) → Steady (caseOf free net) v t
+steady-of free net v t given cheap none =
     record {
-      of = λ free given e. record {
-        every = λ l m into.
-            let q = links-find net (countOf net) m in
-            let to : linkOf net 1 (q .at) ≡ v = ap (λ (x : Link). x .to) (q .fits) ∙ into in
-            let z = subst (λ (u : ℕ). intoOf net u ≡ 2 → ⊥) (sym to) cheap in
-            let o = open-of net (linkOf net 0 (q .at)) (linkOf net 1 (q .at)) (t - 2) (λ x b c. none .of e x b (c .step) (c .to ∙ to)) in
-            (subst (Cheap (waitIn net)) (q .fits) (given .steady (q .at) (q .upto) z), subst (λ (x : Link). openb x (t - 2) ≡ true) (q .fits) o);
-      };
+      every = λ l m into.
+          let q = links-find net (countOf net) m in
+          let to : linkOf net 1 (q .at) ≡ v = ap (λ (x : Link). x .to) (q .fits) ∙ into in
+          let o = open-of net (linkOf net 0 (q .at)) (linkOf net 1 (q .at)) (t - 2) (λ x b c. none x b (c .step) (c .to ∙ to)) in
+          (subst (Cheap (waitIn net)) (q .fits) (given .cheap (q .at) (q .upto) (cheap (q .at) (q .upto) to)), subst (λ (x : Link). openb x (t - 2) ≡ true) (q .fits) o);
     }
-
-pub steady-not : (net : List ℕ) (v t : ℕ) → SteadyIs net v t false
-steady-not net v t = record { of = λ free given e. absurd (false-not-true refl e) }
 
 pub record FreshIs (net : List ℕ) (j : ℕ) (h : Here) (f : ℕ) : Type 0 where
   pub of : (free : List ℕ) → Given free net → j < countOf net → h .since .0 ≡ sinceIn free (linkOf net 1 j) (h .step .0) → Fresh (caseOf free net) (linkAt net j) (h .step .0) f
@@ -225,7 +212,7 @@ fair-of free net j t f o given l s =
     }
 
 -- a place that the rule covers is not entered from rows before step t - 1, unless its safe interval begins at t
-pub steady-none : (k : Case) → Legal k → (rs : List Row) (v t : ℕ) (g : Cost) → Complete k rs t v → t ≤ 255 → since k v t < t → Steady k v t → ((l : Link) → In l (k .links) → l .to ≡ v → (r : Row) → In r rs → r .place ≡ l .from → r .step + 1 < t)
+pub steady-none : (k : Case) → Legal k → (rs : List Row) (v t : ℕ) (g : Cost) → Complete k rs t v → t ≤ 255 → since k v t < t → Steady k v t → ((l : Link) → In l (k .links) → l .to ≡ v → (r : Row) → In r rs → r .place ≡ l .from → r .step < t → r .step + 1 < t)
     → Any (Enters k rs v t g) (k .links) → Lead k rs v t g
 steady-none k legal rs v t g complete last began steady old over =
     let q = any-find over in
@@ -233,5 +220,5 @@ steady-none k legal rs v t g complete last began steady old over =
     let e = q .2 in
     let y = steady .every l (q .1) (e .into) in
     spared-all k legal rs t v complete last v l g (q .1)
-    (λ r m j. let b = old l (q .1) (e .into) r m (j .place) in record { departs = t - 2; from = omega arith; before = omega arith; opens = y .1; within = subst (λ (u : ℕ). since k u t ≤ t - 2 + 1) (sym (e .into)) (omega arith); cheap = y .0 })
+    (λ r m j. let b = old l (q .1) (e .into) r m (j .place) (j .early) in record { departs = t - 2; from = omega arith; before = omega arith; opens = y .1; within = subst (λ (u : ℕ). since k u t ≤ t - 2 + 1) (sym (e .into)) (omega arith); cheap = y .0 })
     e

@@ -21,7 +21,7 @@ use Rattle.arrivals.specs.Inner.Rows.{rowsOf, all-at, tailOf, tail-find,
 use Rattle.arrivals.specs.Inner.Network.{waitIn, linkOf, countOf, dearOf}
 use Rattle.arrivals.specs.Inner.Offering.{Beaten}
 use Rattle.arrivals.specs.Inner.Index.{indexRoom, lowOf, highOf, backOf, Listed, Indexed, Cover, Older, covers-step, row-low, low-row, older-past, lag-sum}
-use Rattle.arrivals.specs.Inner.Due.{Due, Covered}
+use Rattle.arrivals.specs.Inner.Due.{Covered}
 use Rattle.arrivals.specs.Inner.Walking.{Walking}
 use Rattle.arrivals.specs.declared.index.Span.{Span}
 
@@ -36,7 +36,7 @@ pub record Regrouped (ix iy : List ℕ) (lo hi b s v : ℕ) : Type 0 where
   pub backs : (r u : ℕ) → r ≤ 255 → u < 64 → (r ≡ s → u ≡ v → ⊥) → backOf iy r u ≡ backOf ix r u
   pub rest : (j : ℕ) → 32768 ≤ j → getD iy j 0 ≡ getD ix j 0
 
-pub regrouped : (ix : List ℕ) (lo hi b s v : ℕ) → s ≤ 255 → v < 64 → b < 512 → 32896 ≤ length ix
+pub regrouped : (ix : List ℕ) (lo hi b s v : ℕ) → s ≤ 255 → v < 64 → b < 512 → 32832 ≤ length ix
     → Regrouped ix (set (set ix (s * 64 + v) lo) (16384 + (s * 64 + v)) (hi * 512 + b)) lo hi b s v
 regrouped ix lo hi b s v l m bs size =
     record {
@@ -71,7 +71,6 @@ pub record Settling (net xs : List ℕ) (n : ℕ) (ix : List ℕ) (t : ℕ) : Ty
   pub short : n ≤ 8388607
   pub bounded : All Bounded (rowsOf xs n)
   pub indexed : Indexed xs n ix t
-  pub due : Due net ix
   pub covered : Covered net xs n ix (t + 1)
 
 pub record Settleable (net xs ix : List ℕ) (t : ℕ) : Type 0 where
@@ -169,9 +168,6 @@ module _ {net xs : List ℕ} {n : ℕ} {ix iy : List ℕ} {t lo hi b s v : ℕ} 
             (key r u);
       }
 
-  due : Due net iy
-  due = record { due = λ j l. omega (arith, g .rest (32768 + linkOf net 0 j) (omega arith), g .rest (32832 + linkOf net 1 j) (omega arith), a .due .due j l) }
-
   -- a row that a dropped row covered is covered by the row that stands for that
   instead : (i : ℕ) (k : Cover xs n ix (t + 1) (waitIn net v) i) → rowAt xs i .place ≡ v → rowAt xs (k .at) .step ≡ s → Stands xs n ix (t + 1) v s (waitIn net v) (k .at)
       → Cover xs n iy (t + 1) (waitIn net v) i
@@ -236,11 +232,7 @@ module _ {net xs : List ℕ} {n : ℕ} {ix iy : List ℕ} {t lo hi b s v : ℕ} 
           }
 
   pub settled : Settling net xs n iy t
-  settled = record { room = a .room; short = a .short; bounded = a .bounded; indexed = indexed; due = due; covered = covered }
-
--- waiting is dearer where no corridor leads to
-abbrev pub NowhereDear : List ℕ → Type 0
-NowhereDear net = (j : ℕ) → j < countOf net → dearOf net j ≡ 0
+  settled = record { room = a .room; short = a .short; bounded = a .bounded; indexed = indexed; covered = covered }
 
 -- row k is nowhere below one of the rows of a span after waiting at cost lag
 abbrev pub Undercut : List ℕ → Cost → Span → ℕ → Type 0
@@ -402,6 +394,5 @@ walking-settling {t = t} w short =
       short = omega (arith, w .room);
       bounded = w .filled .bounded;
       indexed = y .0;
-      due = y .1;
-      covered = λ v l. covers-step (t + 1) (omega arith) (y .2 v l);
+      covered = λ v l. covers-step (t + 1) (omega arith) (y .1 v l);
     }

@@ -15,7 +15,7 @@ use Rattle.arrivals.proofs.expand.from_place.Statement.{statement}
 use Rattle.arrivals.proofs.expand.from_place.Tie as tie
 
 abbrev Inv-loop : tie.InvT-loop
-Inv-loop table₀ a d ix from here e₀ s₀ table e s = (s ≤ here .step .0) × (here .step .0 ≤ 255) × (32896 ≤ length ix) × (length table ≡ length table₀) × SweptAt (Via table₀ ix a from s (here .step .0)) here a table₀ table d true e
+Inv-loop table₀ a d ix from here e₀ s₀ table e s = (s ≤ here .step .0) × (here .step .0 ≤ 255) × (32832 ≤ length ix) × (length table ≡ length table₀) × SweptAt (Via table₀ ix a from s (here .step .0)) here a table₀ table d true e
 
 abbrev μ-loop : tie.MeasureT-loop
 μ-loop table₀ a d ix from here e₀ s₀ table e s = s

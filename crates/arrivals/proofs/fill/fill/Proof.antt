@@ -9,7 +9,7 @@ use Rattle.arrivals.proofs.fill.fill.Statement.{statement}
 use Rattle.arrivals.proofs.fill.fill.Tie as tie
 
 search-all-requires : tie.Need-search-all-requires
-search-all-requires c κs = c .before .before .before .before .pre
+search-all-requires c κs = c .before .before .before .before .before .pre
 
 mul-clear-from : tie.Need-mul-clear-from
 mul-clear-from c = search needs

@@ -1,5 +1,5 @@
 -- `arrivals::fill::fill_steps` meets its contract: the steps are filled in one after another. The loop's invariant: all is filled in before step
--- t.
+-- t, and what corridors lead to from the rows of the step before is in `next`.
 -- Assumes nothing.
 use mathlib.Core.Path.{_≡_, refl, subst}
 use Prim.Native.Nat.{_*_, _+_, _-_, _≤_}
@@ -7,25 +7,33 @@ use native.Mathlib.Omega.{arith}
 use lib.ListN.{length}
 use borrow.Author.Needs.{needs}
 use borrow.Author.Tests.{not-false, not-true}
-use Rattle.arrivals.specs.Inner.Due.{IndexedShort}
+use Rattle.arrivals.specs.Inner.Due.{IndexedShort, Onward, onward-all}
 use Rattle.arrivals.specs.Inner.Filling.{Filled, crowded-last, filled-last, result-done, result-full}
 use Rattle.arrivals.specs.Inner.Index.{Indexed, indexed-step}
+use Rattle.arrivals.specs.Inner.Lent.{given-linked}
 use Rattle.arrivals.specs.Inner.Network.{caseOf}
 use Rattle.arrivals.specs.Inner.Rows.{rowsOf}
 use Rattle.arrivals.proofs.fill.fill_steps.Statement.{statement}
 use Rattle.arrivals.proofs.fill.fill_steps.Tie as tie
 
 abbrev Inv-loop : tie.InvT-loop
-Inv-loop table₀ rows ix₀ net runs last dear n₀ t₀ table ix n t = (1 ≤ t) × (t ≤ last .0 + 1) × (n * 5 ≤ length table) × (length table ≡ length table₀) × (length ix ≡ length ix₀) × Filled (caseOf runs net) (rowsOf table n) t 0 × IndexedShort table n ix (t - 1) t net
+Inv-loop table₀ rows ix₀ sets net runs last n₀ t₀ next₀ table ix n t next = (1 ≤ t) × (t ≤ last .0 + 1) × (n * 5 ≤ length table) × (length table ≡ length table₀) × (length ix ≡ length ix₀) × Filled (caseOf runs net) (rowsOf table n) t 0 × IndexedShort table n ix (t - 1) t net × Onward net table n t next
 
 abbrev μ-loop : tie.MeasureT-loop
-μ-loop table₀ rows ix₀ net runs last dear n₀ t₀ table ix n t = last .0 + 1 - t
+μ-loop table₀ rows ix₀ sets net runs last n₀ t₀ next₀ table ix n t next = last .0 + 1 - t
 
 loop-holds : tie.Need-loop-holds Inv-loop μ-loop
-loop-holds c = let p = c .before .before .before .before .pre in (omega arith, omega arith, p .0 .room, refl, refl, p .0 .filled, p .1)
+loop-holds c = let p = c .before .before .before .before .before .pre in (omega arith, omega arith, p .0 .room, refl, refl, p .0 .filled, p .1, onward-all _ _ _ (given-linked (p .0 .given)))
 
 fill-step-requires : tie.Need-fill-step-requires Inv-loop μ-loop
-fill-step-requires c κs = let inv = c .before .before .before .before .loop .inv in let p = c .before .before .before .before .before .before .before .before .before .pre .0 in (record { given = p .given; inside = p .inside; first = inv .0; last = omega (arith, c .before .before .before .before .before .before .before .before .before .pre .2); room = inv .2; filled = inv .5 }, λ b. (indexed-step _ (omega arith) (omega (arith, c .before .before .before .before .before .before .before .before .before .pre .2)) (inv .6 b .0), inv .6 b .1, inv .6 b .2))
+fill-step-requires c κs =
+    let inv = c .before .before .before .before .loop .inv in
+    let p = c .before .before .before .before .before .before .before .before .before .before .pre in (
+      record { given = p .0 .given; inside = p .0 .inside; first = inv .0; last = omega (arith, p .2); room = inv .2; filled = inv .5 },
+      λ b. (indexed-step _ (omega arith) (omega (arith, p .2)) (inv .6 b .0), inv .6 b .1),
+      p .3,
+      inv .7,
+    )
 
 same-length : tie.Need-same-length Inv-loop μ-loop
 same-length c = search needs
@@ -43,7 +51,20 @@ loop-less : tie.Need-loop-less Inv-loop μ-loop
 loop-less c = search needs
 
 loop-again : tie.Need-loop-again Inv-loop μ-loop
-loop-again c = let r = c .before .before .before .before .before .fill-step .ensures in let e = not-false _ (c .if2 .left) in let t = c .before .before .before .before .before .before .before .before .before .before .loop .t in let z : t ≡ t + 1 - 1 = omega arith in (omega arith, omega arith, r .result .room, search needs, search needs, r .result .done e, λ b. let w = r .index e b in (subst (Indexed _ _ _) z (w .0), w .1, w .2))
+loop-again c =
+    let r = c .before .before .before .before .before .fill-step .ensures in
+    let e = not-false _ (c .if2 .left) in
+    let t = c .before .before .before .before .before .before .before .before .before .before .loop .t in
+    let z : t ≡ t + 1 - 1 = omega arith in (
+      omega arith,
+      omega arith,
+      r .result .room,
+      search needs,
+      search needs,
+      r .result .done e,
+      λ b. let w = r .index e b in (subst (Indexed _ _ _) z (w .0), w .1),
+      r .onward e,
+    )
 
 same-length-3 : tie.Need-same-length-3 Inv-loop μ-loop
 same-length-3 c = c .before .before .loop .inv .3

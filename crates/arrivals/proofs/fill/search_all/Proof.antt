@@ -2,10 +2,8 @@
 -- Assumes nothing.
 use native.Mathlib.Omega.{arith}
 use borrow.Author.Needs.{needs}
-use Rattle.arrivals.specs.Inner.Due.{due-none}
 use Rattle.arrivals.specs.Inner.Filling.{crowded-last, result-full}
 use Rattle.arrivals.specs.Inner.Index.{indexed-none}
-use Rattle.arrivals.specs.Inner.OfSheet.{given}
 use Rattle.arrivals.proofs.fill.search_all.Statement.{statement}
 use Rattle.arrivals.proofs.fill.search_all.Tie as tie
 
@@ -13,16 +11,20 @@ slice-aggregate-first-row : tie.Need-slice-aggregate-first-row
 slice-aggregate-first-row c = search needs
 
 first-row-requires : tie.Need-first-row-requires
-first-row-requires c κs = (c .before .before .before .before .before .pre .0, indexed-none (c .before .before .before .before .before .args .table .now) 32896 0 (omega arith) (omega arith), due-none _ 32896)
-
-is-somewhere-dear-requires : tie.Need-is-somewhere-dear-requires
-is-somewhere-dear-requires c κs = ((c .before .before .before .before .before .before .before .before .before .before .pre) .0 .size, (c .before .before .before .before .before .before .before .before .before .before .pre) .0 .few)
+first-row-requires c κs = (c .before .before .before .before .before .before .pre .0, indexed-none (c .before .before .before .before .before .before .args .table .now) 32832 0 (omega arith) (omega arith))
 
 slice-aggregate-fill-steps : tie.Need-slice-aggregate-fill-steps
 slice-aggregate-fill-steps c = search needs
 
 fill-steps-requires : tie.Need-fill-steps-requires
-fill-steps-requires c κs = let r = c .before .before .before .before .before .before .before .first-row .ensures in let p = c .before .before .before .before .before .before .before .before .before .before .before .before .before .pre in (record { given = p .0; inside = omega (arith, p .0 .start); first = omega arith; last = omega arith; room = r .result .room; filled = r .result .done (c .before .before .before .if1 .taken) }, r .index (c .before .before .before .if1 .taken), p .1)
+fill-steps-requires c κs =
+    let r = c .before .before .before .before .before .before .first-row .ensures in
+    let p = c .before .before .before .before .before .before .before .before .before .before .before .before .before .pre in (
+      record { given = p .0; inside = omega (arith, p .0 .start); first = omega arith; last = omega arith; room = r .result .room; filled = r .result .done (c .before .before .if1 .taken) },
+      r .index (c .before .before .if1 .taken),
+      p .1,
+      p .2,
+    )
 
 same-length : tie.Need-same-length
 same-length c = search needs
@@ -42,7 +44,6 @@ search-all-spec =
     (tie.spec
     slice-aggregate-first-row
     first-row-requires
-    is-somewhere-dear-requires
     slice-aggregate-fill-steps
     fill-steps-requires
     same-length

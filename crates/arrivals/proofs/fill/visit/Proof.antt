@@ -3,10 +3,7 @@
 use Prim.Native.Nat.{_<_}
 use native.Mathlib.Omega.{arith}
 use borrow.Author.Needs.{needs}
-use Rattle.arrivals.specs.Inner.Due.{due-more}
 use Rattle.arrivals.specs.Inner.Gather.{noted-covers, noted-more, noted-none, covers-none}
-use Rattle.arrivals.specs.Inner.Index.{indexed-same, covers-same}
-use Rattle.arrivals.specs.Inner.Lent.{given-linked}
 use Rattle.arrivals.specs.Inner.Walking.{walking-visiting}
 use Rattle.arrivals.proofs.fill.visit.Statement.{statement}
 use Rattle.arrivals.proofs.fill.visit.Tie as tie
@@ -18,28 +15,19 @@ same-length : tie.Need-same-length
 same-length c = search needs
 
 returns : tie.Need-returns
-returns c = record { result = c .before .before .fill-slow .ensures .result; index = λ e b. absurd (omega arith) }
+returns c = (record { result = c .before .before .fill-slow .ensures .result; index = λ e b. absurd (omega arith) }, c .before .before .fill-slow .ensures .grown)
 
 fill-fast-requires : tie.Need-fill-fast-requires
 fill-fast-requires c κs =
     let p = c .before .before .before .before .before .before .before .pre in
     let w = p .0 .index (c .before .before .if1 .left) in
-    record { visiting = walking-visiting (p .0) (p .1); vacant = p .2; indexed = w .0; covered = w .2 }
+    record { visiting = walking-visiting (p .0) (p .1); vacant = p .2; indexed = w .0; covered = w .1 }
 
 note-requires : tie.Need-note-requires
 note-requires c κs =
     let p = c .before .before .before .before .before .before .before .before .before .before .before .before .pre in
     let w = p .0 .index (c .before .before .before .before .before .before .before .if1 .left) in
     (omega (arith, p .1, p .0 .given .places), p .0 .last, w .0 .size, omega arith, omega (arith, c .before .before .before .before .fill-fast .ensures .result .room))
-
-add-t25 : tie.Need-add-t25
-add-t25 c = omega (arith, c .before .before .before .before .before .before .before .before .before .before .before .before .before .before .before .before .before .pre .0 .last)
-
-mark-next-requires : tie.Need-mark-next-requires
-mark-next-requires c κs =
-    let p = c .before .before .before .before .before .before .before .before .before .before .before .before .before .before .before .before .before .pre in
-    let w = p .0 .index (c .before .before .before .before .before .before .before .before .before .before .before .before .if1 .left) in
-    (omega (arith, p .1, p .0 .given .places), omega (arith, w .0 .size, c .before .before .before .before .note .ensures .noted .size), given-linked (p .0 .given), p .0 .given .out)
 
 same-length-2 : tie.Need-same-length-2
 same-length-2 c = search needs
@@ -49,21 +37,17 @@ same-length-3 c = search needs
 
 returns-2 : tie.Need-returns-2
 returns-2 c =
-    let p = c .before .before .before .before .before .before .before .before .before .before .before .before .before .before .before .before .before .before .before .before .pre in
-    let w = p .0 .index (c .before .before .before .before .before .before .before .before .before .before .before .before .before .before .before .if1 .left) in
-    let f = c .before .before .before .before .before .before .before .before .before .before .before .before .fill-fast .ensures in
-    let n = c .before .before .before .before .before .before .before .note .ensures in
-    let k = c .before .before .mark-next .ensures in
-    let low : (c .before .before .before .before .before .before .before .before .before .before .before .before .before .before .before .before .before .before .before .before .args) .v .0 < 64 = omega (arith, p .1, p .0 .given .places) in
-    let more = noted-more _ _ _ _ _ _ _ _ _ low (p .0 .filled) (w .0) (f .grown) n in
-    record {
-      result = f .result;
-      index = λ e b. (
-        indexed-same (k .size) (k .index) more,
-        due-more _ _ _ _ _ _ _ _ (λ j l. given-linked (p .0 .given) .ends 0 j (omega arith) l) (w .0) (w .1) n k,
-        λ v l. covers-same (k .index) more (noted-covers _ _ _ _ _ _ _ _ _ low (p .0 .filled) (w .0) (f .grown) n (w .2 v l)),
-      );
-    }
+    let p = c .before .before .before .before .before .before .before .before .before .before .before .before .before .before .before .pre in
+    let w = p .0 .index (c .before .before .before .before .before .before .before .before .before .before .if1 .left) in
+    let f = c .before .before .before .before .before .before .before .fill-fast .ensures in
+    let n = c .before .before .note .ensures in
+    let low : c .before .before .before .before .before .before .before .before .before .before .before .before .before .before .before .args .v .0 < 64 = omega (arith, p .1, p .0 .given .places) in (
+      record {
+        result = f .result;
+        index = λ e b. (noted-more _ _ _ _ _ _ _ _ _ low (p .0 .filled) (w .0) (f .grown) n, λ v l. noted-covers _ _ _ _ _ _ _ _ _ low (p .0 .filled) (w .0) (f .grown) n (w .1 v l));
+      },
+      f .grown,
+    )
 
 same-length-4 : tie.Need-same-length-4
 same-length-4 c = search needs
@@ -75,8 +59,10 @@ returns-3 : tie.Need-returns-3
 returns-3 c =
     let p = c .before .before .before .before .before .before .before .before .before .before .before .pre in
     let w = p .0 .index (c .before .before .before .before .before .before .if1 .left) in
-    let f = c .before .before .before .fill-fast .ensures in
-    record { result = f .result; index = λ e b. (noted-none _ _ _ _ _ _ _ (c .if2 .left) (w .0) (f .grown), w .1, λ v l. covers-none _ _ _ _ _ _ _ (c .if2 .left) (f .grown) (w .2 v l)) }
+    let f = c .before .before .before .fill-fast .ensures in (
+      record { result = f .result; index = λ e b. (noted-none _ _ _ _ _ _ _ (c .if2 .left) (w .0) (f .grown), λ v l. covers-none _ _ _ _ _ _ _ (c .if2 .left) (f .grown) (w .1 v l)) },
+      f .grown,
+    )
 
 pub visit-spec : {M : Type 1} → statement M
 visit-spec =
@@ -87,8 +73,6 @@ visit-spec =
     returns
     fill-fast-requires
     note-requires
-    add-t25
-    mark-next-requires
     same-length-2
     same-length-3
     returns-2

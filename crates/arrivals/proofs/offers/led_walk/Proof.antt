@@ -15,7 +15,7 @@ use Rattle.arrivals.proofs.offers.led_walk.Statement.{statement}
 use Rattle.arrivals.proofs.offers.led_walk.Tie as tie
 
 abbrev Inv-loop : tie.InvT-loop
-Inv-loop table n ix here g s₀ s = (s ≤ here .step .0 + 1) × (here .step .0 ≤ 255) × (32896 ≤ length ix) × ((i : ℕ) → i < n → Listed ix table i → rowAt table i .place ≡ here .place .0 → s ≤ rowAt table i .step → RowLeadsAt here g (rowAt table i) → ⊥)
+Inv-loop table n ix here g s₀ s = (s ≤ here .step .0 + 1) × (here .step .0 ≤ 255) × (32832 ≤ length ix) × ((i : ℕ) → i < n → Listed ix table i → rowAt table i .place ≡ here .place .0 → s ≤ rowAt table i .step → RowLeadsAt here g (rowAt table i) → ⊥)
 
 abbrev μ-loop : tie.MeasureT-loop
 μ-loop table n ix here g s₀ s = s
