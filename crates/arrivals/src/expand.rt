@@ -33,7 +33,7 @@ ghost use Rattle.arrivals.specs.Inner.Pruning.{FreshIs, Sourced, Fair};
 ghost use Rattle.arrivals.specs.Inner.Filling.{Reaching};
 ghost use Rattle.arrivals.specs.Inner.Index.{Covers};
 ghost use Rattle.arrivals.specs.Inner.Due.{Covered};
-ghost use Rattle.arrivals.specs.Inner.Sweeps.{Sweepable, Before, OffersRows, OffersSource, OffersLink, OffersLinks};
+ghost use Rattle.arrivals.specs.Inner.Sweeps.{Startable, Sweepable, Before, OffersRows, OffersSource, OffersLink, OffersLinks};
 
 // The first step whose rows are to be offered here over corridor j, by the pruning rule, where its departures from step `past` on are closed.
 pub fn fresh_before(net: &[u32], j: usize, here: Here, past: Step) -> Step
@@ -214,7 +214,7 @@ pub fn from_links(
     runs: &[u16],
     here: Here,
 ) -> Outcome
-    requires { ⌜ (Reaching (now runs) (now net) (now table) a here) × (Sweepable (now table) a 0 (now ix) here)
+    requires { ⌜ (Reaching (now runs) (now net) (now table) a here) × (Startable (now table) a (now ix) here)
         × (Covered (now net) (now table) a (now ix) (here .step .0)) ⌝ }
     ensures { λ r. ⌜ OffersLinks (now (runs .entry)) (now (net .entry)) (now (table .entry)) (now (table .exit)) a here r ⌝ }
 {

@@ -20,7 +20,7 @@ ghost use Rattle.costs.specs.Costs.{add, AtMost};
 ghost use Rattle.arrivals.specs.Rows.{rowAt};
 ghost use Rattle.arrivals.specs.Inner.Rows.{rowsOf, tailOf};
 ghost use Rattle.arrivals.specs.Inner.Entering.{LedAt, Ready};
-ghost use Rattle.arrivals.specs.Inner.Offering.{Beaten, Thinned, ThinnedAll, Inserted};
+ghost use Rattle.arrivals.specs.Inner.Offering.{Beaten, Thinned, ThinnedAll, Placed, Inserted};
 ghost use Rattle.arrivals.specs.Inner.Index.{Indexed, Covers};
 ghost use Rattle.arrivals.specs.Inner.Sweeps.{SweptAt, Sweepable};
 
@@ -81,20 +81,29 @@ pub fn precedes(table: &[u32], a: usize, k: usize, g: [u32; 3]) -> bool
     before(g, row_cost(table, a + k - 1))
 }
 
-// Puts a row in among the d rows from row a on, in order.
+// How many of the d rows from row a on, which stand in order, do not come after g: searched from the end, since what one source brings ascends.
+pub fn place_of(table: &[u32], a: usize, d: usize, g: [u32; 3]) -> usize
+    requires { ⌜ (a + d) * 5 ≤ length (now table) ⌝ }
+    ensures { λ r. ⌜ Placed g a d (now (table .entry)) r ⌝ }
+{
+    let mut k = d;
+    while precedes(table, a, k, g) {
+        k -= 1;
+    }
+    k
+}
+
+// Puts a row in ahead of the d rows from row a on.
 pub fn insert(table: &mut [u32], a: usize, d: usize, here: Here, g: [u32; 3])
     requires { ⌜ (a + d) * 5 + 5 ≤ length (now table) ⌝ }
     ensures { λ _. ⌜ Inserted (record { place = here .place .0; step = here .step .0; cost = g }) a d (now (table .entry)) (now (table .exit)) ⌝ }
 {
     let mut k = d;
-    loop {
-        if !precedes(table, a, k, g) {
-            push_row(table, a + k, here.place, here.step, g);
-            return;
-        }
+    while 0 < k {
         move_row(table, a + k - 1, a + k);
         k -= 1;
     }
+    push_row(table, a, here.place, here.step, g);
 }
 
 // Does a row from lo to hi, after waiting at cost lag, lead g?
@@ -132,24 +141,26 @@ pub fn led_walk(table: &[u32], n: usize, ix: &[u32], here: Here, g: [u32; 3]) ->
     false
 }
 
-// Offers the cost g to the d rows from row a on.
+// Offers the cost g to the d rows from row a on, which stand in order: only those before its place can be nowhere above g, and only those from there
+// on can be what g is nowhere above.
 pub fn offer(table: &mut [u32], a: usize, d: usize, ix: &[u32], here: Here, g: [u32; 3]) -> Outcome
     requires { ⌜ Sweepable (now table) a d (now ix) here ⌝ }
     ensures { λ r. ⌜ SweptAt (λ h. h ≡ g) here a (now (table .entry)) (now (table .exit)) d (r .ok) (r .rows) ⌝ }
 {
-    if beaten(table, a, d, g) {
+    let p = place_of(table, a, d, g);
+    if beaten(table, a, p, g) {
         return Outcome { ok: true, rows: d };
     }
     if led_walk(table, a, ix, here, g) {
         return Outcome { ok: true, rows: d };
     }
-    let e = thin(table, a, d, g);
-    if table.len() / 5 <= a + e {
+    let k = thin(table, a + p, d - p, g);
+    if table.len() / 5 <= a + p + k {
         return Outcome { ok: false, rows: 0 };
     }
-    insert(table, a, e, here, g);
+    insert(table, a + p, k, here, g);
     Outcome {
         ok: true,
-        rows: e + 1,
+        rows: p + k + 1,
     }
 }

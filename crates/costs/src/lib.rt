@@ -63,15 +63,20 @@ pub fn less(h: [u32; 3], c: [u32; 3]) -> [u32; 3]
     r
 }
 
+// 1 where x is greater than y, 0 otherwise: by arithmetic alone, since which of two figures is greater is no branch that can be foreseen.
+fn above(x: u32, y: u32) -> u64
+    ensures { λ r. ⌜ (x ≤ y → r ≡ 0) × (y < x → r ≡ 1) ⌝ }
+{
+    (x as u64 + 4294967295 - y as u64) / 4294967296
+}
+
 // Whether no figure of a is greater than b's.
 pub fn at_most(a: [u32; 3], b: [u32; 3]) -> bool
     ensures { λ r. ⌜ r ≡ atMostb a b ⌝ }
 {
-    let mut greater = 0u32;
+    let mut greater = 0;
     for i in 0..3 {
-        if a[i] > b[i] {
-            greater += 1;
-        }
+        greater += above(a[i], b[i]);
     }
     greater == 0
 }

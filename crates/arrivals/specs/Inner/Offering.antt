@@ -1,19 +1,19 @@
 -- The rows of one place and step, as they are gathered after the rows below a: costs are offered, and rows put in, moved and dropped.
 use mathlib.Core.Path.{_≡_, refl, sym, ap, ap₂, _∙_, subst}
-use mathlib.Core.List.{List, _∷_, []}
+use mathlib.Core.List.{List, _∷_, [], _++_}
 use mathlib.Core.Bool.{Bool, true, false}
 use mathlib.Core.Logic.{_⊎_, inl, inr, ⊎-elim}
 use Prim.Native.Nat.{ℕ, zero, suc, _+_, _*_, _-_, _≤_, _<_}
 use native.Mathlib.Omega.{arith}
-use native.Mathlib.Numerals.{add-one}
 use lib.ListN.{length, getD}
 use Rattle.sheet.specs.Lists.{Lex}
-use Rattle.costs.specs.Costs.{AtMost}
-use Rattle.costs.specs.Laws.Figures.{at-most-refl, at-most-trans}
-use Rattle.sheet.specs.Laws.Decided.{false-not-true, lt-or-le, Any, here, there, any-cons, any-map}
+use Rattle.sheet.specs.Laws.Order.{Lex-trans}
+use Rattle.costs.specs.Costs.{AtMost, figures}
+use Rattle.costs.specs.Laws.Figures.{at-most-refl, at-most-trans, at-most-Lex, at-most-not-Lex, Lex-asym, Lex-compared}
+use Rattle.sheet.specs.Laws.Decided.{false-not-true, lt-or-le, from-length, Any, All, here, there, none, more, all-head, all-tail, any-cons, any-map}
 use Rattle.arrivals.specs.Rows.{Row, rowAt, Put}
 use Rattle.arrivals.specs.Laws.Rows.{row-kept}
-use Rattle.arrivals.specs.Inner.Rows.{tailOf, tail-more, tail-kept, put-tail}
+use Rattle.arrivals.specs.Inner.Rows.{tailOf, tail-more, tail-kept, tail-any, tail-find, put-tail}
 
 -- some cost of the group is nowhere above h
 abbrev pub Beaten : List Row → List ℕ → Type 0
@@ -43,6 +43,11 @@ pub data Offered (H : List ℕ → Type 0) (v t : ℕ) (g : List ℕ) : List Row
 pub data Offers (S H : List ℕ → Type 0) (v t : ℕ) (gs : List Row) : List Row → Type 0 where
   offers-none : Offers S H v t gs gs
   offers-more : {ps qs : List Row} {g : List ℕ} → Offers S H v t gs ps → S g → Offered H v t g ps qs → Offers S H v t gs qs
+
+-- the newest first, no cost comes before the one behind it
+pub data Rising : List Row → Type 0 where
+  rising-none : Rising []
+  rising-more : {r : Row} {gs : List Row} → Stops r gs → Rising gs → Rising (r ∷ gs)
 
 -- costs of S are offered to the d rows of xs from row a on, which become the e rows of ys; where ok, all of S
 pub record Swept (S H : List ℕ → Type 0) (v t a : ℕ) (xs ys : List ℕ) (d : ℕ) (ok : Bool) (e : ℕ) : Type 0 where
@@ -86,6 +91,50 @@ offers-then f g o offers-none = offers-as f o
     offers-as f (offers-more o s x) = offers-more (offers-as f o) (f _ s) x
 offers-then f g o (offers-more p r x) = offers-more (offers-then f g o p) (g _ r) x
 
+-- the order stays
+
+not-before : (a b c : List ℕ) → (Lex a b → ⊥) → (Lex b c → ⊥) → Lex a c → ⊥
+not-before a b c x y l = ⊎-elim (λ e. y (subst (λ (z : List ℕ). Lex z c) e l)) (⊎-elim x (λ p. y (Lex-trans b a c p l))) (Lex-compared a b)
+
+rising-head : {r : Row} {gs : List Row} → Rising (r ∷ gs) → Stops r gs
+rising-head (rising-more s x) = s
+
+rising-tail : {r : Row} {gs : List Row} → Rising (r ∷ gs) → Rising gs
+rising-tail (rising-more s x) = x
+
+stops-head : {r q : Row} {gs : List Row} → Stops r (q ∷ gs) → Lex (r .cost) (q .cost) → ⊥
+stops-head (stops-at n) = n
+
+stops-past : {r q : Row} {gs : List Row} → Stops r (q ∷ gs) → Stops q gs → Stops r gs
+stops-past s stops-none = stops-none
+stops-past {r} {q} s (stops-at {q = o} n) = stops-at (not-before (r .cost) (q .cost) (o .cost) (stops-head s) n)
+
+thin-stops : {r : Row} {g : List ℕ} {gs ps : List Row} → Thin g gs ps → Rising gs → Stops r gs → Stops r ps
+thin-stops thin-none x s = s
+thin-stops (thin-drop l t) x s = thin-stops t (rising-tail x) (stops-past s (rising-head x))
+thin-stops (thin-keep l t) x s = stops-at (stops-head s)
+
+thin-rising : {g : List ℕ} {gs ps : List Row} → Thin g gs ps → Rising gs → Rising ps
+thin-rising thin-none x = x
+thin-rising (thin-drop l t) x = thin-rising t (rising-tail x)
+thin-rising (thin-keep l t) x = rising-more (thin-stops t (rising-tail x) (rising-head x)) (thin-rising t (rising-tail x))
+
+insert-stops : {r q : Row} {ps qs : List Row} → Insert r ps qs → Lex (r .cost) (q .cost) → Stops q ps → Stops q qs
+insert-stops {r} {q} (insert-here s) l u = stops-at (Lex-asym (r .cost) (q .cost) l)
+insert-stops (insert-past m i) l u = stops-at (stops-head u)
+
+insert-rising : {r : Row} {ps qs : List Row} → Insert r ps qs → Rising ps → Rising qs
+insert-rising (insert-here s) x = rising-more s x
+insert-rising (insert-past l i) x = rising-more (insert-stops i l (rising-head x)) (insert-rising i (rising-tail x))
+
+pub offers-rising : {S H : List ℕ → Type 0} {v t : ℕ} {gs qs : List Row} → Offers S H v t gs qs → Rising gs → Rising qs
+offers-rising offers-none x = x
+offers-rising (offers-more o s w) x = go w (offers-rising o x)
+  where
+    go : {H : List ℕ → Type 0} {v t : ℕ} {g : List ℕ} {ps qs : List Row} → Offered H v t g ps qs → Rising ps → Rising qs
+    go (offered-not y) x = x
+    go (offered-in n h y i) x = insert-rising i (thin-rising y x)
+
 -- sweeps, one after another
 pub swept-none : {S H : List ℕ → Type 0} {v t a : ℕ} {xs : List ℕ} {d : ℕ} → (a + d) * 5 ≤ length xs → ((h : List ℕ) → S h → H h) → Swept S H v t a xs xs d true d
 swept-none l f = record { below = λ j m. refl; room = l; done = λ e. offers-none; all = λ e h s. inr (f h s) }
@@ -127,23 +176,6 @@ pub swept-one : {H : List ℕ → Type 0} {v t a : ℕ} {g xs ys : List ℕ} {d 
 swept-one {H} {v} {t} {a} {g} {xs} {ys} {d} {e} b l o =
     record { below = b; room = l; done = λ _. offers-more offers-none refl o; all = λ _ h q. subst (λ (x : List ℕ). Beaten (tailOf ys a e) x ⊎ H x) (sym q) (offered-new o) }
 
--- moved rows
-pub insert-of : (r : Row) (xs ys : List ℕ) (a k d : ℕ) → k ≤ d → ((i : ℕ) → k ≤ i → i < d → (rowAt ys (a + i + 1) ≡ rowAt xs (a + i)) × Lex (r .cost) (rowAt xs (a + i) .cost)) → Insert r (tailOf xs a k) (tailOf ys a (k + 1)) → Insert r (tailOf xs a d) (tailOf ys a (d + 1))
-unfolding tailOf
-insert-of r xs ys a k zero l h i = let e : k ≡ 0 = omega arith in subst (λ (n : ℕ). Insert r (tailOf xs a n) (tailOf ys a (n + 1))) e i
-insert-of r xs ys a k (suc d) l h i =
-    ⊎-elim
-    (λ lt. let m = h d (omega arith) (omega arith) in
-    subst (λ (zs : List Row). Insert r (tailOf xs a (suc d)) zs) (sym (tail-more ys a (suc d) ∙ ap₂ _∷_ (ap (rowAt ys) (let e : a + suc d ≡ a + d + 1 = omega arith in e) ∙ m .0) (ap (tailOf ys a) (sym (add-one d)))))
-    (insert-past (m .1) (insert-of r xs ys a k d (omega arith) (λ j x y. h j x (omega arith)) i)))
-    (λ ge. let e : k ≡ suc d = omega arith in subst (λ (n : ℕ). Insert r (tailOf xs a n) (tailOf ys a (n + 1))) e i)
-    (lt-or-le k (suc d))
-
-pub stops-more : (r : Row) (xs : List ℕ) (a k : ℕ) → ((0 < k) × Lex (r .cost) (rowAt xs (a + k - 1) .cost) → ⊥) → Stops r (tailOf xs a k)
-unfolding tailOf
-stops-more r xs a zero h = stops-none
-stops-more r xs a (suc k) h = let e : a + k ≡ a + suc k - 1 = omega arith in stops-at (λ b. h (omega arith, subst (λ (n : ℕ). Lex (r .cost) (rowAt xs n .cost)) e b))
-
 pub thin-zero : (g : List ℕ) (xs ys : List ℕ) (a : ℕ) → Thin g (tailOf xs a 0) (tailOf ys a 0)
 unfolding tailOf
 thin-zero g xs ys a = thin-none
@@ -183,33 +215,153 @@ pub record ThinnedAll (g : List ℕ) (a d : ℕ) (xs ys : List ℕ) (r : ℕ) : 
   pub below : (j : ℕ) → j < a * 5 → getD ys j 0 ≡ getD xs j 0
   pub thin : Thin g (tailOf xs a d) (tailOf ys a r)
 
--- row r is put in among the d rows from row a on
+-- of the d rows from row a on those from k on come after g
+pub record After (g : List ℕ) (a k d : ℕ) (xs : List ℕ) : Type 0 where
+  pub every : (i : ℕ) → k ≤ i → i < d → Lex g (rowAt xs (a + i) .cost)
+
+pub after-more : {g : List ℕ} {a k d : ℕ} {xs : List ℕ} → 0 < k → After g a k d xs → Lex g (rowAt xs (a + k - 1) .cost) → After g a (k - 1) d xs
+after-more {g} {a} {k} {d} {xs} o f l =
+    record { every = λ i m u. ⊎-elim (λ lt. f .every i (omega arith) u) (λ ge. let e : a + k - 1 ≡ a + i = omega arith in subst (λ (n : ℕ). Lex g (rowAt xs n .cost)) e l) (lt-or-le (k - 1) i) }
+
+-- and the one before them does not: p is the place of g
+pub record Placed (g : List ℕ) (a d : ℕ) (xs : List ℕ) (p : ℕ) : Type 0 where
+  pub most : p ≤ d
+  pub after : After g a p d xs
+  pub last : (0 < p) × Lex g (rowAt xs (a + p - 1) .cost) → ⊥
+
+-- row r is put in ahead of the d rows from row a on
 pub record Inserted (r : Row) (a d : ℕ) (xs ys : List ℕ) : Type 0 where
   pub below : (j : ℕ) → j < a * 5 → getD ys j 0 ≡ getD xs j 0
-  pub inserted : Insert r (tailOf xs a d) (tailOf ys a (d + 1))
+  pub row : rowAt ys a ≡ r
+  pub moved : (i : ℕ) → i < d → rowAt ys (a + i + 1) ≡ rowAt xs (a + i)
 
--- the rows past k have moved up by one
-abbrev pub Moved : Row → ℕ → ℕ → ℕ → List ℕ → List ℕ → Type 0
-Moved r a k d xs ys = (i : ℕ) → k ≤ i → i < d → (rowAt ys (a + i + 1) ≡ rowAt xs (a + i)) × Lex (r .cost) (rowAt xs (a + i) .cost)
+-- the rows from k on have moved up by one
+pub record Moved (a k d : ℕ) (xs ys : List ℕ) : Type 0 where
+  pub below : (j : ℕ) → j < (a + k) * 5 → getD ys j 0 ≡ getD xs j 0
+  pub moved : (i : ℕ) → k ≤ i → i < d → rowAt ys (a + i + 1) ≡ rowAt xs (a + i)
 
-pub moved-more : (r : Row) (a k d : ℕ) (xs ys zs : List ℕ) → 0 < k → Moved r a k d xs ys → ((j : ℕ) → j < (a + k) * 5 → getD ys j 0 ≡ getD xs j 0)
-    → Lex (r .cost) (rowAt ys (a + k - 1) .cost) → Put ys zs (a + k) (rowAt ys (a + k - 1)) → Moved r a (k - 1) d xs zs
-moved-more r a k d xs ys zs o m same b p i l u =
-    ⊎-elim
-    (λ lt. let w = m i (omega arith) u in (row-kept ys zs (a + i + 1) (λ j x y. p .above j (omega arith)) ∙ w .0, w .1))
-    (λ ge.
-    let e : i ≡ k - 1 = omega arith in
-    let f : a + i + 1 ≡ a + k = omega arith in
-    let h : a + k - 1 ≡ a + i = omega arith in
-    let same-row : rowAt ys (a + i) ≡ rowAt xs (a + i) = row-kept xs ys (a + i) (λ j x y. same j (omega arith)) in
-    (ap (rowAt zs) f ∙ p .row ∙ ap (rowAt ys) h ∙ same-row, subst (λ (q : Row). Lex (r .cost) (q .cost)) (ap (rowAt ys) h ∙ same-row) b))
-    (lt-or-le (k - 1) i)
+pub moved-more : {a k d : ℕ} {xs ys zs : List ℕ} → 0 < k → Moved a k d xs ys → Put ys zs (a + k) (rowAt ys (a + k - 1)) → Moved a (k - 1) d xs zs
+moved-more {a} {k} {d} {xs} {ys} {zs} o m p =
+    record {
+      below = λ j l. p .below j (omega arith) ∙ m .below j (omega arith);
+      moved = λ i l u.
+          ⊎-elim
+          (λ lt. row-kept ys zs (a + i + 1) (λ j x y. p .above j (omega arith)) ∙ m .moved i (omega arith) u)
+          (λ ge.
+          let f : a + i + 1 ≡ a + k = omega arith in
+          let h : a + k - 1 ≡ a + i = omega arith in
+          ap (rowAt zs) f ∙ p .row ∙ ap (rowAt ys) h ∙ row-kept xs ys (a + i) (λ j x y. m .below j (omega arith)))
+          (lt-or-le (k - 1) i);
+    }
 
-pub moved-end : (r : Row) (a k d : ℕ) (xs ys zs : List ℕ) → k ≤ d → Moved r a k d xs ys → ((j : ℕ) → j < (a + k) * 5 → getD ys j 0 ≡ getD xs j 0)
-    → ((0 < k) × Lex (r .cost) (rowAt ys (a + k - 1) .cost) → ⊥) → Put ys zs (a + k) r → Insert r (tailOf xs a d) (tailOf zs a (d + 1))
-moved-end r a k d xs ys zs l m same n p =
-    insert-of r xs zs a k d l (λ i x y. let w = m i x y in (row-kept ys zs (a + i + 1) (λ j u v. p .above j (omega arith)) ∙ w .0, w .1))
-    (subst (Insert r (tailOf xs a k)) (sym (put-tail a k p ∙ ap (λ (qs : List Row). r ∷ qs) here-same)) (insert-here (subst (Stops r) here-same (stops-more r ys a k n))))
-  where
-    here-same : tailOf ys a k ≡ tailOf xs a k
-    here-same = tail-kept xs ys a k (λ j u v. same j v)
+pub moved-end : {r : Row} {a k d : ℕ} {xs ys zs : List ℕ} → k ≤ 0 → Moved a k d xs ys → Put ys zs a r → Inserted r a d xs zs
+moved-end {r} {a} {k} {d} {xs} {ys} {zs} l m p =
+    record {
+      below = λ j u. p .below j u ∙ m .below j (omega arith);
+      row = p .row;
+      moved = λ i u. row-kept ys zs (a + i + 1) (λ j x y. p .above j (omega arith)) ∙ m .moved i (omega arith) u;
+    }
+
+-- rows in parts
+
+tail-join : (xs : List ℕ) (a p k : ℕ) → tailOf xs a (p + k) ≡ tailOf xs (a + p) k ++ tailOf xs a p
+unfolding tailOf
+tail-join xs a p zero = let e : p + 0 ≡ p = omega arith in ap (tailOf xs a) e
+tail-join xs a p (suc k) =
+    let e : p + suc k ≡ suc (p + k) = omega arith in
+    let f : a + (p + k) ≡ a + p + k = omega arith in
+    ap (tailOf xs a) e ∙ ap₂ _∷_ (ap (rowAt xs) f) (tail-join xs a p k)
+
+tail-moved : (xs ys : List ℕ) (a b d : ℕ) → ((i : ℕ) → i < d → rowAt ys (b + i) ≡ rowAt xs (a + i)) → tailOf ys b d ≡ tailOf xs a d
+unfolding tailOf
+tail-moved xs ys a b zero f = refl
+tail-moved xs ys a b (suc d) f = ap₂ _∷_ (f d (omega arith)) (tail-moved xs ys a b d (λ i l. f i (omega arith)))
+
+tail-every : {P : Row → Type 0} (xs : List ℕ) (a d : ℕ) → ((i : ℕ) → i < d → P (rowAt xs (a + i))) → All P (tailOf xs a d)
+unfolding tailOf
+tail-every xs a zero f = none
+tail-every xs a (suc d) f = more (f d (omega arith)) (tail-every xs a d (λ i l. f i (omega arith)))
+
+stops-more : (r : Row) (xs : List ℕ) (a k : ℕ) → ((0 < k) × Lex (r .cost) (rowAt xs (a + k - 1) .cost) → ⊥) → Stops r (tailOf xs a k)
+unfolding tailOf
+stops-more r xs a zero h = stops-none
+stops-more r xs a (suc k) h = let e : a + k ≡ a + suc k - 1 = omega arith in stops-at (λ b. h (omega arith, subst (λ (n : ℕ). Lex (r .cost) (rowAt xs n .cost)) e b))
+
+rising-low : (xs : List ℕ) (a d p : ℕ) → p ≤ d → Rising (tailOf xs a d) → Rising (tailOf xs a p)
+unfolding tailOf
+rising-low xs a zero p l x = let e : 0 ≡ p = omega arith in subst (λ (n : ℕ). Rising (tailOf xs a n)) e x
+rising-low xs a (suc d) p l x =
+    ⊎-elim (λ lt. rising-low xs a d p (omega arith) (rising-tail x)) (λ ge. let e : suc d ≡ p = omega arith in subst (λ (n : ℕ). Rising (tailOf xs a n)) e x) (lt-or-le p (suc d))
+
+thin-join : {g : List ℕ} {qs ps us : List Row} → Thin g qs ps → Thin g us us → Thin g (qs ++ us) (ps ++ us)
+thin-join thin-none t = t
+thin-join (thin-drop l x) t = thin-drop l (thin-join x t)
+thin-join (thin-keep l x) t = thin-keep l (thin-join x t)
+
+insert-join : {r : Row} {g : List ℕ} {qs ps us : List Row} → Thin g qs ps → All (λ q. Lex (r .cost) (q .cost)) qs → Stops r us → Insert r (ps ++ us) (ps ++ r ∷ us)
+insert-join thin-none a s = insert-here s
+insert-join (thin-drop l x) a s = insert-join x (all-tail a) s
+insert-join (thin-keep l x) a s = insert-past (all-head a) (insert-join x (all-tail a) s)
+
+pub beaten-more : {g : List ℕ} (xs : List ℕ) (a d p : ℕ) → p ≤ d → Beaten (tailOf xs a p) g → Beaten (tailOf xs a d) g
+beaten-more {g} xs a d p l b =
+    let f = tail-find xs a p b in
+    let e : f .at ≡ a + (f .at - a) = omega (arith, f .from) in
+    tail-any _ xs a d (f .at - a) (omega (arith, f .from, f .upto)) (subst (λ (k : ℕ). AtMost (rowAt xs k .cost) g) e (f .fits))
+
+-- g is offered to the d rows of xs from row a on, of which p do not come after it
+module _ (v t : ℕ) (g xs : List ℕ) (a d p : ℕ) (three : length g ≡ figures) (w : Placed g a d xs p) where
+  same-size : (i : ℕ) → length g ≡ length (rowAt xs i .cost)
+  same-size i = three ∙ sym (from-length figures (i * 5 + 2) xs)
+
+  -- what comes after g is somewhere above it
+  unbeaten : (Beaten (tailOf xs a p) g → ⊥) → Beaten (tailOf xs a d) g → ⊥
+  unbeaten n b =
+      let f = tail-find xs a d b in
+      let e : f .at ≡ a + (f .at - a) = omega (arith, f .from) in
+      let l = subst (λ (k : ℕ). AtMost (rowAt xs k .cost) g) e (f .fits) in
+      ⊎-elim
+      (λ lt. n (tail-any _ xs a p (f .at - a) lt l))
+      (λ ge. at-most-not-Lex _ _ (sym (same-size (a + (f .at - a)))) l (w .after .every (f .at - a) ge (omega (arith, f .from, f .upto))))
+      (lt-or-le (f .at - a) p)
+
+  -- of what does not come after g and is somewhere above it, g drops nothing
+  unthinned : (k : ℕ) → Stops (record { place = v; step = t; cost = g }) (tailOf xs a k) → Rising (tailOf xs a k) → (Beaten (tailOf xs a k) g → ⊥) → Thin g (tailOf xs a k) (tailOf xs a k)
+  unfolding tailOf
+  unthinned zero s x n = thin-none
+  unthinned (suc k) s x n =
+      thin-keep
+      (λ l. ⊎-elim (λ e. n (here (subst (λ (c : List ℕ). AtMost c g) e (at-most-refl g)))) (stops-head s) (at-most-Lex g (rowAt xs (a + k) .cost) (same-size (a + k)) l))
+      (unthinned k (stops-past s (rising-head x)) (rising-tail x) (λ b. n (there b)))
+
+  pub offered-at : {H : List ℕ → Type 0} (ys zs : List ℕ) (k : ℕ) → Rising (tailOf xs a d) → (Beaten (tailOf xs a p) g → ⊥) → (H g → ⊥) → ThinnedAll g (a + p) (d - p) xs ys k
+      → Inserted (record { place = v; step = t; cost = g }) (a + p) k ys zs → Offered H v t g (tailOf xs a d) (tailOf zs a (p + k + 1))
+  offered-at {H} ys zs k x n h y i =
+      subst (Offered H v t g (tailOf xs a d)) (sym parts) (subst (λ (gs : List Row). Offered H v t g gs (qs ++ r ∷ us)) (sym whole)
+      (offered-in (λ b. unbeaten n (subst (λ (gs : List Row). Beaten gs g) (sym whole) b)) h (thin-join (y .thin) (unthinned p stop (rising-low xs a d p (w .most) x) n)) (insert-join (y .thin) later stop)))
+    where
+      r : Row
+      r = record { place = v; step = t; cost = g }
+
+      us : List Row
+      us = tailOf xs a p
+
+      qs : List Row
+      qs = tailOf ys (a + p) k
+
+      stop : Stops r us
+      stop = stops-more r xs a p (w .last)
+
+      later : All (λ q. Lex g (q .cost)) (tailOf xs (a + p) (d - p))
+      later = tail-every xs (a + p) (d - p) (λ j l. let e : a + (p + j) ≡ a + p + j = omega arith in subst (λ (m : ℕ). Lex g (rowAt xs m .cost)) e (w .after .every (p + j) (omega arith) (omega arith)))
+
+      whole : tailOf xs a d ≡ tailOf xs (a + p) (d - p) ++ us
+      whole = let e : d ≡ p + (d - p) = omega (arith, w .most) in ap (tailOf xs a) e ∙ tail-join xs a p (d - p)
+
+      parts : tailOf zs a (p + k + 1) ≡ qs ++ r ∷ us
+      parts =
+          let e : p + k + 1 ≡ p + 1 + k = omega arith in
+          ap (tailOf zs a) e ∙ tail-join zs a (p + 1) k
+          ∙ ap₂ _++_
+          (tail-moved ys zs (a + p) (a + (p + 1)) k (λ j l. let f : a + (p + 1) + j ≡ a + p + j + 1 = omega arith in ap (rowAt zs) f ∙ i .moved j l))
+          (tail-more zs a p ∙ ap₂ _∷_ (i .row) (tail-kept xs zs a p (λ j l m. i .below j m ∙ y .below j m)))

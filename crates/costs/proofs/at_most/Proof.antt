@@ -8,6 +8,7 @@ use native.Mathlib.Omega.{arith}
 use borrow.Author.Count.{below-more}
 use borrow.Author.Needs.{needs}
 use borrow.Author.Tests.{eq-eqb, ne-eqb}
+use Rattle.sheet.specs.Laws.Decided.{lt-or-le}
 use Rattle.costs.specs.Costs.{fig}
 use Rattle.costs.specs.Laws.Figures.{Greater, atMostb-not, at-most-atMostb, is-at-most}
 use Rattle.costs.proofs.at_most.Statement.{statement}
@@ -22,20 +23,26 @@ abbrev μ-loop : tie.MeasureT-loop
 loop-holds : tie.Need-loop-holds Inv-loop μ-loop
 loop-holds c = (omega arith, omega arith, inl (omega arith, λ k l. absurd (omega arith)))
 
-mul-if1 : tie.Need-mul-if1 Inv-loop μ-loop
-mul-if1 c = search needs
+mul-above : tie.Need-mul-above Inv-loop μ-loop
+mul-above c = search needs
 
-array-read-if1 : tie.Need-array-read-if1 Inv-loop μ-loop
-array-read-if1 c = search needs
+array-read-above : tie.Need-array-read-above Inv-loop μ-loop
+array-read-above c = search needs
 
-mul-if1-2 : tie.Need-mul-if1-2 Inv-loop μ-loop
-mul-if1-2 c = search needs
+mul-above-2 : tie.Need-mul-above-2 Inv-loop μ-loop
+mul-above-2 c = search needs
 
-array-read-if1-2 : tie.Need-array-read-if1-2 Inv-loop μ-loop
-array-read-if1-2 c = search needs
+array-read-above-2 : tie.Need-array-read-above-2 Inv-loop μ-loop
+array-read-above-2 c = search needs
+
+above-requires : tie.Need-above-requires Inv-loop μ-loop
+above-requires c κs = search needs
 
 add-greater : tie.Need-add-greater Inv-loop μ-loop
-add-greater c = search needs
+add-greater c =
+    let a = c .before .before .before .args in
+    let i = c .before .before .loop .i in
+    ⊎-elim (λ lt. omega (arith, c .above .ensures .1 lt)) (λ le. omega (arith, c .above .ensures .0 le)) (lt-or-le (fig (a .t2) i) (fig (a .t1) i))
 
 add-i : tie.Need-add-i Inv-loop μ-loop
 add-i c = search needs
@@ -45,11 +52,14 @@ loop-less c = search needs
 
 loop-again : tie.Need-loop-again Inv-loop μ-loop
 loop-again c =
+    let a = c .before .before .before .args in
+    let i = c .before .before .loop .i in
     let inv = c .before .before .loop .inv in
     ⊎-elim
-    (λ t. (omega arith, omega (arith, t .1, inv .1), inr (omega (arith, t .1), record { at = c .before .before .loop .i; greater = t .0 .taken })))
-    (λ e. (omega arith, omega (arith, e .1, inv .1), ⊎-elim (λ z. inl (omega (arith, e .1, z .0), below-more _ _ (z .1) (omega (arith, e .0 .left)))) (λ g. inr (omega (arith, e .1, g .0), g .1)) (inv .2)))
-    (c .if1 .came)
+    (λ lt. let one = c .above .ensures .1 lt in (omega arith, omega (arith, inv .1), inr (omega arith, record { at = i; greater = lt })))
+    (λ le. let none = c .above .ensures .0 le in
+    (omega arith, omega (arith, inv .1), ⊎-elim (λ z. inl (omega (arith, z .0), below-more _ _ (z .1) le)) (λ g. inr (omega (arith, g .0), g .1)) (inv .2)))
+    (lt-or-le (fig (a .t2) i) (fig (a .t1) i))
 
 returns : tie.Need-returns Inv-loop μ-loop
 returns c =
@@ -66,10 +76,11 @@ at-most-spec =
     Inv-loop
     μ-loop
     loop-holds
-    mul-if1
-    array-read-if1
-    mul-if1-2
-    array-read-if1-2
+    mul-above
+    array-read-above
+    mul-above-2
+    array-read-above-2
+    above-requires
     add-greater
     add-i
     loop-less

@@ -12,7 +12,7 @@ use Rattle.arrivals.specs.Inner.Entering.{Entry}
 use Rattle.arrivals.specs.Inner.Network.{caseOf, countOf}
 use Rattle.arrivals.specs.Inner.Index.{covers-kept}
 use Rattle.arrivals.specs.Inner.Offering.{swept-full, swept-none, swept-ok}
-use Rattle.arrivals.specs.Inner.Sweeps.{Over, SweptAt, over-end, over-none, over-step, reaching-kept, sweepable-kept}
+use Rattle.arrivals.specs.Inner.Sweeps.{Over, SweptAt, over-end, over-none, over-step, reaching-kept, sweepable-kept, sweepable-none}
 use Rattle.arrivals.proofs.expand.from_links.Statement.{statement}
 use Rattle.arrivals.proofs.expand.from_links.Tie as tie
 
@@ -26,13 +26,13 @@ last-link-requires : tie.Need-last-link-requires Inv-loop μ-loop
 last-link-requires c κs = (omega arith, c .before .before .before .before .pre .0 .ready .inside, c .before .before .before .before .pre .0 .given .size)
 
 loop-holds : tie.Need-loop-holds Inv-loop μ-loop
-loop-holds c = let p = c .before .before .before .before .before .pre in let v = c .before .before .before .before .before .args .here .place .0 in (omega (arith, c .last-link .ensures, p .0 .given .into .heads v (p .0 .ready .inside)), refl, swept-none (p .1 .room) (λ g o. over-none _ _ _ _ _ _ _ g (λ i l m e. p .0 .given .into .head v i (p .0 .ready .inside) (omega (arith, c .last-link .ensures)) m e) o))
+loop-holds c = let p = c .before .before .before .before .before .pre in let v = c .before .before .before .before .before .args .here .place .0 in (omega (arith, c .last-link .ensures, p .0 .given .into .heads v (p .0 .ready .inside)), refl, swept-none (sweepable-none (p .1) .room) (λ g o. over-none _ _ _ _ _ _ _ g (λ i l m e. p .0 .given .into .head v i (p .0 .ready .inside) (omega (arith, c .last-link .ensures)) m e) o))
 
 sub-j : tie.Need-sub-j Inv-loop μ-loop
 sub-j c = search needs
 
 from-link-requires : tie.Need-from-link-requires Inv-loop μ-loop
-from-link-requires c κs = let p = c .before .before .before .before .before .before .before .before .pre in let inv = c .before .before .loop .inv in (reaching-kept (inv .1) (inv .2 .below) (p .0), sweepable-kept _ (inv .1) (inv .2 .below) (inv .2 .room) (p .1), omega arith, λ v l. covers-kept (inv .2 .below) (p .2 v l))
+from-link-requires c κs = let p = c .before .before .before .before .before .before .before .before .pre in let inv = c .before .before .loop .inv in (reaching-kept (inv .1) (inv .2 .below) (p .0), sweepable-kept (inv .1) (inv .2) (sweepable-none (p .1)), omega arith, λ v l. covers-kept (inv .2 .below) (p .2 v l))
 
 same-length : tie.Need-same-length Inv-loop μ-loop
 same-length c = search needs

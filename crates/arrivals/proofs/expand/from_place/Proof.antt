@@ -33,7 +33,7 @@ group-requires : tie.Need-group-requires Inv-loop μ-loop
 group-requires c κs = (c .before .before .before .before .before .before .before .pre .1 .inside, omega arith, c .before .before .before .loop .inv .2)
 
 from-rows-requires : tie.Need-from-rows-requires Inv-loop μ-loop
-from-rows-requires c κs = let p = c .before .before .before .before .before .before .before .before .pre in let inv = c .before .before .before .before .loop .inv in let q = sweepable-kept {ys = c .before .before .before .before .loop .table} _ (inv .3) (inv .4 .below) (inv .4 .room) (p .0) in (q, p .1, before-of (q .indexed) _ _ (omega arith) (p .1 .inside) (omega arith) (c .group .ensures .0) (c .group .ensures .1))
+from-rows-requires c κs = let p = c .before .before .before .before .before .before .before .before .pre in let inv = c .before .before .before .before .loop .inv in let q = sweepable-kept (inv .3) (inv .4) (p .0) in (q, p .1, before-of (q .indexed) _ _ (omega arith) (p .1 .inside) (omega arith) (c .group .ensures .0) (c .group .ensures .1))
 
 same-length : tie.Need-same-length Inv-loop μ-loop
 same-length c = search needs

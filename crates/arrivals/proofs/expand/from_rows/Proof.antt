@@ -29,7 +29,7 @@ reach-cost-requires : tie.Need-reach-cost-requires Inv-loop μ-loop
 reach-cost-requires c κs = let inv = c .before .before .loop .inv in let p = c .before .before .before .before .before .pre in let a = c .before .before .before .before .before .args in let r = ready-kept {ys = c .before .before .loop .table} (inv .2) (inv .3 .below) (p .0 .ready) in let k = row-kept (a .table .now) (c .before .before .loop .table) (c .before .before .loop .i) (λ j l m. inv .3 .below j (omega (arith, p .2 .upto))) in (omega (arith, r .room, p .2 .upto), r .steps, p .1, all-at Bounded (c .before .before .loop .table) (a .a) (c .before .before .loop .i) (omega (arith, p .2 .upto)) (r .bounded), subst (λ (q : Row). q .step < a .here .step .0) (sym k) (p .2 .early (c .before .before .loop .i) (inv .0) (omega arith)))
 
 offer-requires : tie.Need-offer-requires Inv-loop μ-loop
-offer-requires c κs = let inv = c .before .before .before .before .loop .inv in sweepable-kept _ (inv .2) (inv .3 .below) (inv .3 .room) (c .before .before .before .before .before .before .before .pre .0)
+offer-requires c κs = let inv = c .before .before .before .before .loop .inv in sweepable-kept (inv .2) (inv .3) (c .before .before .before .before .before .before .before .pre .0)
 
 same-length : tie.Need-same-length Inv-loop μ-loop
 same-length c = search needs
