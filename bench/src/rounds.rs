@@ -6,7 +6,7 @@ pub const ROUNDS: usize = 21;
 const ROUND: f64 = 4_000.0;
 
 /// A side whose rounds would together take longer than so many microseconds is timed in fewer, at least in one.
-const ALL_ROUNDS: f64 = 800_000.0;
+const ALL_ROUNDS: f64 = 2_000_000.0;
 
 /// A side of a comparison on one sheet.
 pub struct Side<'a> {
