@@ -110,8 +110,8 @@ pub fn times(curves: &[Curve]) -> String {
 /// A circle, or a square on its corner.
 fn mark(kind: usize, (x, y): (f64, f64)) -> String {
     match kind {
-        0 => format!("<circle class='a' cx='{x:.1}' cy='{y:.1}' r='4.5'/>\n"),
-        _ => format!("<path class='b' d='M{:.1} {y:.1}l5 5 5-5-5-5z'/>\n", x - 5.0),
+        0 => format!("<circle class='a' cx='{x:.1}' cy='{y:.1}' r='5.5'/>\n"),
+        _ => format!("<path d='M{:.1} {y:.1}l4 4 4-4-4-4z'/>\n", x - 4.0),
     }
 }
 

@@ -1,5 +1,5 @@
-//! Times planner_front beside every peer on sheets of all families of the peers' generator, checks that every peer
-//! gives the planner's costs, and prints a Markdown table. Started with what `Arguments` says.
+//! Times planner_front beside every peer on sheets of the families without a plus, which bgl can be given, checks that
+//! every peer gives the planner's costs, and prints a Markdown table. Started with what `Arguments` says.
 
 use planner_bench::beside::{Measured, Sheet};
 use planner_bench::peer::{FAMILIES, Folder, LIMIT, MOSIPP, PULL, Search};
