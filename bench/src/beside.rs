@@ -1,80 +1,124 @@
-//! planner_front beside the strongest peer's search on sheets of the peers' generator, once both have given the same costs
-//! and the same number of leading arrivals, and the table of it.
+//! The one way in which a sheet is measured: the planner's calls and the peers' searches are sides of a comparison, timed
+//! in turns; every answer of a peer must agree with the planner's.
 
-use crate::front::{Front, reading_micros};
-use crate::median;
-use crate::peer::{Folder, MOSIPP};
+use crate::form::parts;
+use crate::front::{Front, journey_micros, reading_micros};
+use crate::peer::{Folder, LIMIT, Search};
 use crate::rounds::{self, Side};
 
-/// What was measured on a sheet, times in microseconds: with room for twice the arrivals, and with room that just
-/// fits.
-struct Row {
-    costs: f64,
-    arrivals: f64,
-    planner: f64,
-    fitting: f64,
-    reading: f64,
-    peer: f64,
+/// The planner's table has room for so many times the arrivals, if it is not said.
+pub const ROOM: usize = 2;
+
+/// A sheet with its front as the planner has it, and a name for messages.
+pub struct Sheet {
+    pub name: String,
+    pub text: Vec<u8>,
+    pub front: Front,
 }
 
-impl Row {
-    /// The planner's time without reading, beside the peer's.
-    fn ratio(&self) -> f64 {
-        (self.planner - self.reading) / self.peer
+impl Sheet {
+    pub fn new(name: String, text: Vec<u8>) -> Sheet {
+        let front = Front::of(&text);
+        Sheet { name, text, front }
+    }
+
+    /// A sheet of the peers' generator.
+    pub fn generated(folder: &Folder, seed: u32, family: &str, options: &[(&str, u32)]) -> Sheet {
+        Sheet::new(format!("seed {seed} of {family} with {options:?}"), folder.sheet(seed, family, options))
+    }
+
+    /// The count of its places.
+    pub fn places(&self) -> f64 {
+        self.head(1)
+    }
+
+    /// Its last step.
+    pub fn steps(&self) -> f64 {
+        self.head(2)
+    }
+
+    /// A number of its S line.
+    fn head(&self, position: usize) -> f64 {
+        parts(&self.text).0[position].parse().expect("the S line has numbers")
+    }
+
+    /// How many lines of a kind it has.
+    pub fn lines(&self, kind: char) -> f64 {
+        parts(&self.text).1.lines().filter(|line| line.starts_with(kind)).count() as f64
+    }
+
+    /// planner_front with room for so many times the arrivals.
+    pub fn front_side(&self, rooms: usize) -> Side<'_> {
+        Side::new(move |repetitions| self.front.micros(&self.text, rooms * self.front.arrivals, repetitions))
+    }
+
+    /// planner_journey by a number.
+    pub fn journey_side(&self, number: u32) -> Side<'_> {
+        let room = ROOM * self.front.arrivals;
+        Side::new(move |repetitions| journey_micros(&self.text, number, room, repetitions))
+    }
+
+    /// planner_read.
+    fn reading_side(&self) -> Side<'_> {
+        Side::new(|repetitions| reading_micros(&self.text, repetitions))
+    }
+
+    /// A peer's search, which must agree with the planner in every round.
+    fn peer_side<'a>(&'a self, folder: &'a Folder, search: Search) -> Side<'a> {
+        let Some(first) = folder.first_found(search, &self.text) else { return Side::without_end() };
+        first.assert_agrees(&self.front, search, &self.name);
+        Side::after(first.micros, move |repetitions| {
+            let found = folder.found(search, &self.text, repetitions);
+            found.assert_agrees(&self.front, search, &self.name);
+            found.micros
+        })
     }
 }
 
-/// What the generator is asked for: a mark after the names of the families, and options.
-pub struct Asked {
-    pub mark: &'static str,
-    pub options: &'static [&'static str],
+/// What was measured on a sheet, times in microseconds: of planner_front with room for twice the arrivals, of
+/// planner_read, of the peers' searches, infinite for one that did not end within the limit, and of further sides.
+pub struct Measured {
+    pub costs: f64,
+    pub arrivals: f64,
+    pub planner: f64,
+    pub reading: f64,
+    pub peers: Vec<f64>,
+    pub further: Vec<f64>,
 }
 
-/// Measures some families and prints a row for each; hands back the median of the families' median ratios.
-pub fn print_table(folder: &Folder, families: &[&str], seeds: impl Iterator<Item = u32> + Clone, asked: &Asked) -> f64 {
-    print!("| family | arrivals | costs | planner, µs | of it reading, µs | peer, µs ");
-    println!("| ratio: median | least | greatest | with reading | table that just fits |");
-    println!("|---|---:|---:|---:|---:|---:|---:|---:|---:|---:|---:|");
-    let names = families.iter().map(|family| format!("{family}{}", asked.mark));
-    median(names.map(|family| print_family(folder, &family, asked, seeds.clone())).collect())
-}
+impl Measured {
+    /// Measures a sheet beside peers, with further sides of the planner in the same rounds.
+    pub fn of(sheet: &Sheet, folder: &Folder, searches: &[Search], further: Vec<Side>) -> Measured {
+        let mut sides = vec![sheet.front_side(ROOM), sheet.reading_side()];
+        sides.extend(searches.iter().map(|&search| sheet.peer_side(folder, search)));
+        sides.extend(further);
+        rounds::time(&mut sides);
+        let times: Vec<f64> = sides.iter().map(|side| side.micros).collect();
+        let (peers, further) = times[2..].split_at(searches.len());
+        Measured {
+            costs: sheet.front.costs.len() as f64,
+            arrivals: sheet.front.arrivals as f64,
+            planner: times[0],
+            reading: times[1],
+            peers: peers.to_vec(),
+            further: further.to_vec(),
+        }
+    }
 
-/// Measures a family and prints its row; hands back the median ratio.
-fn print_family(folder: &Folder, family: &str, asked: &Asked, seeds: impl Iterator<Item = u32>) -> f64 {
-    let rows: Vec<Row> = seeds.map(|seed| measured(folder, seed, family, asked)).collect();
-    let middle = |of: fn(&Row) -> f64| median(rows.iter().map(of).collect());
-    let ratios = || rows.iter().map(Row::ratio);
-    println!(
-        "| {family} | {:.0} | {:.0} | {:.1} | {:.1} | {:.1} | {:.2} | {:.2} | {:.2} | {:.2} | {:.2} |",
-        middle(|row| row.arrivals),
-        middle(|row| row.costs),
-        middle(|row| row.planner),
-        middle(|row| row.reading),
-        middle(|row| row.peer),
-        middle(Row::ratio),
-        ratios().fold(f64::INFINITY, f64::min),
-        ratios().fold(0.0, f64::max),
-        middle(|row| row.planner / row.peer),
-        middle(|row| (row.fitting - row.reading) / row.peer)
-    );
-    middle(Row::ratio)
-}
+    /// The planner's time without reading.
+    pub fn search(&self) -> f64 {
+        self.planner - self.reading
+    }
 
-/// Measures a sheet on both sides, once their answers agree.
-fn measured(folder: &Folder, seed: u32, family: &str, asked: &Asked) -> Row {
-    let options: Vec<String> = asked.options.iter().map(ToString::to_string).collect();
-    let text = folder.sheet(seed, family, &options);
-    let front = Front::of(&text);
-    let found = folder.found(MOSIPP, &text, 1);
-    found.assert_agrees(&front, MOSIPP, &format!("seed {seed} of {family} with {options:?}"));
-    let (room, first) = (front.arrivals, found.micros);
-    let mut sides = [
-        Side::new(first, |repetitions| folder.found(MOSIPP, &text, repetitions).micros),
-        Side::new(first, |repetitions| front.micros(&text, 2 * room, repetitions)),
-        Side::new(first, |repetitions| front.micros(&text, room, repetitions)),
-        Side::new(first, |repetitions| reading_micros(&text, repetitions)),
-    ];
-    rounds::time(&mut sides);
-    let [peer, planner, fitting, reading] = sides.map(|side| side.micros);
-    Row { costs: front.costs.len() as f64, arrivals: room as f64, planner, fitting, reading, peer }
+    /// The time of a peer that must have ended.
+    pub fn peer(&self, number: usize) -> f64 {
+        let micros = self.peers[number];
+        assert!(micros.is_finite(), "a peer's search takes longer than {LIMIT} s");
+        micros
+    }
+
+    /// The planner's time without reading, beside that of a peer that must have ended.
+    pub fn ratio(&self, number: usize) -> f64 {
+        self.search() / self.peer(number)
+    }
 }

@@ -1,6 +1,8 @@
 //! Sheets with large fronts: diamonds in a row, two ways from each place to the next, at costs that none of the other's
 //! beats, and waiting that is dear.
 
+use crate::beside::Sheet;
+
 /// The ways of a diamond.
 #[derive(Clone, Copy)]
 pub enum Ways {
@@ -11,6 +13,15 @@ pub enum Ways {
 }
 
 impl Ways {
+    pub const ALL: [Ways; 2] = [Ways::Even, Ways::Uneven];
+
+    pub fn name(self) -> &'static str {
+        match self {
+            Ways::Even => "two steps each",
+            Ways::Uneven => "two and three steps",
+        }
+    }
+
     /// The ends of the corridors of both ways, counted from the diamond's first place.
     fn corridors(self) -> [&'static [(u32, u32)]; 2] {
         match self {
@@ -23,21 +34,26 @@ impl Ways {
 /// The sum of the figures of a way: all journeys of a sheet have one sum, so that no cost dominates another.
 const SUM: u32 = 40_000;
 
-/// The text of a sheet of so many diamonds; the seed sets the costs. Its front has two to the power of that costs.
-pub fn sheet(ways: Ways, diamonds: u32, seed: u32) -> Vec<u8> {
+/// A sheet of so many diamonds; the seed sets the costs. Its front has two to the power of that costs.
+pub fn sheet(ways: Ways, diamonds: u32, seed: u32) -> Sheet {
     let width = ways.corridors().concat().iter().map(|ends| ends.1).max().expect("a way has corridors");
     let mut random = Random(u64::from(seed));
     let mut lines: Vec<[u32; 5]> = (0..diamonds).flat_map(|i| lines(ways, i * width, &mut random)).collect();
     lines.sort();
-    text(diamonds * width, &lines)
+    let name = format!("seed {seed} of {diamonds} diamonds, {}", ways.name());
+    let sheet = Sheet::new(name, text(diamonds * width, &lines));
+    assert_eq!(sheet.front.costs.len(), 1 << diamonds, "{}: a cost is reached in two ways", sheet.name);
+    sheet
 }
 
 /// The same sheet with the goal at the start: a search of the same arrivals, and a front of one cost.
-pub fn with_goal_at_start(text: &[u8]) -> Vec<u8> {
-    let text = std::str::from_utf8(text).expect("a sheet is text");
+pub fn with_goal_at_start(sheet: &Sheet) -> Sheet {
+    let text = std::str::from_utf8(&sheet.text).expect("a sheet is text");
     let mut fields: Vec<&str> = text.split(',').collect();
     fields[4] = "0";
-    fields.join(",").into_bytes()
+    let alone = Sheet::new(format!("{}, with the goal at the start", sheet.name), fields.join(",").into_bytes());
+    assert_eq!(alone.front.arrivals, sheet.front.arrivals, "{}: the goal plays a part in the search", sheet.name);
+    alone
 }
 
 /// The corridor lines of the diamond whose first place is given: the first corridor of a way has its cost.

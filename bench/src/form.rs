@@ -4,8 +4,8 @@
 /// The count of numbers on the S line of the newer form.
 const NEWER: usize = 5;
 
-/// The text of a peers' sheet as the planner reads it: a sheet in the older form gets a W line for each place, and no time
-/// to unload where it has none.
+/// The text of a generated sheet as the planner reads it: one in the older form gets a W line for each place, and no
+/// time to unload where it has none.
 pub fn to_planner(text: &[u8]) -> Vec<u8> {
     let (fields, rest) = parts(text);
     let [_, places, steps, start, goal, w1, w2, w3, unloading @ ..] = &fields[..] else {
@@ -18,21 +18,20 @@ pub fn to_planner(text: &[u8]) -> Vec<u8> {
     format!("S,{places},{steps},{start},{goal},{unloading}\n{waits}{rest}").into_bytes()
 }
 
-/// The text of a planner's sheet as the peers are given it: in their older form, which alone bgl reads, where all places have
-/// one waiting cost and there are neither closures nor a time to unload.
-pub fn to_peer(text: &[u8]) -> Vec<u8> {
+/// The text of a planner's sheet in the older form, which alone bgl reads: all places must have one waiting cost, and
+/// there must be neither closures nor a time to unload.
+pub fn to_older(text: &[u8]) -> Vec<u8> {
     let (fields, rest) = parts(text);
     let (waits, others): (Vec<&str>, Vec<&str>) = rest.split_inclusive('\n').partition(|line| line.starts_with("W,"));
-    let [ends @ .., "0"] = &fields[..] else { return text.to_vec() };
+    let [ends @ .., "0"] = &fields[..] else { panic!("the older form has no time to unload") };
     let cost = waiting(waits[0]);
-    if waits.iter().any(|line| waiting(line) != cost) || others.iter().any(|line| line.starts_with("X,")) {
-        return text.to_vec();
-    }
+    assert!(waits.iter().all(|line| waiting(line) == cost), "the older form has one waiting cost");
+    assert!(!others.iter().any(|line| line.starts_with("X,")), "the older form has no closures");
     format!("{},{cost}{}", ends.join(","), others.concat()).into_bytes()
 }
 
 /// The fields of a sheet's S line, and the lines after it.
-fn parts(text: &[u8]) -> (Vec<&str>, &str) {
+pub fn parts(text: &[u8]) -> (Vec<&str>, &str) {
     let text = std::str::from_utf8(text).expect("a sheet is text");
     let (head, rest) = text.split_once('\n').expect("a sheet has an S line");
     (head.split(',').collect(), rest)

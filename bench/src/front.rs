@@ -12,7 +12,7 @@ const TOO_LITTLE_ROOM: [u32; 2] = [8, 9];
 const ROOMS: [usize; 2] = [1 << 13, 1 << 20];
 
 /// The front of a sheet: its costs, and the number of leading arrivals.
-#[derive(Debug)]
+#[derive(Debug, PartialEq)]
 pub struct Front {
     pub costs: Vec<[u32; 3]>,
     pub arrivals: usize,
@@ -21,14 +21,13 @@ pub struct Front {
 impl Front {
     /// The planner's front of a sheet, with as much room as it needs.
     pub fn of(text: &[u8]) -> Front {
-        let served = ROOMS.iter().find_map(|&room| Front::with_room(text, room));
-        served.expect("the front has more arrivals than the greatest room")
+        let with_room = |&room: &usize| Front::in_buffers(text, &mut vec![0; 5 * room], &mut vec![0; 4 * room]);
+        ROOMS.iter().find_map(with_room).expect("the front has more arrivals than the greatest room")
     }
 
-    /// The planner's front of a sheet, if the room is enough for the arrivals and the costs.
-    fn with_room(text: &[u8], room: usize) -> Option<Front> {
-        let [mut arrivals, mut list] = [vec![0; 5 * room], vec![0; 4 * room]];
-        let answer = planner::front(text, &mut arrivals, &mut list);
+    /// The planner's front of a sheet, if the buffers are enough for the arrivals and the costs.
+    fn in_buffers(text: &[u8], arrivals: &mut [u32], list: &mut [u32]) -> Option<Front> {
+        let answer = planner::front(text, arrivals, list);
         if TOO_LITTLE_ROOM.contains(&answer.refusal) {
             return None;
         }
@@ -37,17 +36,18 @@ impl Front {
         Some(Front { costs: rows.map(|&[a, b, c, _]| [a, b, c]).collect(), arrivals: answer.arrivals as usize })
     }
 
-    /// The median time of so many calls of planner_front, with room for so many arrivals and for just the costs.
+    /// The median time of so many calls of planner_front, with room for so many arrivals and for just the costs, after
+    /// one that is not timed.
     pub fn micros(&self, text: &[u8], room: usize, repetitions: u32) -> f64 {
         let [mut arrivals, mut list] = [vec![0; 5 * room], vec![0; 4 * self.costs.len()]];
-        let answer = planner::front(text, &mut arrivals, &mut list);
-        let expected = (0, self.costs.len(), self.arrivals);
-        assert_eq!((answer.refusal, answer.costs as usize, answer.arrivals as usize), expected, "with room for {room}");
+        let front = Front::in_buffers(text, &mut arrivals, &mut list);
+        assert!(front.as_ref() == Some(self), "another front with room for {room} arrivals");
         micros(repetitions, || planner::front(black_box(text), &mut arrivals, &mut list).refusal)
     }
 }
 
-/// The median time of so many calls of planner_journey by a number, with room for so many arrivals and every step.
+/// The median time of so many calls of planner_journey by a number, with room for so many arrivals and every step,
+/// after one that is not timed.
 pub fn journey_micros(text: &[u8], number: u32, room: usize, repetitions: u32) -> f64 {
     let [mut arrivals, mut path] = [vec![0; 5 * room], vec![0; 256]];
     let refusal = planner::journey(text, number, &mut arrivals, &mut path).refusal;

@@ -2,6 +2,7 @@
 
 use std::hint::black_box;
 use std::ops::RangeInclusive;
+use std::path::PathBuf;
 use std::time::{Duration, Instant};
 
 pub mod beside;
@@ -9,6 +10,7 @@ pub mod diamonds;
 pub mod form;
 pub mod front;
 pub mod peer;
+pub mod plot;
 pub mod rounds;
 
 /// So many samples are taken of each call, each at least so long.
@@ -57,23 +59,57 @@ pub fn median(mut values: Vec<f64>) -> f64 {
     (values[(values.len() - 1) / 2] + values[values.len() / 2]) / 2.0
 }
 
+/// The median of a value of some rows.
+pub fn median_of<T>(rows: &[T], value: impl Fn(&T) -> f64) -> f64 {
+    median(rows.iter().map(value).collect())
+}
+
 /// A positive value with three digits that count, or with all those before the point.
 pub fn shown(value: f64) -> String {
     let decimals = (2.0 - value.log10().floor()).clamp(0.0, 6.0) as usize;
     format!("{value:.decimals$}")
 }
 
-/// What a program that searches sheets is started with: `FOLDER SEEDS`, the folder with the peers' programs and the
-/// number of sheets of each family.
-pub fn arguments() -> (peer::Folder, RangeInclusive<u32>) {
-    let arguments: Vec<String> = std::env::args().skip(1).collect();
-    let [folder, seeds] = &arguments[..] else { panic!("the arguments are FOLDER SEEDS") };
-    let last = seeds.parse().ok().filter(|&last| last > 0).expect("SEEDS is a number above 0");
-    (peer::Folder(folder.into()), 1..=last)
+/// The number of sheets of a family, if it is not said; with a plus after its name.
+pub const SEEDS: u32 = 12;
+const SEEDS_WITH_PLUS: u32 = 6;
+
+/// What a program that searches sheets is started with: `FOLDER PLOTS [SEEDS]`, the folder with the peers' programs,
+/// that for the plots, and the number of sheets of each family.
+pub struct Arguments {
+    pub folder: peer::Folder,
+    pub plots: PathBuf,
+    seeds: Option<u32>,
+}
+
+impl Arguments {
+    pub fn read() -> Arguments {
+        let arguments: Vec<String> = std::env::args().skip(1).collect();
+        let [folder, plots, seeds @ ..] = &arguments[..] else { panic!("the arguments are FOLDER PLOTS [SEEDS]") };
+        let number = |digits: &String| digits.parse().ok().filter(|&seeds| seeds > 0).expect("SEEDS is above 0");
+        Arguments { folder: peer::Folder(folder.into()), plots: plots.into(), seeds: seeds.first().map(number) }
+    }
+
+    /// The seeds of the sheets of a row: as many as were asked for, or the usual number.
+    pub fn seeds(&self, usual: u32) -> RangeInclusive<u32> {
+        1..=self.seeds.unwrap_or(usual)
+    }
+
+    /// The seeds of the sheets of a family: fewer with a plus, since its searches take longer.
+    pub fn seeds_of(&self, family: &str) -> RangeInclusive<u32> {
+        self.seeds(if family.ends_with('+') { SEEDS_WITH_PLUS } else { SEEDS })
+    }
+}
+
+/// Prints a table, and the machine's load before and after.
+pub fn with_load(print_table: impl FnOnce()) {
+    let before = load_average();
+    print_table();
+    println!("Load of the machine before and after: {before}; {}.", load_average());
 }
 
 /// How many processes ran or waited for a processor in the last minute, if the system says it.
-pub fn load_average() -> String {
+fn load_average() -> String {
     let content = std::fs::read_to_string("/proc/loadavg").unwrap_or_default();
     content.split_whitespace().next().unwrap_or("unknown").to_string()
 }

@@ -1,18 +1,24 @@
-//! The peers' programs: `gen`, which prints a random sheet of a family, and those that search a sheet. Their forms of a
-//! sheet are those of `form`.
+//! The peers' programs: `gen`, which prints a random sheet of a family, and those that search a sheet. All are given the
+//! planner's own text but bgl, which reads only the older form of `form`.
 
-use crate::form::{to_peer, to_planner};
+use crate::form::{to_older, to_planner};
 use crate::front::Front;
+use std::borrow::Cow;
 use std::io::Write;
 use std::path::PathBuf;
 use std::process::{Command, Output, Stdio};
 use std::str::FromStr;
 
 /// The families of sheets that `gen` knows.
-pub const FAMILIES: [&str; 12] = [
+pub const FAMILIES: [&str; 14] = [
     "tiny", "small", "line", "wardlite", "freelite", "dearlite", "wardmid", "ward", "free", "dear", "bigward",
-    "bigdear",
+    "bigdear", "bigfront", "diamond",
 ];
+
+/// The families, and each of them once more with a plus: with waiting costs by place, closures and a time to unload.
+pub fn families() -> impl Iterator<Item = String> {
+    ["", "+"].into_iter().flat_map(|mark| FAMILIES.iter().map(move |family| format!("{family}{mark}")))
+}
 
 /// A search: a program with options.
 #[derive(Clone, Copy)]
@@ -21,8 +27,21 @@ pub struct Search {
     pub options: &'static [&'static str],
 }
 
-/// The strongest peer that finds all leading arrivals, as the planner does.
+/// The peers that find all leading arrivals, as the planner does.
 pub const MOSIPP: Search = Search { program: "mosipp", options: &["--all", "--eager"] };
+pub const PULL: Search = Search { program: "pull", options: &["--simd"] };
+
+impl Search {
+    /// Whether it finds all leading arrivals, not the front alone.
+    fn finds_all(self) -> bool {
+        self.program == PULL.program || self.options.contains(&"--all")
+    }
+
+    /// The text that the program is given for a planner's sheet.
+    fn input(self, text: &[u8]) -> Cow<'_, [u8]> {
+        if self.program == "bgl" { to_older(text).into() } else { text.into() }
+    }
+}
 
 /// A peer's first run, of two searches, may take twice so many seconds.
 pub const LIMIT: u32 = 2;
@@ -48,8 +67,7 @@ impl Found {
     pub fn assert_agrees(&self, front: &Front, search: Search, sheet: &str) {
         let same_costs = self.count == front.costs.len() && self.checksum == checksum(&front.costs);
         let same_list = self.list == front.costs || (self.list.is_empty() && search.program == "bgl");
-        let finds_all = search.options.contains(&"--all");
-        let same_arrivals = self.arrivals.map_or(!finds_all, |arrivals| arrivals == front.arrivals);
+        let same_arrivals = self.arrivals.map_or(!search.finds_all(), |arrivals| arrivals == front.arrivals);
         assert!(
             same_costs && same_list && same_arrivals,
             "{sheet}: {} {:?} has {} costs {:?} with the checksum {} and {:?} arrivals, the planner has {front:?}",
@@ -69,26 +87,29 @@ impl Folder {
         self.0.join(program).exists()
     }
 
-    /// The text of a sheet of a family; the options change T, the places, the occupancies or the closures. A family with
-    /// a plus has waiting costs by place, closures and a time to unload.
-    pub fn sheet(&self, seed: u32, family: &str, options: &[String]) -> Vec<u8> {
+    /// The text of a sheet of a family as the planner reads it; the options change T, the places, the occupancies, the
+    /// waiting costs or the closures.
+    pub fn sheet(&self, seed: u32, family: &str, options: &[(&str, u32)]) -> Vec<u8> {
         let mut command = Command::new(self.0.join("gen"));
-        let output = output(command.arg(seed.to_string()).arg(family).args(options), b"");
-        to_planner(&succeeded(output, "gen").stdout)
+        command.arg(seed.to_string()).arg(family);
+        for (name, value) in options {
+            command.arg(name).arg(value.to_string());
+        }
+        to_planner(&succeeded(output(&mut command, b""), "gen").stdout)
     }
 
     /// What a peer says of a sheet, searched twice; nothing if it has not ended after twice the limit.
     pub fn first_found(&self, search: Search, text: &[u8]) -> Option<Found> {
         let mut command = Command::new("timeout");
         command.arg((2 * LIMIT).to_string()).arg(self.0.join(search.program));
-        let output = output(arguments(&mut command, search, 1), &to_peer(text));
+        let output = output(arguments(&mut command, search, 1), &search.input(text));
         (output.status.code() != ENDED).then(|| found(succeeded(output, search.program)))
     }
 
     /// What a peer says of a sheet, searched once and then so many times.
     pub fn found(&self, search: Search, text: &[u8], repetitions: u32) -> Found {
         let mut command = Command::new(self.0.join(search.program));
-        let output = output(arguments(&mut command, search, repetitions), &to_peer(text));
+        let output = output(arguments(&mut command, search, repetitions), &search.input(text));
         found(succeeded(output, search.program))
     }
 }

@@ -6,7 +6,7 @@ pub const ROUNDS: usize = 21;
 const ROUND: f64 = 4_000.0;
 
 /// A side whose rounds would together take longer than so many microseconds is timed in fewer, at least in one.
-const ALL_ROUNDS: f64 = 400_000.0;
+const ALL_ROUNDS: f64 = 2_000_000.0;
 
 /// A side of a comparison on one sheet.
 pub struct Side<'a> {
@@ -18,9 +18,14 @@ pub struct Side<'a> {
 }
 
 impl<'a> Side<'a> {
-    /// A side with the time of a first search and with what times a round of so many searches, after one that is not
-    /// timed.
-    pub fn new(first: f64, round: impl Fn(u32) -> f64 + 'a) -> Side<'a> {
+    /// A side with what times a round of so many searches, after one that is not timed.
+    pub fn new(round: impl Fn(u32) -> f64 + 'a) -> Side<'a> {
+        let first = round(1);
+        Side::after(first, round)
+    }
+
+    /// A side whose first search took so many microseconds.
+    pub fn after(first: f64, round: impl Fn(u32) -> f64 + 'a) -> Side<'a> {
         let repetitions = (ROUND / first).clamp(1.0, 200.0).floor();
         let rounds = ALL_ROUNDS / (first * (repetitions + 1.0));
         Side {
@@ -29,6 +34,11 @@ impl<'a> Side<'a> {
             round: Box::new(round),
             micros: f64::INFINITY,
         }
+    }
+
+    /// A side that is not timed, since its first search did not end in time: its time stays infinite.
+    pub fn without_end() -> Side<'a> {
+        Side { repetitions: 0, rounds: 0, round: Box::new(|_| f64::INFINITY), micros: f64::INFINITY }
     }
 }
 

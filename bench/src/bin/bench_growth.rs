@@ -1,117 +1,166 @@
-//! Times planner_front beside the strongest peer's search while T, the places or the occupancies grow, checks that
-//! both give the same costs and the same number of leading arrivals, and prints a Markdown table.
-//!
-//! `bench_growth FOLDER SEEDS`: the folder with the peers' programs, and the number of sheets of each row.
+//! Times planner_front beside mosipp while T, the places, the occupancies, the closures or the front's costs grow, checks
+//! that both give the same costs and the same number of leading arrivals, and prints Markdown tables and a plot of the
+//! time by the front's costs. Started with what `Arguments` says.
 
-use planner_bench::front::{Front, reading_micros};
+use planner_bench::beside::{Measured, Sheet};
+use planner_bench::diamonds::{self, Ways};
 use planner_bench::peer::{Folder, MOSIPP};
-use planner_bench::rounds::{self, Side};
-use planner_bench::{arguments, load_average, median};
+use planner_bench::plot::{self, Curve};
+use planner_bench::{Arguments, SEEDS, median_of, shown, with_load};
 use std::ops::RangeInclusive;
 
 /// The families: short figures with many equal sums, and figures up to 60,000.
 const FAMILIES: [&str; 2] = ["ward", "bigdear"];
 
-/// What is asked of the generator for a row: T, the side of the square of places, and the number of occupancies.
-#[derive(Clone, Copy)]
-struct Size {
-    t: u32,
-    side: u32,
-    occupancies: u32,
+/// The numbers of diamonds, for 16 to 4,096 costs.
+const DIAMONDS: [u32; 5] = [4, 6, 8, 10, 12];
+
+/// Options of the generator with their values.
+type Options = Vec<(&'static str, u32)>;
+
+/// The sheets of a row: of a family with options of the generator, or of so many diamonds.
+enum Size {
+    Generated(String, Options),
+    Diamonds(Ways, u32),
 }
 
-/// What was measured on a sheet, times in microseconds.
+impl Size {
+    /// The name of the sheets, whatever their size.
+    fn name(&self) -> &str {
+        match self {
+            Size::Generated(family, _) => family,
+            Size::Diamonds(ways, _) => ways.name(),
+        }
+    }
+
+    fn sheet(&self, folder: &Folder, seed: u32) -> Sheet {
+        match self {
+            Size::Generated(family, options) => Sheet::generated(folder, seed, family, options),
+            Size::Diamonds(ways, count) => diamonds::sheet(*ways, *count, seed),
+        }
+    }
+}
+
+/// What grows, and the sizes of the sheets of two names.
+struct Growing {
+    what: &'static str,
+    sizes: [Vec<Size>; 2],
+}
+
+impl Growing {
+    /// Sheets of both families, with a mark after their names, by the generator's options.
+    fn of_families(what: &'static str, mark: &str, options: &[Options]) -> Growing {
+        let size = |family, options: &Options| Size::Generated(format!("{family}{mark}"), options.clone());
+        Growing { what, sizes: FAMILIES.map(|family| options.iter().map(|options| size(family, options)).collect()) }
+    }
+}
+
+/// The medians of a row, times in microseconds without reading.
 struct Row {
-    occupancies: f64,
-    arrivals: f64,
     costs: f64,
-    planner: f64,
-    reading: f64,
+    search: f64,
     peer: f64,
 }
 
-impl Row {
-    /// The planner's time without reading.
-    fn search(&self) -> f64 {
-        self.planner - self.reading
-    }
-}
-
 fn main() {
-    let (folder, seeds) = arguments();
-    let load = load_average();
-    print_text(&seeds);
-    print!("| family | grows | T | places | occupancies | arrivals | costs | planner | of it reading | peer | ratio ");
-    println!("| search, ns per arrival |");
-    println!("|---|---|{}", "---:|".repeat(10));
-    for family in FAMILIES {
-        for (grows, sizes) in growing() {
-            sizes.iter().for_each(|&size| print_size(&folder, family, grows, size, seeds.clone()));
+    let arguments = Arguments::read();
+    let seeds = arguments.seeds(SEEDS);
+    with_load(|| {
+        print_text(&seeds);
+        for growing in generated() {
+            print_table(&arguments.folder, &growing, &seeds);
         }
-    }
-    println!();
-    println!("Load of the machine before and after: {load}; {}.", load_average());
-    println!("Both sides gave the same costs and the same number of arrivals on every sheet.");
+        let fronts = print_table(&arguments.folder, &fronts(), &seeds);
+        let curves: Vec<Curve> = Ways::ALL.iter().zip(&fronts).flat_map(|(&ways, rows)| curves(ways, rows)).collect();
+        plot::write(&arguments.plots, "time-by-front-costs.svg", &plot::times(&curves));
+        println!("Both sides gave the same costs and the same number of arrivals on every sheet.");
+    });
 }
 
-/// Prints what the table holds.
+/// Prints what the tables hold.
 fn print_text(seeds: &RangeInclusive<u32>) {
     println!(
-        "Times in µs; the peer is mosipp --all --eager, whose time leaves the reading out. Ratio and search are of
-planner_front without reading, with room for twice the arrivals. Where occupancies grow with T or with the places,
-there is one for a step, or four for a place. Medians over the seeds 1 to {}.
+        "Times in µs; mosipp --all --eager leaves the reading out. Ratio and search are of planner_front without reading, with
+room for twice the arrivals. Where occupancies grow with T or with the places, there is one for a step, or four for a
+place. Growth is the last row's time to the first row's, without reading. Medians over the seeds 1 to {}.
 ",
         seeds.end()
     );
 }
 
-/// What grows, with the sizes.
-fn growing() -> [(&'static str, Vec<Size>); 4] {
-    let most = Size { t: 255, side: 8, occupancies: 256 };
+/// What grows in sheets of the generator.
+fn generated() -> [Growing; 5] {
+    let of = |t, side, occupancies| vec![("--t", t), ("--side", side), ("--occ", occupancies)];
+    let closed = |closures| vec![("--wait", 0), ("--x", closures)];
     let steps = [31, 63, 127, 255];
     [
-        ("T", steps.map(|t| Size { t, occupancies: 32, ..most }).to_vec()),
-        ("T, occupancies", steps.map(|t| Size { t, occupancies: t + 1, ..most }).to_vec()),
-        ("places, occupancies", [2, 4, 6, 8].map(|side| Size { side, occupancies: 4 * side * side, ..most }).to_vec()),
-        ("occupancies", [0, 32, 64, 128, 256].map(|occupancies| Size { occupancies, ..most }).to_vec()),
+        Growing::of_families("T", "", &steps.map(|t| of(t, 8, 32))),
+        Growing::of_families("T and occupancies", "", &steps.map(|t| of(t, 8, t + 1))),
+        Growing::of_families("places and occupancies", "", &[2, 4, 6, 8].map(|side| of(255, side, 4 * side * side))),
+        Growing::of_families("occupancies", "", &[0, 32, 64, 128, 256].map(|occupancies| of(255, 8, occupancies))),
+        Growing::of_families("closures", "+", &[0, 16, 64, 256].map(closed)),
     ]
 }
 
-/// Measures the sheets of a size and prints their row.
-fn print_size(folder: &Folder, family: &str, grows: &str, size: Size, seeds: RangeInclusive<u32>) {
-    let rows: Vec<Row> = seeds.map(|seed| measured(folder, seed, family, size)).collect();
-    let middle = |of: fn(&Row) -> f64| median(rows.iter().map(of).collect());
-    println!(
-        "| {family} | {grows} | {} | {} | {:.0} | {:.0} | {:.0} | {:.1} | {:.1} | {:.1} | {:.2} | {:.0} |",
-        size.t,
-        size.side * size.side,
-        middle(|row| row.occupancies),
-        middle(|row| row.arrivals),
-        middle(|row| row.costs),
-        middle(|row| row.planner),
-        middle(|row| row.reading),
-        middle(|row| row.peer),
-        middle(|row| row.search() / row.peer),
-        middle(|row| 1_000.0 * row.search() / row.arrivals)
-    );
+/// The growth of the front.
+fn fronts() -> Growing {
+    let sizes = Ways::ALL.map(|ways| DIAMONDS.map(|count| Size::Diamonds(ways, count)).into());
+    Growing { what: "costs of the front, by diamonds in a row", sizes }
 }
 
-/// Measures a sheet on both sides, once their answers agree.
-fn measured(folder: &Folder, seed: u32, family: &str, size: Size) -> Row {
-    let options = [("--t", size.t), ("--side", size.side), ("--occ", size.occupancies)];
-    let options: Vec<String> = options.iter().flat_map(|(name, value)| [name.to_string(), value.to_string()]).collect();
-    let text = folder.sheet(seed, family, &options);
-    let front = Front::of(&text);
-    let found = folder.found(MOSIPP, &text, 1);
-    found.assert_agrees(&front, MOSIPP, &format!("seed {seed} of {family} with {options:?}"));
-    let (room, first) = (2 * front.arrivals, found.micros);
-    let mut sides = [
-        Side::new(first, |repetitions| folder.found(MOSIPP, &text, repetitions).micros),
-        Side::new(first, |repetitions| front.micros(&text, room, repetitions)),
-        Side::new(first, |repetitions| reading_micros(&text, repetitions)),
-    ];
-    rounds::time(&mut sides);
-    let [peer, planner, reading] = sides.map(|side| side.micros);
-    let occupancies = text.split(|&byte| byte == b'\n').filter(|line| line.starts_with(b"O")).count() as f64;
-    Row { occupancies, arrivals: front.arrivals as f64, costs: front.costs.len() as f64, planner, reading, peer }
+/// Measures and prints sheets of two names while they grow, then the growth of each.
+fn print_table(folder: &Folder, growing: &Growing, seeds: &RangeInclusive<u32>) -> [Vec<Row>; 2] {
+    println!("What grows: {}.\n", growing.what);
+    print!(
+        "| sheets | T | places | occupancies | closures | arrivals | costs | planner | of it reading | mosipp | ratio "
+    );
+    println!("| search, ns per arrival |");
+    println!("|---|{}", "---:|".repeat(11));
+    let rows = growing.sizes.each_ref().map(|sizes| {
+        let rows = sizes.iter().map(|size| print_size(folder, size, seeds.clone()));
+        rows.collect::<Vec<Row>>()
+    });
+    println!();
+    for (sizes, rows) in growing.sizes.iter().zip(&rows) {
+        let growth = |time: fn(&Row) -> f64| time(&rows[rows.len() - 1]) / time(&rows[0]);
+        let [planner, peer] = [growth(|row| row.search), growth(|row| row.peer)].map(shown);
+        println!("- Growth of {}, from the first row to the last: planner {planner}, mosipp {peer}.", sizes[0].name());
+    }
+    println!();
+    rows
+}
+
+/// Measures the sheets of a size and prints their row.
+fn print_size(folder: &Folder, size: &Size, seeds: RangeInclusive<u32>) -> Row {
+    let sheets: Vec<Sheet> = seeds.map(|seed| size.sheet(folder, seed)).collect();
+    let rows: Vec<Measured> = sheets.iter().map(|sheet| Measured::of(sheet, folder, &[MOSIPP], vec![])).collect();
+    let middle = |of: fn(&Measured) -> f64| median_of(&rows, of);
+    let row = Row { costs: middle(|row| row.costs), search: middle(Measured::search), peer: middle(|row| row.peer(0)) };
+    println!(
+        "| {} | {:.0} | {:.0} | {:.0} | {:.0} | {:.0} | {:.0} | {:.1} | {:.1} | {:.1} | {:.2} | {:.0} |",
+        size.name(),
+        median_of(&sheets, Sheet::steps),
+        median_of(&sheets, Sheet::places),
+        median_of(&sheets, |sheet| sheet.lines('O')),
+        median_of(&sheets, |sheet| sheet.lines('X')),
+        middle(|row| row.arrivals),
+        row.costs,
+        middle(|row| row.planner),
+        middle(|row| row.reading),
+        row.peer,
+        middle(|row| row.ratio(0)),
+        middle(|row| 1_000.0 * row.search() / row.arrivals)
+    );
+    row
+}
+
+/// The curves of the planner and of mosipp on diamonds.
+fn curves(ways: Ways, rows: &[Row]) -> [Curve; 2] {
+    let curve = |kind, side: &str, time: fn(&Row) -> f64| Curve {
+        name: format!("{side}, {}", ways.name()),
+        kind,
+        is_dashed: matches!(ways, Ways::Uneven),
+        points: rows.iter().map(|row| (row.costs, time(row))).collect(),
+    };
+    [curve(0, "planner", |row| row.search), curve(1, "mosipp --all --eager", |row| row.peer)]
 }

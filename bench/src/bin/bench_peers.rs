@@ -1,12 +1,10 @@
-//! Times planner_front beside every peer on sheets of all families of the peers' generator, checks that every peer
-//! gives the planner's costs, and prints a Markdown table.
-//!
-//! `bench_peers FOLDER SEEDS`: the folder with the peers' programs, and the number of sheets of a family.
+//! Times planner_front beside every peer on sheets of the families without a plus, which bgl can be given, checks that
+//! every peer gives the planner's costs, and prints a Markdown table. Started with what `Arguments` says.
 
-use planner_bench::front::{Front, reading_micros};
-use planner_bench::peer::{FAMILIES, Folder, LIMIT, MOSIPP, Search};
-use planner_bench::rounds::{self, ROUNDS, Side};
-use planner_bench::{arguments, load_average, median, shown};
+use planner_bench::beside::{Measured, Sheet};
+use planner_bench::peer::{FAMILIES, Folder, LIMIT, MOSIPP, PULL, Search};
+use planner_bench::rounds::ROUNDS;
+use planner_bench::{Arguments, SEEDS, median_of, shown, with_load};
 use std::fmt;
 use std::ops::RangeInclusive;
 
@@ -16,8 +14,8 @@ struct Peer {
     searches: &'static [Search],
 }
 
-/// The peers. Those before the last find the front alone.
-const PEERS: [Peer; 5] = [
+/// The peers. Those before the last two find the front alone.
+const PEERS: [Peer; 6] = [
     Peer {
         name: "bgl",
         searches: &[Search { program: "bgl", options: &[] }, Search { program: "bgl", options: &["--time"] }],
@@ -41,15 +39,13 @@ const PEERS: [Peer; 5] = [
         ],
     },
     Peer { name: "mosipp --all", searches: &[MOSIPP] },
+    Peer { name: "pull --simd", searches: &[PULL] },
 ];
 
-/// What was measured on a sheet, times in microseconds; a peer that did not end within the limit has none.
+/// What was measured on a sheet, with the time of each peer's fastest search, infinite if none ended within the limit.
 struct Row {
-    costs: f64,
-    arrivals: f64,
-    planner: f64,
-    reading: f64,
-    peers: Vec<Option<f64>>,
+    sheet: Measured,
+    peers: Vec<f64>,
 }
 
 /// A ratio, or a bound that it stays below.
@@ -65,30 +61,33 @@ impl fmt::Display for Ratio {
 }
 
 fn main() {
-    let (folder, seeds) = arguments();
+    let arguments = Arguments::read();
+    let (folder, seeds) = (&arguments.folder, arguments.seeds(SEEDS));
     let peers: Vec<&Peer> = PEERS.iter().filter(|peer| peer.name != "bgl" || folder.has("bgl")).collect();
-    let load = load_average();
-    print_text(&seeds);
-    print_heading(&peers);
-    let ratios: Vec<Vec<Ratio>> =
-        FAMILIES.iter().map(|family| print_family(&folder, &peers, family, seeds.clone())).collect();
-    println!();
-    for (number, peer) in peers.iter().enumerate() {
-        let value = median(ratios.iter().map(|ratios| ratios[number].value).collect());
-        let middle = Ratio { value, is_bound: ratios.iter().any(|ratios| ratios[number].is_bound) };
-        println!("Median of the families' median ratios to {}: {middle}.", peer.name);
-    }
-    println!("Load of the machine before and after: {load}; {}.", load_average());
-    println!("Every search that ended gave the planner's front, on all {} sheets.", FAMILIES.len() * seeds.count());
+    with_load(|| {
+        print_text(&seeds);
+        print_heading(&peers);
+        let print = |family: &&str| print_family(folder, &peers, family, seeds.clone());
+        let ratios: Vec<Vec<Ratio>> = FAMILIES.iter().map(print).collect();
+        println!();
+        for (number, peer) in peers.iter().enumerate() {
+            let value = median_of(&ratios, |ratios| ratios[number].value);
+            let middle = Ratio { value, is_bound: ratios.iter().any(|ratios| ratios[number].is_bound) };
+            println!("Median of the families' median ratios to {}: {middle}.", peer.name);
+        }
+        let sheets = FAMILIES.len() * seeds.clone().count();
+        println!("Every search that ended gave the planner's front, on all {sheets} sheets.");
+    });
 }
 
 /// Prints what the table holds.
 fn print_text(seeds: &RangeInclusive<u32>) {
     println!(
         "Times in µs; those of all peers leave the reading out. Each ratio is of planner_front without reading, with room
-for twice the arrivals, to the peer. mosipp --all (with --eager) finds all leading arrivals, as the planner does; the
-others find the front alone. Of a peer with several options the fastest on each sheet counts: bgl without and with
---time, with the building of the graph; dp without and with --sort; namoa --h and --dr --h; mosipp --h and --h --eager.
+for twice the arrivals, to the peer. mosipp --all (with --eager) and pull --simd find all leading arrivals, as the planner
+does; the others find the front alone. Of a peer with several options the fastest on each sheet counts: bgl without and
+with --time, with the building of the graph; dp without and with --sort; namoa --h and --dr --h; mosipp --h and --h
+--eager. bgl is given the sheet in its older form, the others the planner's own text.
 Medians over the seeds 1 to {} of a family; for each sheet the least of the medians of {ROUNDS} rounds, or of fewer for a
 slow search. With `>` two searches had not ended after {} s; each counts as {LIMIT} s.
 ",
@@ -108,10 +107,11 @@ fn print_heading(peers: &[&Peer]) {
 
 /// Measures a family and prints its row; hands back the median ratio to each peer.
 fn print_family(folder: &Folder, peers: &[&Peer], family: &str, seeds: RangeInclusive<u32>) -> Vec<Ratio> {
-    let rows: Vec<Row> = seeds.map(|seed| measured(folder, peers, seed, family)).collect();
-    let middle = |of: fn(&Row) -> f64| median(rows.iter().map(of).collect());
-    print!("| {family} | {:.0} | {:.0} |", middle(|row| row.arrivals), middle(|row| row.costs));
-    print!(" {} | {} |", shown(middle(|row| row.planner)), shown(middle(|row| row.reading)));
+    let sheets = seeds.map(|seed| Sheet::generated(folder, seed, family, &[]));
+    let rows: Vec<Row> = sheets.map(|sheet| measured(folder, peers, &sheet)).collect();
+    let middle = |of: fn(&Measured) -> f64| median_of(&rows, |row| of(&row.sheet));
+    print!("| {family} | {:.0} | {:.0} |", middle(|sheet| sheet.arrivals), middle(|sheet| sheet.costs));
+    print!(" {} | {} |", shown(middle(|sheet| sheet.planner)), shown(middle(|sheet| sheet.reading)));
     (0..peers.len()).for_each(|number| print!(" {} |", time_shown(&rows, number)));
     let ratios: Vec<Ratio> = (0..peers.len()).map(|number| ratio(&rows, number)).collect();
     ratios.iter().for_each(|ratio| print!(" {ratio} |"));
@@ -124,48 +124,23 @@ const LIMIT_MICROS: f64 = LIMIT as f64 * 1e6;
 
 /// The median of a peer's times. The limit stands for a search that did not end; where it counts, the median is more.
 fn time_shown(rows: &[Row], number: usize) -> String {
-    let past = rows.iter().filter(|row| row.peers[number].is_none()).count();
-    let middle = median(rows.iter().map(|row| row.peers[number].unwrap_or(LIMIT_MICROS)).collect());
+    let past = rows.iter().filter(|row| row.peers[number].is_infinite()).count();
+    let middle = median_of(rows, |row| row.peers[number].min(LIMIT_MICROS));
     if 2 * past < rows.len() { shown(middle) } else { format!("> {:.0} ms", middle / 1_000.0) }
 }
 
 /// The median ratio of the planner's time without reading to a peer's. The limit stands for a search that did not end.
 fn ratio(rows: &[Row], number: usize) -> Ratio {
-    let ratio = |row: &Row| (row.planner - row.reading) / row.peers[number].unwrap_or(LIMIT_MICROS);
-    let is_bound = rows.iter().any(|row| row.peers[number].is_none());
-    Ratio { value: median(rows.iter().map(ratio).collect()), is_bound }
+    let value = median_of(rows, |row| row.sheet.search() / row.peers[number].min(LIMIT_MICROS));
+    Ratio { value, is_bound: rows.iter().any(|row| row.peers[number].is_infinite()) }
 }
 
-/// Measures a sheet on all sides, once every answer agrees with the planner's.
-fn measured(folder: &Folder, peers: &[&Peer], seed: u32, family: &str) -> Row {
-    let text = folder.sheet(seed, family, &[]);
-    let front = Front::of(&text);
-    let room = 2 * front.arrivals;
-    let mut sides = vec![
-        Side::new(front.micros(&text, room, 1), |repetitions| front.micros(&text, room, repetitions)),
-        Side::new(reading_micros(&text, 1), |repetitions| reading_micros(&text, repetitions)),
-    ];
-    let mut owners = vec![];
-    for (number, peer) in peers.iter().enumerate() {
-        for &search in peer.searches {
-            if let Some(found) = folder.first_found(search, &text) {
-                found.assert_agrees(&front, search, &format!("seed {seed} of {family}"));
-                let text = &text;
-                sides.push(Side::new(found.micros, move |count| folder.found(search, text, count).micros));
-                owners.push(number);
-            }
-        }
-    }
-    rounds::time(&mut sides);
-    let least_of = |number| {
-        let of_peer = owners.iter().zip(&sides[2..]).filter(|(owner, _)| **owner == number);
-        of_peer.map(|(_, side)| side.micros).reduce(f64::min)
-    };
-    Row {
-        costs: front.costs.len() as f64,
-        arrivals: front.arrivals as f64,
-        planner: sides[0].micros,
-        reading: sides[1].micros,
-        peers: (0..peers.len()).map(least_of).collect(),
-    }
+/// Measures a sheet on all sides.
+fn measured(folder: &Folder, peers: &[&Peer], sheet: &Sheet) -> Row {
+    let searches: Vec<Search> = peers.iter().flat_map(|peer| peer.searches).copied().collect();
+    let sheet = Measured::of(sheet, folder, &searches, vec![]);
+    let mut times = sheet.peers.iter().copied();
+    let fastest = |peer: &&Peer| times.by_ref().take(peer.searches.len()).fold(f64::INFINITY, f64::min);
+    let peers = peers.iter().map(fastest).collect();
+    Row { sheet, peers }
 }
