@@ -1,6 +1,8 @@
 // All rows, place by place and step by step.
 use crate::expand::from_links;
 use crate::index::INDEX;
+use crate::index::MIDDLE;
+use crate::index::SHORT;
 use crate::index::Span;
 use crate::index::note;
 use crate::live::settle;
@@ -26,8 +28,8 @@ ghost use lib.ListN.{length};
 ghost use Rattle.arrivals.specs.Inner.Network.{placesOf, caseOf, Vacant};
 ghost use Rattle.arrivals.specs.Inner.Lent.{Given};
 ghost use Rattle.arrivals.specs.Inner.Filling.{Visiting, Visited, Grown, Result};
-ghost use Rattle.arrivals.specs.Inner.Index.{Indexed};
-ghost use Rattle.arrivals.specs.Inner.Due.{IndexedShort, Stepping, Fast, Watching, Onward, SteppedOn};
+ghost use Rattle.arrivals.specs.Inner.Index.{Indexed, roomOf};
+ghost use Rattle.arrivals.specs.Inner.Due.{IndexedShort, Stepping, Fast, Watching, Searchable, Onward, SteppedOn};
 ghost use Rattle.arrivals.specs.Inner.Walking.{Walking, PassedTo};
 ghost use Rattle.arrivals.specs.Inner.Ending.{Ends};
 
@@ -190,7 +192,7 @@ pub fn fill_steps(
     last: Step,
 ) -> Outcome
     requires { ⌜ (Visiting (now runs) (now net) (now table) rows 0 1) × (IndexedShort (now table) rows (now ix) 0 1 (now net)) × (last .0 ≤ 255)
-        × (Watching (now runs) (now net) (now sets)) ⌝ }
+        × (Watching (now runs) (now net) (now sets)) × (roomOf (last .0) ≤ length (now ix)) ⌝ }
     ensures { λ r. ⌜ Result (caseOf (now (runs .entry)) (now (net .entry))) (now (table .exit)) (last .0 + 1) 0 (r .ok) (r .rows) ⌝ }
 {
     let mut n = rows;
@@ -228,23 +230,88 @@ pub fn first_row(table: &mut [u32], ix: &mut [u32], net: &[u32], runs: &[u16]) -
 }
 
 // All the rows of the search, after which the table is as it was, or more of them than there is room for.
-pub fn search_all(table: &mut [u32], sets: &[u64], net: &[u32], runs: &[u16], last: Step) -> Outcome
-    requires { ⌜ (Given (now runs) (now net)) × (last .0 ≤ 255) × (Watching (now runs) (now net) (now sets)) ⌝ }
+pub fn search_by(
+    table: &mut [u32],
+    ix: &mut [u32],
+    sets: &[u64],
+    net: &[u32],
+    runs: &[u16],
+    last: Step,
+) -> Outcome
+    requires { ⌜ (Searchable (now runs) (now net) (now sets) (last .0)) × (Indexed (now table) 0 (now ix) 0) × (roomOf (last .0) ≤ length (now ix)) ⌝ }
     ensures { λ r. ⌜ Result (caseOf (now (runs .entry)) (now (net .entry))) (now (table .exit)) (last .0 + 1) 0 (r .ok) (r .rows) ⌝ }
 {
-    let mut ix = [0; INDEX];
-    let r = first_row(table, &mut ix, net, runs);
+    let r = first_row(table, ix, net, runs);
     let ok = r.ok;
     let rows = r.rows;
     if ok {
-        return fill_steps(table, rows, &mut ix, sets, net, runs, last);
+        return fill_steps(table, rows, ix, sets, net, runs, last);
     }
     Outcome { ok: false, rows }
 }
 
+// The same, with an index for steps below 16.
+pub fn search_short(
+    table: &mut [u32],
+    sets: &[u64],
+    net: &[u32],
+    runs: &[u16],
+    last: Step,
+) -> Outcome
+    requires { ⌜ (Searchable (now runs) (now net) (now sets) (last .0)) × (last .0 < 16) ⌝ }
+    ensures { λ r. ⌜ Result (caseOf (now (runs .entry)) (now (net .entry))) (now (table .exit)) (last .0 + 1) 0 (r .ok) (r .rows) ⌝ }
+{
+    let mut ix = [0; SHORT];
+    search_by(table, &mut ix, sets, net, runs, last)
+}
+
+// The same, with an index for steps below 64.
+pub fn search_middle(
+    table: &mut [u32],
+    sets: &[u64],
+    net: &[u32],
+    runs: &[u16],
+    last: Step,
+) -> Outcome
+    requires { ⌜ (Searchable (now runs) (now net) (now sets) (last .0)) × (last .0 < 64) ⌝ }
+    ensures { λ r. ⌜ Result (caseOf (now (runs .entry)) (now (net .entry))) (now (table .exit)) (last .0 + 1) 0 (r .ok) (r .rows) ⌝ }
+{
+    let mut ix = [0; MIDDLE];
+    search_by(table, &mut ix, sets, net, runs, last)
+}
+
+// The same, with an index for all steps.
+pub fn search_long(
+    table: &mut [u32],
+    sets: &[u64],
+    net: &[u32],
+    runs: &[u16],
+    last: Step,
+) -> Outcome
+    requires { ⌜ Searchable (now runs) (now net) (now sets) (last .0) ⌝ }
+    ensures { λ r. ⌜ Result (caseOf (now (runs .entry)) (now (net .entry))) (now (table .exit)) (last .0 + 1) 0 (r .ok) (r .rows) ⌝ }
+{
+    let mut ix = [0; INDEX];
+    search_by(table, &mut ix, sets, net, runs, last)
+}
+
+// The same, with no larger an index than the steps need: clearing it takes most of the time where there are few.
+pub fn search_all(table: &mut [u32], sets: &[u64], net: &[u32], runs: &[u16], last: Step) -> Outcome
+    requires { ⌜ Searchable (now runs) (now net) (now sets) (last .0) ⌝ }
+    ensures { λ r. ⌜ Result (caseOf (now (runs .entry)) (now (net .entry))) (now (table .exit)) (last .0 + 1) 0 (r .ok) (r .rows) ⌝ }
+{
+    if last.0 < 16 {
+        return search_short(table, sets, net, runs, last);
+    }
+    if last.0 < 64 {
+        return search_middle(table, sets, net, runs, last);
+    }
+    search_long(table, sets, net, runs, last)
+}
+
 // All the rows of the search, and zeros after them; or zeros alone where there is no room.
 pub fn fill(table: &mut [u32], sets: &[u64], net: &[u32], runs: &[u16], last: Step) -> Outcome
-    requires { ⌜ (Given (now runs) (now net)) × (last .0 ≤ 255) × (Watching (now runs) (now net) (now sets)) ⌝ }
+    requires { ⌜ Searchable (now runs) (now net) (now sets) (last .0) ⌝ }
     ensures { λ r. ⌜ Ends (caseOf (now (runs .entry)) (now (net .entry))) (last .0) (length (now (table .entry))) (now (table .exit)) r ⌝ }
 {
     let r = search_all(table, sets, net, runs, last);

@@ -6,14 +6,16 @@ ghost use mathlib.Core.Path.{_≡_};
 ghost use mathlib.Core.Logic.{_⊎_};
 ghost use Prim.Native.Nat.{_<_, _≤_};
 ghost use lib.ListN.{length};
-ghost use Rattle.arrivals.specs.Inner.Index.{indexRoom, lowOf, highOf, newestOf, Older, NotedAs};
+ghost use Rattle.arrivals.specs.Inner.Index.{roomOf, lowOf, highOf, newestOf, Older, NotedAs};
 ghost use Rattle.arrivals.specs.Inner.Settling.{Regrouped};
 
-// The parts of the index: from 0 the first row of each step and place; then the row past the last, with the step before; the step past the rows of each
-// place; and its length.
-pub const ENDS: usize = 16384;
+// The index: from 0 the step past the rows of each place; then, for each step and place, the first row and the row past the last, with the step before. Its
+// length for steps below 16, below 64 and below 256.
+pub const GROUPS: usize = 64;
 
-pub const NEWEST: usize = 32768;
+pub const SHORT: usize = 2112;
+
+pub const MIDDLE: usize = 8256;
 
 pub const INDEX: usize = 32832;
 
@@ -25,31 +27,31 @@ pub struct Span {
 
 // The rows of place v and step s.
 pub fn group(ix: &[u32], v: Place, s: Step) -> Span
-    requires { ⌜ (v .0 < 64) × (s .0 ≤ 255) × (indexRoom ≤ length (now ix)) ⌝ }
+    requires { ⌜ (v .0 < 64) × (s .0 ≤ 255) × (roomOf (s .0) ≤ length (now ix)) ⌝ }
     ensures { λ r. ⌜ (r .lo ≡ lowOf (now (ix .entry)) (s .0) (v .0)) × (r .hi ≡ highOf (now (ix .entry)) (s .0) (v .0)) ⌝ }
 {
-    let at = s.0 as usize * 64 + v.0 as usize;
+    let at = GROUPS + (s.0 as usize * 64 + v.0 as usize) * 2;
     Span {
         lo: wide(ix[at]),
-        hi: wide(ix[ENDS + at] / 512),
+        hi: wide(ix[at + 1] / 512),
     }
 }
 
 // The step past the rows of place v.
 pub fn newest(ix: &[u32], v: Place) -> Step
-    requires { ⌜ (v .0 < 64) × (indexRoom ≤ length (now ix)) ⌝ }
+    requires { ⌜ (v .0 < 64) × (64 ≤ length (now ix)) ⌝ }
     ensures { λ r. ⌜ r .0 ≡ newestOf (now (ix .entry)) (v .0) ⌝ }
 {
-    Step(ix[NEWEST + v.0 as usize])
+    Step(ix[v.0 as usize])
 }
 
 // The step past the rows of place v before step s, as far as the index shows.
 pub fn older(ix: &[u32], v: Place, s: Step) -> Step
-    requires { ⌜ (v .0 < 64) × (s .0 ≤ 255) × (indexRoom ≤ length (now ix)) ⌝ }
+    requires { ⌜ (v .0 < 64) × (s .0 ≤ 255) × (roomOf (s .0) ≤ length (now ix)) ⌝ }
     ensures { λ r. ⌜ Older (now (ix .entry)) (s .0) (v .0) (r .0) ⌝ }
 {
-    let at = s.0 as usize * 64 + v.0 as usize;
-    let packed = ix[ENDS + at];
+    let at = GROUPS + (s.0 as usize * 64 + v.0 as usize) * 2;
+    let packed = ix[at + 1];
     if ix[at] < packed / 512 {
         return Step(packed % 512);
     }
@@ -58,7 +60,7 @@ pub fn older(ix: &[u32], v: Place, s: Step) -> Step
 
 // The step past the rows of place v, or t where that is less.
 pub fn latest(ix: &[u32], v: Place, t: Step) -> Step
-    requires { ⌜ (v .0 < 64) × (indexRoom ≤ length (now ix)) ⌝ }
+    requires { ⌜ (v .0 < 64) × (64 ≤ length (now ix)) ⌝ }
     ensures { λ r. ⌜ (r .0 ≤ t .0) × ((newestOf (now (ix .entry)) (v .0) ≤ r .0) ⊎ (r .0 ≡ t .0)) ⌝ }
 {
     let s = newest(ix, v);
@@ -70,22 +72,22 @@ pub fn latest(ix: &[u32], v: Place, t: Step) -> Step
 
 // Notes the rows of a span as those of place v and step s.
 pub fn note(ix: &mut [u32], span: Span, v: Place, s: Step)
-    requires { ⌜ (v .0 < 64) × (s .0 ≤ 255) × (indexRoom ≤ length (now ix)) × (span .lo ≤ span .hi) × (span .hi ≤ 8388607) ⌝ }
+    requires { ⌜ (v .0 < 64) × (s .0 ≤ 255) × (roomOf (s .0) ≤ length (now ix)) × (span .lo ≤ span .hi) × (span .hi ≤ 8388607) ⌝ }
     ensures { λ _. ⌜ NotedAs (now (ix .entry)) (now (ix .exit)) (span .lo) (span .hi) (s .0) (v .0) ⌝ }
 {
     let b = latest(ix, v, s);
-    ix[NEWEST + v.0 as usize] = s.0 + 1;
-    let at = s.0 as usize * 64 + v.0 as usize;
+    ix[v.0 as usize] = s.0 + 1;
+    let at = GROUPS + (s.0 as usize * 64 + v.0 as usize) * 2;
     ix[at] = span.lo as u32;
-    ix[ENDS + at] = span.hi as u32 * 512 + b.0;
+    ix[at + 1] = span.hi as u32 * 512 + b.0;
 }
 
 // Makes the rows of a span those of place v and step s, before which the rows of v begin below step `back`.
 pub fn regroup(ix: &mut [u32], span: Span, v: Place, s: Step, back: Step)
-    requires { ⌜ (v .0 < 64) × (s .0 ≤ 255) × (indexRoom ≤ length (now ix)) × (span .hi ≤ 8388607) × (span .lo ≤ span .hi) × (back .0 ≤ s .0) ⌝ }
+    requires { ⌜ (v .0 < 64) × (s .0 ≤ 255) × (roomOf (s .0) ≤ length (now ix)) × (span .hi ≤ 8388607) × (span .lo ≤ span .hi) × (back .0 ≤ s .0) ⌝ }
     ensures { λ _. ⌜ Regrouped (now (ix .entry)) (now (ix .exit)) (span .lo) (span .hi) (back .0) (s .0) (v .0) ⌝ }
 {
-    let at = s.0 as usize * 64 + v.0 as usize;
+    let at = GROUPS + (s.0 as usize * 64 + v.0 as usize) * 2;
     ix[at] = span.lo as u32;
-    ix[ENDS + at] = span.hi as u32 * 512 + back.0;
+    ix[at + 1] = span.hi as u32 * 512 + back.0;
 }

@@ -36,7 +36,7 @@ shared-slice-read-t24 : tie.Need-shared-slice-read-t24
 shared-slice-read-t24 c = omega (arith, whole-store (some-derived (c .before .before .before .before .before .before .before .before .before .before .before .before .before .before .before .pre)))
 
 fill-requires : tie.Need-fill-requires
-fill-requires c κs = let p = c .before .before .before .before .before .before .before .before .before .before .before .before .before .before .before .pre in (given (some-derived p) _ _ (p .firsts) (c .before .before .before .before .before .before .before .before .before .lay .ensures), few-steps (some-derived p), c .before .before .before .before .before .watch .ensures .of _ (p .firsts))
+fill-requires c κs = let p = c .before .before .before .before .before .before .before .before .before .before .before .before .before .before .before .pre in record { given = given (some-derived p) _ _ (p .firsts) (c .before .before .before .before .before .before .before .before .before .lay .ensures); day = few-steps (some-derived p); watching = c .before .before .before .before .before .watch .ensures .of _ (p .firsts) }
 
 same-length : tie.Need-same-length
 same-length c = search needs

@@ -64,7 +64,13 @@ pub record Watching (free net sets : List ℕ) : Type 0 where
   pub dear : (j : ℕ) → j < countOf net → (dearOf net j ≡ 0) ⊎ Has (number sets 322) (linkOf net 1 j)
   pub reopens : (x : ℕ) → x < closuresOf net → closureOf net 2 x < 256 → Has (number sets (closureOf net 2 x + 2)) (closureOf net 1 x)
 
--- the same for the first steps of the sheet in the array
+-- what is asked where all rows up to step `last` are sought
+pub record Searchable (free net sets : List ℕ) (last : ℕ) : Type 0 where
+  pub given : Given free net
+  pub day : last ≤ 255
+  pub watching : Watching free net sets
+
+-- the sets, for the first steps of the sheet in the array
 pub record Watches (lines all net sets : List ℕ) : Type 0 where
   pub of : (free : List ℕ) → SinceTable (partOf lines all (kindO .order)) free → Watching free net sets
 

@@ -1,6 +1,7 @@
--- Where the rows of each step and place stand: for step s and place v, at s * 64 + v, the first row; 16384 further, the row past the last, times
--- 512, and one more than the last step before s at which v has rows. At 32768 + v, one more than the last step at which v has rows. Rows for
--- which a later row of their place stands may be left out: Covers says for which (document 02, E8; the search: live rows).
+-- Where the rows of each step and place stand: for place v, at v, one more than the last step at which v has rows; for step s and place v, at
+-- 64 + (s * 64 + v) * 2, the first row; next to it the row past the last, times 512, and one more than the last step before s at which v has rows. So the
+-- steps up to s take the first roomOf s numbers. Rows for which a later row of their place stands may be left out: Covers says for which (document 02, E8;
+-- the search: live rows).
 use mathlib.Core.Path.{_≡_, refl, sym, ap, ap₂, _∙_, subst}
 use mathlib.Core.List.{List}
 use mathlib.Core.Logic.{_⊎_, inl, inr, ⊎-elim}
@@ -18,21 +19,21 @@ use Rattle.arrivals.specs.Laws.Rows.{row-kept}
 use Rattle.arrivals.specs.Inner.Rows.{rowsOf, rows-find, zeros-at}
 use Rattle.arrivals.specs.Inner.Filling.{Grown}
 
--- the length of the list
-abbrev pub indexRoom : ℕ
-indexRoom = 32832
-
-abbrev pub lowOf : List ℕ → ℕ → ℕ → ℕ
-lowOf ix s v = getD ix (s * 64 + v) 0
-
-abbrev pub highOf : List ℕ → ℕ → ℕ → ℕ
-highOf ix s v = getD ix (16384 + (s * 64 + v)) 0 / 512
-
-abbrev pub backOf : List ℕ → ℕ → ℕ → ℕ
-backOf ix s v = getD ix (16384 + (s * 64 + v)) 0 % 512
+-- how many numbers the places and the steps up to s take
+abbrev pub roomOf : ℕ → ℕ
+roomOf s = 64 + (s + 1) * 128
 
 abbrev pub newestOf : List ℕ → ℕ → ℕ
-newestOf ix v = getD ix (32768 + v) 0
+newestOf ix v = getD ix v 0
+
+abbrev pub lowOf : List ℕ → ℕ → ℕ → ℕ
+lowOf ix s v = getD ix (64 + (s * 64 + v) * 2) 0
+
+abbrev pub highOf : List ℕ → ℕ → ℕ → ℕ
+highOf ix s v = getD ix (64 + (s * 64 + v) * 2 + 1) 0 / 512
+
+abbrev pub backOf : List ℕ → ℕ → ℕ → ℕ
+backOf ix s v = getD ix (64 + (s * 64 + v) * 2 + 1) 0 % 512
 
 -- row i, which is r, is one of its group as the index has it
 abbrev pub InGroup : List ℕ → ℕ → Row → Type 0
@@ -42,7 +43,7 @@ pub record Listed (ix xs : List ℕ) (i : ℕ) : Type 0 where
   pub group : InGroup ix i (rowAt xs i)
 
 pub record Indexed (xs : List ℕ) (n : ℕ) (ix : List ℕ) (t : ℕ) : Type 0 where
-  pub size : 32832 ≤ length ix
+  pub size : roomOf t ≤ length ix
   pub now : t ≤ 255
   pub places : (i : ℕ) → i < n → rowAt xs i .place < 64
   pub steps : (i : ℕ) → i < n → rowAt xs i .step ≤ t
@@ -142,40 +143,50 @@ pub record NotedAs (ix iy : List ℕ) (lo hi s v : ℕ) : Type 0 where
   pub past : (newestOf ix v ≤ last) ⊎ (last ≡ s)
   pub noted : Noted ix iy lo hi s v last
 
-pub noted : (ix : List ℕ) (lo hi s v b : ℕ) → s ≤ 255 → v < 64 → b ≤ s → 32832 ≤ length ix → Noted ix (set (set (set ix (32768 + v) (s + 1)) (s * 64 + v) lo) (16384 + (s * 64 + v)) (hi * 512 + b)) lo hi s v b
+-- the numbers of two groups are apart
+pub odd-even : (a b : ℕ) → 64 + a * 2 + 1 ≡ 64 + b * 2 → ⊥
+odd-even a b e = omega arith
+
+pub one-group : (r u s v : ℕ) → u < 64 → v < 64 → r * 64 + u ≡ s * 64 + v → (r ≡ s) × (u ≡ v)
+one-group r u s v l m e = (omega arith, omega arith)
+
+pub noted : (ix : List ℕ) (lo hi s v b : ℕ) → s ≤ 255 → v < 64 → b ≤ s → roomOf s ≤ length ix → Noted ix (set (set (set ix v (s + 1)) (64 + (s * 64 + v) * 2) lo) (64 + (s * 64 + v) * 2 + 1) (hi * 512 + b)) lo hi s v b
 noted ix lo hi s v b l m bs size =
     record {
       size = simp length-set (omega arith);
-      low = skip3 (s * 64 + v) (λ e. omega arith) ∙ getD-set-same i1 (s * 64 + v) lo 0 (simp length-set (omega arith));
+      low = skip3 (64 + (s * 64 + v) * 2) (λ e. odd-even (s * 64 + v) (s * 64 + v) (sym e)) ∙ getD-set-same i1 (64 + (s * 64 + v) * 2) lo 0 (simp length-set (omega arith));
       high = omega (arith, packed);
       back = omega (arith, packed);
-      newest = skip3 (32768 + v) (λ e. omega arith) ∙ skip2 (32768 + v) (λ e. omega arith) ∙ getD-set-same ix (32768 + v) (s + 1) 0 (omega arith);
-      lows = λ r u a c n. skip3 (r * 64 + u) (λ e. omega arith) ∙ skip2 (r * 64 + u) (λ e. n (omega arith) (omega arith)) ∙ skip1 (r * 64 + u) (λ e. omega arith);
+      newest = skip3 v (λ e. omega arith) ∙ skip2 v (λ e. omega arith) ∙ getD-set-same ix v (s + 1) 0 (omega arith);
+      lows = λ r u a c n. skip3 (64 + (r * 64 + u) * 2) (λ e. odd-even (s * 64 + v) (r * 64 + u) (sym e)) ∙ skip2 (64 + (r * 64 + u) * 2) (λ e. apart r u c n (omega arith)) ∙ skip1 (64 + (r * 64 + u) * 2) (λ e. omega arith);
       highs = λ r u a c n. ap (λ (x : ℕ). x / 512) (cell r u a c n);
       backs = λ r u a c n. ap (λ (x : ℕ). x % 512) (cell r u a c n);
-      newests = λ u c n. skip3 (32768 + u) (λ e. omega arith) ∙ skip2 (32768 + u) (λ e. omega arith) ∙ skip1 (32768 + u) (λ e. n (omega arith));
+      newests = λ u c n. skip3 u (λ e. omega arith) ∙ skip2 u (λ e. omega arith) ∙ skip1 u (λ e. n (omega arith));
     }
   where
     i1 : List ℕ
-    i1 = set ix (32768 + v) (s + 1)
+    i1 = set ix v (s + 1)
 
     i2 : List ℕ
-    i2 = set i1 (s * 64 + v) lo
+    i2 = set i1 (64 + (s * 64 + v) * 2) lo
 
-    packed : getD (set i2 (16384 + (s * 64 + v)) (hi * 512 + b)) (16384 + (s * 64 + v)) 0 ≡ hi * 512 + b
-    packed = getD-set-same i2 (16384 + (s * 64 + v)) (hi * 512 + b) 0 (simp length-set (omega arith))
+    packed : getD (set i2 (64 + (s * 64 + v) * 2 + 1) (hi * 512 + b)) (64 + (s * 64 + v) * 2 + 1) 0 ≡ hi * 512 + b
+    packed = getD-set-same i2 (64 + (s * 64 + v) * 2 + 1) (hi * 512 + b) 0 (simp length-set (omega arith))
 
-    skip1 : (j : ℕ) → (j ≡ 32768 + v → ⊥) → getD i1 j 0 ≡ getD ix j 0
-    skip1 j n = getD-set-other ix (32768 + v) j (s + 1) 0 n
+    skip1 : (j : ℕ) → (j ≡ v → ⊥) → getD i1 j 0 ≡ getD ix j 0
+    skip1 j n = getD-set-other ix v j (s + 1) 0 n
 
-    skip2 : (j : ℕ) → (j ≡ s * 64 + v → ⊥) → getD i2 j 0 ≡ getD i1 j 0
-    skip2 j n = getD-set-other i1 (s * 64 + v) j lo 0 n
+    skip2 : (j : ℕ) → (j ≡ 64 + (s * 64 + v) * 2 → ⊥) → getD i2 j 0 ≡ getD i1 j 0
+    skip2 j n = getD-set-other i1 (64 + (s * 64 + v) * 2) j lo 0 n
 
-    skip3 : (j : ℕ) → (j ≡ 16384 + (s * 64 + v) → ⊥) → getD (set i2 (16384 + (s * 64 + v)) (hi * 512 + b)) j 0 ≡ getD i2 j 0
-    skip3 j n = getD-set-other i2 (16384 + (s * 64 + v)) j (hi * 512 + b) 0 n
+    skip3 : (j : ℕ) → (j ≡ 64 + (s * 64 + v) * 2 + 1 → ⊥) → getD (set i2 (64 + (s * 64 + v) * 2 + 1) (hi * 512 + b)) j 0 ≡ getD i2 j 0
+    skip3 j n = getD-set-other i2 (64 + (s * 64 + v) * 2 + 1) j (hi * 512 + b) 0 n
 
-    cell : (r u : ℕ) → r ≤ 255 → u < 64 → (r ≡ s → u ≡ v → ⊥) → getD (set i2 (16384 + (s * 64 + v)) (hi * 512 + b)) (16384 + (r * 64 + u)) 0 ≡ getD ix (16384 + (r * 64 + u)) 0
-    cell r u a c n = skip3 (16384 + (r * 64 + u)) (λ e. n (omega arith) (omega arith)) ∙ skip2 (16384 + (r * 64 + u)) (λ e. omega arith) ∙ skip1 (16384 + (r * 64 + u)) (λ e. omega arith)
+    apart : (r u : ℕ) → u < 64 → (r ≡ s → u ≡ v → ⊥) → r * 64 + u ≡ s * 64 + v → ⊥
+    apart r u c n e = let z = one-group r u s v c m e in n (z .0) (z .1)
+
+    cell : (r u : ℕ) → r ≤ 255 → u < 64 → (r ≡ s → u ≡ v → ⊥) → getD (set i2 (64 + (s * 64 + v) * 2 + 1) (hi * 512 + b)) (64 + (r * 64 + u) * 2 + 1) 0 ≡ getD ix (64 + (r * 64 + u) * 2 + 1) 0
+    cell r u a c n = skip3 (64 + (r * 64 + u) * 2 + 1) (λ e. apart r u c n (omega arith)) ∙ skip2 (64 + (r * 64 + u) * 2 + 1) (λ e. odd-even (r * 64 + u) (s * 64 + v) e) ∙ skip1 (64 + (r * 64 + u) * 2 + 1) (λ e. omega arith)
 
 -- a row covers itself, where it is listed
 pub cover-own : {xs : List ℕ} {n : ℕ} {ix : List ℕ} {t : ℕ} {w : Cost} (i : ℕ) → i < n → Listed ix xs i → Cover xs n ix t w i
@@ -325,50 +336,26 @@ module _ (xs ys : List ℕ) (n m : ℕ) (ix iy : List ℕ) (t v b : ℕ) (w : In
         down = λ s u a c. ⊎-elim (λ e. subst (λ (y : ℕ). backOf iy y u ≤ y) (sym (e .0)) (subst (λ (y : ℕ). backOf iy t y ≤ t) (sym (e .1)) (omega (arith, d .back)))) (λ e. omega (arith, d .backs s u a c e, w .down s u a c)) (key s u);
       }
 
-pub indexed-step : {xs : List ℕ} {n : ℕ} {ix : List ℕ} {t : ℕ} (u : ℕ) → t ≤ u → u ≤ 255 → Indexed xs n ix t → Indexed xs n ix u
-indexed-step u l m w =
-    record { size = w .size; now = m; places = w .places; steps = λ i b. omega (arith, w .steps i b); order = w .order; only = w .only; newest = w .newest; latest = λ v b. omega (arith, w .latest v b); back = w .back; down = w .down }
+pub indexed-step : {xs : List ℕ} {n : ℕ} {ix : List ℕ} {t : ℕ} (u : ℕ) → t ≤ u → u ≤ 255 → roomOf u ≤ length ix → Indexed xs n ix t → Indexed xs n ix u
+indexed-step u l m size w =
+    record { size = size; now = m; places = w .places; steps = λ i b. omega (arith, w .steps i b); order = w .order; only = w .only; newest = w .newest; latest = λ v b. omega (arith, w .latest v b); back = w .back; down = w .down }
 
-pub indexed-none : (xs : List ℕ) (n t : ℕ) → 32832 ≤ n → t ≤ 255 → Indexed xs 0 (replicate n 0) t
+pub indexed-none : (xs : List ℕ) (n t : ℕ) → roomOf t ≤ n → t ≤ 255 → Indexed xs 0 (replicate n 0) t
 indexed-none xs n t l m =
     record {
       size = omega (arith, length-replicate {A = ℕ} n 0);
       now = m;
       places = λ i b. absurd (omega arith);
       steps = λ i b. absurd (omega arith);
-      order = λ s v a b. (omega (arith, zeros-at n (s * 64 + v)), omega (arith, zeros-at n (16384 + (s * 64 + v))));
-      only = λ s v i a b c d. absurd (omega (arith, zeros-at n (16384 + (s * 64 + v))));
+      order = λ s v a b. (omega (arith, zeros-at n (64 + (s * 64 + v) * 2)), omega (arith, zeros-at n (64 + (s * 64 + v) * 2 + 1)));
+      only = λ s v i a b c d. absurd (omega (arith, zeros-at n (64 + (s * 64 + v) * 2 + 1)));
       newest = λ i b. absurd (omega arith);
-      latest = λ v b. omega (arith, zeros-at n (32768 + v));
+      latest = λ v b. omega (arith, zeros-at n v);
       back = λ i j b. absurd (omega arith);
-      down = λ s v a b. omega (arith, zeros-at n (16384 + (s * 64 + v)));
+      down = λ s v a b. omega (arith, zeros-at n (64 + (s * 64 + v) * 2 + 1));
     }
 
-pub indexed-same : {xs : List ℕ} {n : ℕ} {ix iy : List ℕ} {t : ℕ} → length iy ≡ length ix → ((i : ℕ) → i < 32832 → getD iy i 0 ≡ getD ix i 0) → Indexed xs n ix t → Indexed xs n iy t
-indexed-same {xs} {n} {ix} {iy} {t} e same w =
-    record {
-      size = omega (arith, w .size);
-      now = w .now;
-      places = w .places;
-      steps = w .steps;
-      order = λ s v a b. let o = w .order s v a b in let x = same (s * 64 + v) (omega arith) in let y = same (16384 + (s * 64 + v)) (omega arith) in (omega (arith, o .0), omega (arith, o .1));
-      only = λ s v i a b c d. w .only s v i a b (omega (arith, same (s * 64 + v) (omega arith))) (omega (arith, same (16384 + (s * 64 + v)) (omega arith)));
-      newest = λ i l. omega (arith, same (32768 + rowAt xs i .place) (omega (arith, w .places i l)), w .newest i l);
-      latest = λ v b. omega (arith, same (32768 + v) (omega arith), w .latest v b);
-      back = λ i j l m g h p q. omega (arith, same (16384 + (rowAt xs j .step * 64 + rowAt xs j .place)) (omega (arith, inside j m)), w .back i j l m (listed i l g) (listed j m h) p q);
-      down = λ s v a b. omega (arith, same (16384 + (s * 64 + v)) (omega arith), w .down s v a b);
-    }
-  where
-    inside : (i : ℕ) → i < n → rowAt xs i .step * 64 + rowAt xs i .place < 16384
-    inside i l = omega (arith, w .steps i l, w .places i l, w .now)
-
-    listed : (i : ℕ) → i < n → Listed iy xs i → Listed ix xs i
-    listed i l g =
-        let x = same (rowAt xs i .step * 64 + rowAt xs i .place) (omega (arith, inside i l)) in
-        let y = same (16384 + (rowAt xs i .step * 64 + rowAt xs i .place)) (omega (arith, inside i l)) in
-        record { group = (omega (arith, g .group .0), omega (arith, g .group .1)) }
-
--- what covers a row covers it at a later step, after cells that are no row's are changed, and where other cells of the index are
+-- what covers a row covers it at a later step, and after cells that are no row's are changed
 pub covers-step : {xs : List ℕ} {n : ℕ} {ix : List ℕ} {t v : ℕ} {w : Cost} (u : ℕ) → t ≤ u → Covers xs n ix t v w → Covers xs n ix u v w
 covers-step u l f =
     record {
@@ -412,13 +399,3 @@ pub lag-sum : (a b c : ℕ) (w : Cost) (i : ℕ) → a ≤ b → b ≤ c → fig
 lag-sum a b c w i l m =
     let e : c - a ≡ (b - a) + (c - b) = omega arith in
     fig-times (c - a) w i ∙ ap (λ (n : ℕ). n * fig w i) e ∙ add-mul (b - a) (c - b) (fig w i) ∙ sym (ap₂ (λ (x y : ℕ). x + y) (fig-times (b - a) w i) (fig-times (c - b) w i))
-
-pub covers-same : {xs : List ℕ} {n : ℕ} {ix iy : List ℕ} {s t v : ℕ} {w : Cost} → ((i : ℕ) → i < 32832 → getD iy i 0 ≡ getD ix i 0) → Indexed xs n ix s → Covers xs n ix t v w → Covers xs n iy t v w
-covers-same {xs} {n} {ix} {iy} {s} {t} {v} same a f = covers-listed listed f
-  where
-    listed : (i : ℕ) → i < n → rowAt xs i .place ≡ v → Listed ix xs i → Listed iy xs i
-    listed i l p g =
-        let b : rowAt xs i .step * 64 + rowAt xs i .place < 16384 = omega (arith, a .steps i l, a .places i l, a .now) in
-        let x = same (rowAt xs i .step * 64 + rowAt xs i .place) (omega arith) in
-        let y = same (16384 + (rowAt xs i .step * 64 + rowAt xs i .place)) (omega arith) in
-        record { group = (omega (arith, g .group .0), omega (arith, g .group .1)) }

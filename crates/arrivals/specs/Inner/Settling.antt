@@ -20,7 +20,7 @@ use Rattle.arrivals.specs.Rows.{Row, rowAt}
 use Rattle.arrivals.specs.Inner.Rows.{rowsOf, all-at, tailOf, tail-find, Bounded}
 use Rattle.arrivals.specs.Inner.Network.{waitIn, linkOf, countOf, dearOf}
 use Rattle.arrivals.specs.Inner.Offering.{Beaten}
-use Rattle.arrivals.specs.Inner.Index.{indexRoom, lowOf, highOf, backOf, Listed, Indexed, Cover, Older, covers-step, row-low, low-row, older-past, lag-sum}
+use Rattle.arrivals.specs.Inner.Index.{roomOf, odd-even, one-group, lowOf, highOf, backOf, Listed, Indexed, Cover, Older, covers-step, row-low, low-row, older-past, lag-sum}
 use Rattle.arrivals.specs.Inner.Due.{Covered}
 use Rattle.arrivals.specs.Inner.Walking.{Walking}
 use Rattle.arrivals.specs.declared.index.Span.{Span}
@@ -34,36 +34,39 @@ pub record Regrouped (ix iy : List ℕ) (lo hi b s v : ℕ) : Type 0 where
   pub lows : (r u : ℕ) → r ≤ 255 → u < 64 → (r ≡ s → u ≡ v → ⊥) → lowOf iy r u ≡ lowOf ix r u
   pub highs : (r u : ℕ) → r ≤ 255 → u < 64 → (r ≡ s → u ≡ v → ⊥) → highOf iy r u ≡ highOf ix r u
   pub backs : (r u : ℕ) → r ≤ 255 → u < 64 → (r ≡ s → u ≡ v → ⊥) → backOf iy r u ≡ backOf ix r u
-  pub rest : (j : ℕ) → 32768 ≤ j → getD iy j 0 ≡ getD ix j 0
+  pub rest : (j : ℕ) → j < 64 → getD iy j 0 ≡ getD ix j 0
 
-pub regrouped : (ix : List ℕ) (lo hi b s v : ℕ) → s ≤ 255 → v < 64 → b < 512 → 32832 ≤ length ix
-    → Regrouped ix (set (set ix (s * 64 + v) lo) (16384 + (s * 64 + v)) (hi * 512 + b)) lo hi b s v
+pub regrouped : (ix : List ℕ) (lo hi b s v : ℕ) → s ≤ 255 → v < 64 → b < 512 → roomOf s ≤ length ix
+    → Regrouped ix (set (set ix (64 + (s * 64 + v) * 2) lo) (64 + (s * 64 + v) * 2 + 1) (hi * 512 + b)) lo hi b s v
 regrouped ix lo hi b s v l m bs size =
     record {
       size = simp length-set (omega arith);
-      low = skip2 (s * 64 + v) (λ e. omega arith) ∙ getD-set-same ix (s * 64 + v) lo 0 (omega arith);
+      low = skip2 (64 + (s * 64 + v) * 2) (λ e. odd-even (s * 64 + v) (s * 64 + v) (sym e)) ∙ getD-set-same ix (64 + (s * 64 + v) * 2) lo 0 (omega arith);
       high = omega (arith, packed);
       back = omega (arith, packed);
-      lows = λ r u a c n. skip2 (r * 64 + u) (λ e. omega arith) ∙ skip1 (r * 64 + u) (λ e. n (omega arith) (omega arith));
+      lows = λ r u a c n. skip2 (64 + (r * 64 + u) * 2) (λ e. odd-even (s * 64 + v) (r * 64 + u) (sym e)) ∙ skip1 (64 + (r * 64 + u) * 2) (λ e. apart r u c n (omega arith));
       highs = λ r u a c n. ap (λ (x : ℕ). x / 512) (cell r u a c n);
       backs = λ r u a c n. ap (λ (x : ℕ). x % 512) (cell r u a c n);
       rest = λ j c. skip2 j (λ e. omega arith) ∙ skip1 j (λ e. omega arith);
     }
   where
     i1 : List ℕ
-    i1 = set ix (s * 64 + v) lo
+    i1 = set ix (64 + (s * 64 + v) * 2) lo
 
-    packed : getD (set i1 (16384 + (s * 64 + v)) (hi * 512 + b)) (16384 + (s * 64 + v)) 0 ≡ hi * 512 + b
-    packed = getD-set-same i1 (16384 + (s * 64 + v)) (hi * 512 + b) 0 (simp length-set (omega arith))
+    packed : getD (set i1 (64 + (s * 64 + v) * 2 + 1) (hi * 512 + b)) (64 + (s * 64 + v) * 2 + 1) 0 ≡ hi * 512 + b
+    packed = getD-set-same i1 (64 + (s * 64 + v) * 2 + 1) (hi * 512 + b) 0 (simp length-set (omega arith))
 
-    skip1 : (j : ℕ) → (j ≡ s * 64 + v → ⊥) → getD i1 j 0 ≡ getD ix j 0
-    skip1 j n = getD-set-other ix (s * 64 + v) j lo 0 n
+    skip1 : (j : ℕ) → (j ≡ 64 + (s * 64 + v) * 2 → ⊥) → getD i1 j 0 ≡ getD ix j 0
+    skip1 j n = getD-set-other ix (64 + (s * 64 + v) * 2) j lo 0 n
 
-    skip2 : (j : ℕ) → (j ≡ 16384 + (s * 64 + v) → ⊥) → getD (set i1 (16384 + (s * 64 + v)) (hi * 512 + b)) j 0 ≡ getD i1 j 0
-    skip2 j n = getD-set-other i1 (16384 + (s * 64 + v)) j (hi * 512 + b) 0 n
+    skip2 : (j : ℕ) → (j ≡ 64 + (s * 64 + v) * 2 + 1 → ⊥) → getD (set i1 (64 + (s * 64 + v) * 2 + 1) (hi * 512 + b)) j 0 ≡ getD i1 j 0
+    skip2 j n = getD-set-other i1 (64 + (s * 64 + v) * 2 + 1) j (hi * 512 + b) 0 n
 
-    cell : (r u : ℕ) → r ≤ 255 → u < 64 → (r ≡ s → u ≡ v → ⊥) → getD (set i1 (16384 + (s * 64 + v)) (hi * 512 + b)) (16384 + (r * 64 + u)) 0 ≡ getD ix (16384 + (r * 64 + u)) 0
-    cell r u a c n = skip2 (16384 + (r * 64 + u)) (λ e. n (omega arith) (omega arith)) ∙ skip1 (16384 + (r * 64 + u)) (λ e. omega arith)
+    apart : (r u : ℕ) → u < 64 → (r ≡ s → u ≡ v → ⊥) → r * 64 + u ≡ s * 64 + v → ⊥
+    apart r u c n e = let z = one-group r u s v c m e in n (z .0) (z .1)
+
+    cell : (r u : ℕ) → r ≤ 255 → u < 64 → (r ≡ s → u ≡ v → ⊥) → getD (set i1 (64 + (s * 64 + v) * 2 + 1) (hi * 512 + b)) (64 + (r * 64 + u) * 2 + 1) 0 ≡ getD ix (64 + (r * 64 + u) * 2 + 1) 0
+    cell r u a c n = skip2 (64 + (r * 64 + u) * 2 + 1) (λ e. apart r u c n (omega arith)) ∙ skip1 (64 + (r * 64 + u) * 2 + 1) (λ e. odd-even (r * 64 + u) (s * 64 + v) e)
 
 -- the rows up to step t and their index, whose listed rows cover them all from step t + 1 on
 pub record Settling (net xs : List ℕ) (n : ℕ) (ix : List ℕ) (t : ℕ) : Type 0 where
@@ -159,8 +162,8 @@ module _ {net xs : List ℕ} {n : ℕ} {ix iy : List ℕ} {t lo hi b s v : ℕ} 
         steps = a .indexed .steps;
         order = λ r u c d. let o = a .indexed .order r u c d in let z = within r u c d in (z .1, omega (arith, z .2, o .1));
         only = λ r u i c d x y. let z = within r u c d in a .indexed .only r u i c d (omega (arith, z .0)) (omega (arith, z .2));
-        newest = λ i l. omega (arith, g .rest (32768 + rowAt xs i .place) (omega arith), a .indexed .newest i l);
-        latest = λ u c. omega (arith, g .rest (32768 + u) (omega arith), a .indexed .latest u c);
+        newest = λ i l. omega (arith, g .rest (rowAt xs i .place) (a .indexed .places i l), a .indexed .newest i l);
+        latest = λ u c. omega (arith, g .rest u c, a .indexed .latest u c);
         back = back-at;
         down = λ r u c d. ⊎-elim
             (λ e. subst (λ (y : ℕ). backOf iy y u ≤ y) (sym (e .0)) (subst (λ (y : ℕ). backOf iy s y ≤ s) (sym (e .1)) (omega (arith, g .back))))
@@ -262,7 +265,7 @@ pub record Shortening (xs ix : List ℕ) (v s t : ℕ) (wait : Cost) (back : ℕ
   pub inside : v < 64
   pub before : s < t
   pub day : t ≤ 255
-  pub size : indexRoom ≤ length ix
+  pub size : roomOf t ≤ length ix
   pub waits : Within 60000 wait
   pub down : back ≤ s
   pub rows : ℕ

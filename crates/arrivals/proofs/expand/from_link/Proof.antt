@@ -29,7 +29,7 @@ link-end-requires-2 : tie.Need-link-end-requires-2
 link-end-requires-2 c κs = (omega (arith, c .before .before .before .before .before .before .before .before .before .pre .0 .given .few), omega arith, c .before .before .before .before .before .before .before .before .before .pre .0 .given .size)
 
 newest-requires : tie.Need-newest-requires
-newest-requires c κs = (omega (arith, c .link-end2 .ensures, given-linked (c .before .before .before .before .before .before .before .before .before .before .pre .0 .given) .ends 0 (c .before .before .before .before .before .before .before .before .before .before .args .j) (omega arith) (c .before .before .before .before .before .before .before .before .before .before .pre .2)), c .before .before .before .before .before .before .before .before .before .before .pre .1 .indexed .size)
+newest-requires c κs = (omega (arith, c .link-end2 .ensures, given-linked (c .before .before .before .before .before .before .before .before .before .before .pre .0 .given) .ends 0 (c .before .before .before .before .before .before .before .before .before .before .args .j) (omega arith) (c .before .before .before .before .before .before .before .before .before .before .pre .2)), omega (arith, c .before .before .before .before .before .before .before .before .before .before .pre .1 .indexed .size))
 
 returns-2 : tie.Need-returns-2
 returns-2 c =

@@ -30,7 +30,7 @@ fill-step-requires c κs =
     let inv = c .before .before .before .before .loop .inv in
     let p = c .before .before .before .before .before .before .before .before .before .before .pre in (
       record { given = p .0 .given; inside = p .0 .inside; first = inv .0; last = omega (arith, p .2); room = inv .2; filled = inv .5 },
-      λ b. (indexed-step _ (omega arith) (omega (arith, p .2)) (inv .6 b .0), inv .6 b .1),
+      λ b. (indexed-step _ (omega arith) (omega (arith, p .2)) (omega (arith, inv .4, p .4)) (inv .6 b .0), inv .6 b .1),
       p .3,
       inv .7,
     )

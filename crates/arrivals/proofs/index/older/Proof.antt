@@ -1,7 +1,8 @@
--- `arrivals::index::older` meets its contract: where v has rows at step s, what is noted there; else s.
+-- `arrivals::index::older` meets its contract.
 -- Assumes nothing.
 use mathlib.Core.Logic.{inl, inr}
 use mathlib.Core.Path.{refl}
+use native.Mathlib.Omega.{arith}
 use borrow.Author.Needs.{needs}
 use Rattle.arrivals.proofs.index.older.Statement.{statement}
 use Rattle.arrivals.proofs.index.older.Tie as tie
@@ -18,6 +19,12 @@ cast-at-2 c = search needs
 add-at : tie.Need-add-at
 add-at c = search needs
 
+mul-at-2 : tie.Need-mul-at-2
+mul-at-2 c = search needs
+
+add-at-2 : tie.Need-add-at-2
+add-at-2 c = search needs
+
 add-packed : tie.Need-add-packed
 add-packed c = search needs
 
@@ -25,13 +32,13 @@ mul-packed : tie.Need-mul-packed
 mul-packed c = search needs
 
 shared-slice-read-packed : tie.Need-shared-slice-read-packed
-shared-slice-read-packed c = search needs
+shared-slice-read-packed c = omega (arith, c .before .before .before .pre .0, c .before .before .before .pre .2)
 
 mul-if1 : tie.Need-mul-if1
 mul-if1 c = search needs
 
 shared-slice-read-if1 : tie.Need-shared-slice-read-if1
-shared-slice-read-if1 c = search needs
+shared-slice-read-if1 c = omega (arith, c .before .before .before .before .pre .0, c .before .before .before .before .pre .2)
 
 returns : tie.Need-returns
 returns c = inl (c .if1 .taken, refl)
@@ -47,6 +54,8 @@ older-spec =
     mul-at
     cast-at-2
     add-at
+    mul-at-2
+    add-at-2
     add-packed
     mul-packed
     shared-slice-read-packed

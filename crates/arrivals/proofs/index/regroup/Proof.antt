@@ -1,9 +1,9 @@
--- `arrivals::index::regroup` meets its contract: two stores, one of the first row, one of the row past the last with the step before.
+-- `arrivals::index::regroup` meets its contract.
 -- Assumes nothing.
 use native.Mathlib.Omega.{arith}
 use lib.ListN.{length-set}
-use Rattle.arrivals.specs.Inner.Settling.{regrouped}
 use borrow.Author.Needs.{needs}
+use Rattle.arrivals.specs.Inner.Settling.{regrouped}
 use Rattle.arrivals.proofs.index.regroup.Statement.{statement}
 use Rattle.arrivals.proofs.index.regroup.Tie as tie
 
@@ -19,6 +19,12 @@ cast-at-2 c = search needs
 add-at : tie.Need-add-at
 add-at c = search needs
 
+mul-at-2 : tie.Need-mul-at-2
+mul-at-2 c = search needs
+
+add-at-2 : tie.Need-add-at-2
+add-at-2 c = search needs
+
 cast-ix : tie.Need-cast-ix
 cast-ix c = search needs
 
@@ -26,7 +32,7 @@ mul-ix : tie.Need-mul-ix
 mul-ix c = search needs
 
 slice-write-ix : tie.Need-slice-write-ix
-slice-write-ix c = search needs
+slice-write-ix c = omega (arith, c .before .before .before .pre .0, c .before .before .before .pre .2)
 
 cast-ix-2 : tie.Need-cast-ix-2
 cast-ix-2 c = search needs
@@ -44,13 +50,13 @@ mul-ix-3 : tie.Need-mul-ix-3
 mul-ix-3 c = search needs
 
 slice-write-ix-2 : tie.Need-slice-write-ix-2
-slice-write-ix-2 c = simp length-set (omega arith)
+slice-write-ix-2 c = let p = c .before .before .before .before .before .pre in simp length-set (omega (arith, p .0, p .2))
 
 same-length : tie.Need-same-length
 same-length c = simp length-set
 
 returns : tie.Need-returns
-returns c = regrouped _ _ _ _ _ _ ((c .before .before .before .before .before .pre) .1) ((c .before .before .before .before .before .pre) .0) (omega (arith, (c .before .before .before .before .before .pre) .5, (c .before .before .before .before .before .pre) .1)) ((c .before .before .before .before .before .pre) .2)
+returns c = let p = c .before .before .before .before .before .pre in regrouped _ _ _ _ _ _ (p .1) (p .0) (omega (arith, p .5, p .1)) (p .2)
 
 pub regroup-spec : {M : Type 1} → statement M
 regroup-spec =
@@ -60,6 +66,8 @@ regroup-spec =
     mul-at
     cast-at-2
     add-at
+    mul-at-2
+    add-at-2
     cast-ix
     mul-ix
     slice-write-ix

@@ -18,7 +18,7 @@ abbrev μ-loop : tie.MeasureT-loop
 μ-loop table ix₀ net runs v t wait since p₀ s₀ ix p s = s .0
 
 newest-requires : tie.Need-newest-requires Inv-loop μ-loop
-newest-requires c κs = (omega (arith, (c .before .before .before .before .before .pre) .2, (c .before .before .before .before .before .pre) .0 .places), (c .before .before .before .before .before .pre) .1 .settling .indexed .size)
+newest-requires c κs = (omega (arith, (c .before .before .before .before .before .pre) .2, (c .before .before .before .before .before .pre) .0 .places), omega (arith, (c .before .before .before .before .before .pre) .1 .settling .indexed .size))
 
 add-if1 : tie.Need-add-if1 Inv-loop μ-loop
 add-if1 c = omega (arith, (c .before .before .before .before .before .before .before .pre) .1 .settling .indexed .now)
@@ -45,7 +45,7 @@ sub-t22 : tie.Need-sub-t22 Inv-loop μ-loop
 sub-t22 c = omega arith
 
 older-requires-2 : tie.Need-older-requires-2 Inv-loop μ-loop
-older-requires-2 c κs = let p = (c .before .before .before .before .before .before .before .before .before .before .before .before .before .before .before .before .before .before .before .pre) in let inv = (c .before .before .before .before .before .loop) .inv in (omega (arith, p .2, p .0 .places), omega (arith, inv .0, inv .1, p .1 .settling .indexed .now), omega (arith, inv .2, p .1 .settling .indexed .size))
+older-requires-2 c κs = let p = (c .before .before .before .before .before .before .before .before .before .before .before .before .before .before .before .before .before .before .before .pre) in let inv = (c .before .before .before .before .before .loop) .inv in (omega (arith, p .2, p .0 .places), omega (arith, inv .0, inv .1, p .1 .settling .indexed .now), omega (arith, inv .0, inv .1, inv .2, p .1 .settling .indexed .size))
 
 shorten-requires : tie.Need-shorten-requires Inv-loop μ-loop
 shorten-requires c κs =
@@ -71,7 +71,7 @@ group-requires : tie.Need-group-requires Inv-loop μ-loop
 group-requires c κs =
     let p = (c .before .before .before .before .before .before .before .before .before .before .before .before .before .before .before .before .before .before .before .before .before .before .before .before .before .before .pre) in
     let inv = (c .before .before .before .before .before .before .before .before .before .before .before .before .loop) .inv in
-    (omega (arith, p .2, p .0 .places), omega (arith, inv .1, p .1 .settling .indexed .now), omega (arith, (c .before .before .before .before .shorten) .ensures .size, inv .2, p .1 .settling .indexed .size))
+    (omega (arith, p .2, p .0 .places), omega (arith, inv .1, p .1 .settling .indexed .now), omega (arith, (c .before .before .before .before .shorten) .ensures .size, inv .1, inv .2, p .1 .settling .indexed .size))
 
 regroup-requires : tie.Need-regroup-requires Inv-loop μ-loop
 regroup-requires c κs =
@@ -83,7 +83,7 @@ regroup-requires c κs =
     let a = rows-left ((c .before .before .before .before .before .before .shorten) .ensures) ((c .before .before .before .before .before .before .before .before .before .before .before .before .before .before .before .before .before .before .wait-of) .ensures) low (omega (arith, inv .0, inv .1)) ((c .before .before .before .before .before .before .before .before .older2) .ensures) (i .0) .0 in
     let o = a .indexed .order ((c .before .before .before .before .before .before .before .before .before .before .before .before .before .before .loop) .p .0) ((c .before .before .before .before .before .before .before .before .before .before .before .before .before .before .before .before .before .before .before .before .before .before .before .before .before .before .before .before .args) .v .0) (omega (arith, inv .1)) low in
     let m = older-most (i .0 .indexed) (omega (arith, inv .0, inv .1)) low ((c .before .before .before .before .before .before .before .before .older2) .ensures) in
-    (low, omega (arith, inv .1), a .indexed .size, omega (arith, (c .before .group) .ensures .1, o .1, a .short), omega (arith, (c .before .group) .ensures .0, (c .before .group) .ensures .1, o .0), omega (arith, inv .0))
+    (low, omega (arith, inv .1), omega (arith, inv .1, a .indexed .size), omega (arith, (c .before .group) .ensures .1, o .1, a .short), omega (arith, (c .before .group) .ensures .0, (c .before .group) .ensures .1, o .0), omega (arith, inv .0))
 
 loop-less : tie.Need-loop-less Inv-loop μ-loop
 loop-less c =

@@ -11,7 +11,7 @@ group-requires : tie.Need-group-requires
 group-requires c κs = ((c .before .before .before .pre) .inside, (c .before .before .before .pre) .day, (c .before .before .before .pre) .size)
 
 group-requires-2 : tie.Need-group-requires-2
-group-requires-2 c κs = ((c .before .before .before .before .before .pre) .inside, omega (arith, (c .before .before .before .before .before .pre) .before, (c .before .before .before .before .before .pre) .day), (c .before .before .before .before .before .pre) .size)
+group-requires-2 c κs = ((c .before .before .before .before .before .pre) .inside, omega (arith, (c .before .before .before .before .before .pre) .before, (c .before .before .before .before .before .pre) .day), omega (arith, (c .before .before .before .before .before .pre) .before, (c .before .before .before .before .before .pre) .size))
 
 sub-multiple : tie.Need-sub-multiple
 sub-multiple c = omega (arith, (c .before .before .before .before .before .before .before .before .pre) .before)
@@ -26,7 +26,7 @@ last-live-requires : tie.Need-last-live-requires
 last-live-requires c κs = spans-rest (c .before .before .before .before .before .before .before .before .before .before .pre) ((c .before .before .before .before .before .before .group) .ensures .0) ((c .before .before .before .before .before .before .group) .ensures .1) ((c .before .before .before .before .group2) .ensures .0) ((c .before .before .before .before .group2) .ensures .1) ((c .before .multiple) .ensures) _ ((c .first-live) .ensures .from) ((c .first-live) .ensures .upto)
 
 regroup-requires : tie.Need-regroup-requires
-regroup-requires c κs = let l = (c .before .last-live) .ensures in let p = (c .before .before .before .before .before .before .before .before .before .before .before .before .pre) in (p .inside, omega (arith, p .before, p .day), p .size, omega (arith, l .upto, (c .before .before .before .before .before .before .group2) .ensures .1, p .indexed .order ((c .before .before .before .before .before .before .before .before .before .before .before .before .args) .s .0) ((c .before .before .before .before .before .before .before .before .before .before .before .before .args) .v .0) (omega (arith, p .before, p .day)) (p .inside) .1, p .short), l .from, p .down)
+regroup-requires c κs = let l = (c .before .last-live) .ensures in let p = (c .before .before .before .before .before .before .before .before .before .before .before .before .pre) in (p .inside, omega (arith, p .before, p .day), omega (arith, p .before, p .size), omega (arith, l .upto, (c .before .before .before .before .before .before .group2) .ensures .1, p .indexed .order ((c .before .before .before .before .before .before .before .before .before .before .before .before .args) .s .0) ((c .before .before .before .before .before .before .before .before .before .before .before .before .args) .v .0) (omega (arith, p .before, p .day)) (p .inside) .1, p .short), l .from, p .down)
 
 same-length : tie.Need-same-length
 same-length c = search needs
