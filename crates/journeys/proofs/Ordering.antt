@@ -248,8 +248,8 @@ no-goal-more {v} {counting} {from} {xs} {r} f e = record { none = λ k l h. go k
     go k l h true q = ap (λ (i : ℕ). isGoalRow v counting (rowAt xs i)) (eqb-true k r q) ∙ e
     go k l h false q = let d : k ≡ r → ⊥ = eqb-false k r q in f .none k l (omega arith)
 
-pub ordering-next : {v : ℕ} {counting : List ℕ} {n from : ℕ} {base xs : List ℕ} {g : Gap} {r : ℕ} → NextGoal v counting from n xs r → from ≤ n → Ordering v counting from base xs g → Ordering v counting r base xs g
-ordering-next {v} {counting} {n} {from} {base} {xs} {g} {r} f h o =
+pub ordering-next : {v : ℕ} {counting : List ℕ} {n from : ℕ} {base xs : List ℕ} {g : Gap} {r : ℕ} → NextGoal v counting from n xs r → Ordering v counting from base xs g → from ≤ n → Ordering v counting r base xs g
+ordering-next {v} {counting} {n} {from} {base} {xs} {g} {r} f o h =
     go (r - from) from (⊎-elim (λ l. omega (arith, f .found l .0)) (λ l. omega (arith, f .within)) (lt-or-le r n)) (omega arith) o
   where
     go : (m k : ℕ) → k + m ≡ r → from ≤ k → Ordering v counting k base xs g → Ordering v counting r base xs g

@@ -31,7 +31,7 @@ next-goal-requires c κs = search needs
 
 loop-holds : tie.Need-loop-holds Inv-loop μ-loop
 loop-holds c = let f = c .next-goal .ensures in
-    (f .within, refl, ordering-next f (omega arith) (ordering-none _ _ _ _ (c .before .before .start .ensures)), λ h. f .found h .1)
+    (f .within, refl, ordering-next f (ordering-none _ _ _ _ (c .before .before .start .ensures)) (omega arith), λ h. f .found h .1)
 
 order-row-requires : tie.Need-order-row-requires Inv-loop μ-loop
 order-row-requires c κs = record { small = omega (arith, c .before .before .before .before .before .before .before .before .pre .0, c .before .loop-test .taken); room = omega (arith, c .before .before .before .before .before .before .before .before .pre .1, c .before .before .loop .inv .1, c .before .loop-test .taken); v = _; counting = _; base = _; ordering = c .before .before .loop .inv .2 }
@@ -48,7 +48,7 @@ loop-less c = let f = c .next-goal2 .ensures in
 
 loop-again : tie.Need-loop-again Inv-loop μ-loop
 loop-again c = let f = c .next-goal2 .ensures in
-    (f .within, c .before .before .before .before .order-row .kept .0 ∙ c .before .before .before .before .before .before .before .loop .inv .1, ordering-next f (omega (arith, c .before .before .before .before .before .before .loop-test .taken)) (c .before .before .before .before .order-row .ensures .of _ _ _ (c .before .before .before .before .before .before .before .loop .inv .2) (c .before .before .before .before .before .before .before .loop .inv .3 (c .before .before .before .before .before .before .loop-test .taken))), λ h. f .found h .1)
+    (f .within, c .before .before .before .before .order-row .kept .0 ∙ c .before .before .before .before .before .before .before .loop .inv .1, ordering-next f (c .before .before .before .before .order-row .ensures .of _ _ _ (c .before .before .before .before .before .before .before .loop .inv .2) (c .before .before .before .before .before .before .before .loop .inv .3 (c .before .before .before .before .before .before .loop-test .taken))) (omega (arith, c .before .before .before .before .before .before .loop-test .taken)), λ h. f .found h .1)
 
 same-length : tie.Need-same-length Inv-loop μ-loop
 same-length c = c .before .loop .inv .1
