@@ -29,7 +29,7 @@ use Rattle.journeys.specs.Inner.Slow.{below, noneOf, keptOff, isFrontRow
 use Rattle.journeys.specs.Inner.Sweep.{swept, FrontRows}
 use Rattle.journeys.specs.declared.front.Offered.{Offered}
 use Rattle.journeys.proofs.Chains.{once-ascending, differ-none}
-use Rattle.journeys.proofs.Ordering.{rank-cost, rank-tie}
+use Rattle.journeys.proofs.Ordering.{rank-cost, rank-tie, covered-self}
 use Rattle.journeys.proofs.Swept.{swept-left, left-swept, swept-ascending}
 use Rattle.journeys.proofs.FrontRows.{front-rows, front-counted, get-member, number-at}
 
@@ -151,13 +151,17 @@ module _ (v : ℕ) (counting : List ℕ) (n : ℕ) (xs : List ℕ) where
   goal : ℕ → Bool
   goal k = isGoalRow v counting (rowAt xs k)
 
+  every : (k : ℕ) → k < n → goal k ≡ true → k ∈ goalOrder v counting n xs
+  unfolding goal
+  every k h e = mem-sortUnique (rank (costAt xs)) (λ a b e. cc) k (filter goal (below n)) (mem-filter goal k (below n) (lt-below n k h) e)
+
   ordered : Ordered v counting n xs xs (goalOrder v counting n xs)
   unfolding goal
   ordered =
       record {
         ascending = sortUnique-ascending (rank (costAt xs)) l;
         are = λ k m. (let r = filter-mem goal k (below n) (sortUnique-mem (rank (costAt xs)) k l m) in (below-lt n k (r .0), r .1));
-        all = λ k h e. mem-sortUnique (rank (costAt xs)) (λ a b e. cc) k l (mem-filter goal k (below n) (lt-below n k h) e);
+        all = λ k h e. covered-self k (every k h e);
         differ = differ-none xs (goalOrder v counting n xs);
       }
     where
@@ -192,14 +196,14 @@ module _ (v : ℕ) (counting : List ℕ) (n : ℕ) (xs : List ℕ) where
   in-front k m =
       let r = swept-left c (goalOrder v counting n xs) [] (ordered .ascending) k m in
       let q = ordered .are k (r .member) in
-      (q .0, true-and (noneOf (keptOff v counting xs k) n) (goal k) (is-none (keptOff v counting xs k) n (λ j h e. (let o = off-true k j e in r .first j (ordered .all j h (o .0)) (o .2) (o .1)))) (q .1))
+      (q .0, true-and (noneOf (keptOff v counting xs k) n) (goal k) (is-none (keptOff v counting xs k) n (λ j h e. (let o = off-true k j e in r .first j (every j h (o .0)) (o .2) (o .1)))) (q .1))
 
   front-in : (k : ℕ) → k < n → isFrontRow v counting n xs k ≡ true → k ∈ frontList v counting n xs
   unfolding isFrontRow goal c
   front-in k h e =
       same
       (map-mem c (c k) (frontList v counting n xs)
-      (left-swept c (λ i j. refl) (goalOrder v counting n xs) [] k (ordered .all k h (a .1)) refl
+      (left-swept c (λ i j. refl) (goalOrder v counting n xs) [] k (every k h (a .1)) refl
       (λ j i d. (let q = ordered .are j i in none j (q .0) (q .1) (d .at-most) (inl (⊎-elim (λ z. absurd (dominates-irrefl (c k) (subst (λ (g : Cost). Dominates g (c k)) z d))) (λ z. z) (at-most-Lex (c j) (c k) refl (d .at-most))))))))
     where
       a : (noneOf (keptOff v counting xs k) n ≡ true) × (goal k ≡ true)
@@ -216,7 +220,7 @@ module _ (v : ℕ) (counting : List ℕ) (n : ℕ) (xs : List ℕ) where
           ⊎-elim
           (λ l. absurd (none i (q .0) (q .1) (subst (AtMost (c i)) (sym (w .2)) (at-most-refl (c i))) (inr l)))
           (λ l. ⊎-elim
-          (λ u. absurd (r .first k (ordered .all k h (a .1)) (rank-tie xs k i (w .2) u) (subst (AtMost (c k)) (w .2) (at-most-refl (c k)))))
+          (λ u. absurd (r .first k (every k h (a .1)) (rank-tie xs k i (w .2) u) (subst (AtMost (c k)) (w .2) (at-most-refl (c k)))))
           (λ u. subst (λ (j : ℕ). j ∈ frontList v counting n xs) (let z : i ≡ k = omega arith in z) (w .1))
           (lt-or-le k i))
           (lt-or-le i k)

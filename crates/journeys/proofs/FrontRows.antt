@@ -15,7 +15,7 @@ use Rattle.sheet.specs.Laws.Order.{and-true, Lex-irrefl}
 use Rattle.sheet.specs.Laws.Members.{map-mem, mem-left, mem-right, mem-append}
 use Rattle.sheet.specs.Laws.Ascending.{ascending-unique}
 use Rattle.costs.specs.Costs.{Cost, AtMost, Dominates}
-use Rattle.costs.specs.Laws.Figures.{at-most-refl, at-most-Lex, dominates-irrefl}
+use Rattle.costs.specs.Laws.Figures.{at-most-Lex, at-most-dominates, dominates-irrefl, undominated-same}
 use Rattle.sheet.specs.Laws.Decided.{lt-or-le}
 use Rattle.arrivals.specs.Rows.{costAt, rowAt}
 use Rattle.journeys.specs.Computed.{self, frontOf}
@@ -48,8 +48,8 @@ front-rows v counting n base xs ks o =
     l : List Cost
     l = costsOf (goalRows v counting n base)
 
-    lower : (j k : ℕ) → Dominates (c j) (c k) → Lex (rank c j) (rank c k)
-    lower j k d = ⊎-elim (λ e. absurd (dominates-irrefl (c k) (subst (λ (g : Cost). Dominates g (c k)) e d))) (rank-cost base j k) (at-most-Lex (c j) (c k) refl (d .at-most))
+    lower : (j k : ℕ) → AtMost (c j) (c k) → (c j ≡ c k → j < k) → Lex (rank c j) (rank c k)
+    lower j k d f = ⊎-elim (λ e. rank-tie base j k e (f e)) (rank-cost base j k) (at-most-Lex (c j) (c k) refl d)
 
     into : (g : Cost) → (k : ℕ) × (k ∈ fs) × (g ≡ c k) → g ∈ frontOf l
     into g w =
@@ -61,24 +61,28 @@ front-rows v counting n base xs ks o =
         (record {
           member = at-cost (isGoalRow v counting) n base k (q .0) (q .1);
           none = λ h m d. (let a = cost-at (isGoalRow v counting) n base h m in
-              let e = subst (λ (x : Cost). Dominates x (c k)) (a .3) d in
-              r .first (a .0) (o .all (a .0) (a .1) (a .2)) (lower (a .0) k e) (e .at-most));
+              let b = o .all (a .0) (a .1) (a .2) in
+              let e = at-most-dominates (c (b .by)) (c (a .0)) (c k) (b .at-most) (subst (λ (x : Cost). Dominates x (c k)) (a .3) d) in
+              r .first (b .by) (b .member) (lower (b .by) k (e .at-most) (λ q. absurd (dominates-irrefl (c k) (subst (λ (x : Cost). Dominates x (c k)) q e)))) (e .at-most));
         }))
 
     onto : (g : Cost) → g ∈ frontOf l → g ∈ map c fs
     onto g m =
         let u = frontOf-is l g m in
         let a = cost-at (isGoalRow v counting) n base g (u .member) in
-        subst (λ (h : Cost). h ∈ map c fs) (sym (a .3))
-        (left-swept c (λ i j. refl) ks [] (a .0) (o .all (a .0) (a .1) (a .2)) refl
-        (λ j i d. let q = o .are j i in u .none (c j) (at-cost (isGoalRow v counting) n base j (q .0) (q .1)) (subst (Dominates (c j)) (sym (a .3)) d)))
+        let b = o .all (a .0) (a .1) (a .2) in
+        let none : (j : ℕ) → j ∈ ks → Dominates (c j) g → ⊥ = λ j i. (let q = o .are j i in u .none (c j) (at-cost (isGoalRow v counting) n base j (q .0) (q .1))) in
+        let e : c (b .by) ≡ g = undominated-same (c (b .by)) g (ap (λ (x : Cost). length x) (sym (a .3))) (subst (AtMost (c (b .by))) (sym (a .3)) (b .at-most)) (none (b .by) (b .member)) in
+        subst (λ (h : Cost). h ∈ map c fs) e (left-swept c (λ i j. refl) ks [] (b .by) (b .member) refl (λ j i d. none j i (subst (Dominates (c j)) e d)))
 
     steps : (k : ℕ) → Left c [] ks k → firstStep (c k) (goalRows v counting n base) ≡ rowAt base k .step
     steps k r =
         let q = o .are k (r .member) in
         first-row (isGoalRow v counting) n base k (q .0) (q .1)
         (λ m. let a = cost-at (isGoalRow v counting) k base (c k) m in
-        r .first (a .0) (o .all (a .0) (omega (arith, a .1, q .0)) (a .2)) (rank-tie base (a .0) k (sym (a .3)) (a .1)) (subst (λ (g : Cost). AtMost (c (a .0)) g) (sym (a .3)) (at-most-refl (c (a .0)))))
+        let b = o .all (a .0) (omega (arith, a .1, q .0)) (a .2) in
+        let e = subst (AtMost (c (b .by))) (sym (a .3)) (b .at-most) in
+        r .first (b .by) (b .member) (lower (b .by) k e (λ z. omega (arith, a .1, b .no-later))) e)
 
 -- a sweep begins
 pub sweep-begins : (v : ℕ) (counting : List ℕ) (n : ℕ) (base xs : List ℕ) (r : Gap) → n ≤ 4294967295 → n * 5 ≤ length base → OrderedAll v counting n base xs r

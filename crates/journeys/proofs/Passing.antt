@@ -18,7 +18,7 @@ use Rattle.arrivals.specs.Rows.{costAt}
 use Rattle.journeys.specs.Inner.Chain.{chain, Back, onto, Heads, InTable, Linkable, linkIn, inGap, Releasable, Released, rank}
 use Rattle.journeys.specs.Inner.Sweep.{ledBy, third, Climbable, Between, Climbed, stairOf, aheadOf, SweepsOn, Sweeps, Sweepable, SweptOn}
 use Rattle.journeys.specs.declared.chain.Gap.{Gap}
-use Rattle.journeys.specs.declared.front.Spot.{Spot}
+use Rattle.journeys.specs.declared.chain.Spot.{Spot}
 use Rattle.journeys.specs.declared.front.Sweep.{Sweep}
 use Rattle.journeys.proofs.Chains.{chain-head, chain-none, chain-kept, back-kept, left-mem, right-mem, left-in-table, parted-whole, parted-rows, once-ascending, right-ascending, once-left, never-both, differ-costs, differ-link, cell-other, in-table, Fits, linked, link-differ}
 use Rattle.journeys.proofs.Sweeping.{head-mem, passed-led, Taken, passed-taken}

@@ -16,6 +16,12 @@ pub struct Gap {
     pub right: u32,
 }
 
+// Whether a row of a chain is nowhere above another row, and the gap where the search for one ended: if there is none, the gap where the other belongs.
+pub struct Spot {
+    pub led: bool,
+    pub gap: Gap,
+}
+
 // The gap before a chain.
 pub fn start(first: u32, rows: usize) -> Gap
     ensures { λ r. ⌜ r ≡ startOf first rows ⌝ }

@@ -8,7 +8,7 @@ ghost use lib.ListN.{length};
 ghost use lib.Seq.{sets};
 ghost use Rattle.journeys.specs.Inner.Sweep.{Climbable, Climbed, Sweepable, SweptOne, SweptTo, Undone, Begun};
 ghost use Rattle.journeys.specs.Inner.Sweep.{Listable, ListedOne, ListedAll, ListableFront, FrontCounted, FrontNumbered, FrontListed};
-use crate::chain::Gap;
+use crate::chain::Spot;
 use crate::chain::link_in;
 use crate::chain::next_gap;
 use crate::chain::release;
@@ -39,12 +39,6 @@ pub struct Sweep {
     pub size: usize,
     pub count: usize,
     pub row: u32,
-}
-
-// Whether a row of the stair is nowhere above another; if none is, the gap of the stair where that belongs.
-pub struct Spot {
-    pub led: bool,
-    pub gap: Gap,
 }
 
 // Looks in the stair for a row that is nowhere above row k.

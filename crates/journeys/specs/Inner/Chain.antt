@@ -9,10 +9,12 @@ use lib.ListN.{length, set}
 use Rattle.sheet.specs.Lists.{_∈_, pick, number}
 use Rattle.sheet.specs.Computed.{lexb}
 use Rattle.sheet.specs.Sorting.{Ascending}
-use Rattle.costs.specs.Costs.{Cost, fig}
+use Rattle.costs.specs.Costs.{Cost, fig, AtMost}
+use Rattle.costs.specs.Computed.{atMostb}
 use Rattle.arrivals.specs.Rows.{costAt, rowAt}
 use Rattle.journeys.specs.Inner.{isGoalRow}
 use Rattle.journeys.specs.declared.chain.Gap.{Gap}
+use Rattle.journeys.specs.declared.chain.Spot.{Spot}
 
 -- the n rows of the chain that begins with row `at`
 abbrev pub chain : List ℕ → ℕ → ℕ → List ℕ
@@ -121,16 +123,24 @@ pub record SoughtFrom (xs : List ℕ) (g : Gap) (c : Cost) (r : Gap) : Type 0 wh
   pub same-rows : r .rows ≡ g .rows
   pub left-below : (r .rest ≡ r .rows → ⊥) → lexb c (costAt xs (r .left)) ≡ false
 
--- and it is before the row after it
-pub record Sought (xs : List ℕ) (g : Gap) (c : Cost) (r : Gap) : Type 0 where
-  pub from : SoughtFrom xs g c r
-  pub right-above : 0 < r .rest → lexb c (costAt xs (r .right)) ≡ true
+-- and the row after it is nowhere above c, or c is before it
+pub record Sought (xs : List ℕ) (g : Gap) (c : Cost) (r : Spot) : Type 0 where
+  pub from : SoughtFrom xs g c (r .gap)
+  pub by-right : r .led ≡ true → (0 < r .gap .rest) × (atMostb (costAt xs (r .gap .right)) c ≡ true)
+  pub right-above : r .led ≡ false → 0 < r .gap .rest → lexb c (costAt xs (r .gap .right)) ≡ true
 
--- ks are the goal's rows among the first n of the table `base`, in order, and xs is that table but for their place column
+-- a row of ks, which is k or stands before it in the table, is nowhere above row k
+pub record Covered (c : ℕ → Cost) (ks : List ℕ) (k : ℕ) : Type 0 where
+  pub by : ℕ
+  pub member : by ∈ ks
+  pub no-later : by ≤ k
+  pub at-most : AtMost (c by) (c k)
+
+-- ks are some of the goal's rows among the first n of the table `base`, in order, and cover all of them; xs is that table but for their place column
 pub record Ordered (v : ℕ) (counting : List ℕ) (n : ℕ) (base xs ks : List ℕ) : Type 0 where
   pub ascending : Ascending (rank (costAt base)) ks
   pub are : (k : ℕ) → k ∈ ks → (k < n) × (isGoalRow v counting (rowAt base k) ≡ true)
-  pub all : (k : ℕ) → k < n → isGoalRow v counting (rowAt base k) ≡ true → k ∈ ks
+  pub all : (k : ℕ) → k < n → isGoalRow v counting (rowAt base k) ≡ true → Covered (costAt base) ks k
   pub differ : Differ base xs ks
 
 -- and the gap stands in their chain
@@ -140,16 +150,30 @@ pub record Ordering (v : ℕ) (counting : List ℕ) (n : ℕ) (base xs : List �
   pub ordered : Ordered v counting n base xs ks
   pub few : g .rows ≤ n
 
-pub record Orderable (v : ℕ) (counting : List ℕ) (n : ℕ) (xs : List ℕ) (g : Gap) : Type 0 where
+-- the goal's rows before row n are so ordered, for some goal
+pub record Orderable (n : ℕ) (xs : List ℕ) (g : Gap) : Type 0 where
   pub small : n < 4294967295
   pub room : n * 5 + 5 ≤ length xs
+  pub v : ℕ
+  pub counting : List ℕ
   pub base : List ℕ
   pub ordering : Ordering v counting n base xs g
 
-pub record OrderedIn (v : ℕ) (counting : List ℕ) (n : ℕ) (xs ys : List ℕ) (g r : Gap) : Type 0 where
-  pub of : (base : List ℕ) → Ordering v counting n base xs g → Ordering v counting (n + 1) base ys r
+-- and with row n, if that is one of the goal's
+pub record OrderedIn (n : ℕ) (xs ys : List ℕ) (g r : Gap) : Type 0 where
+  pub of : (v : ℕ) (counting base : List ℕ) → Ordering v counting n base xs g → isGoalRow v counting (rowAt xs n) ≡ true → Ordering v counting (n + 1) base ys r
 
--- the chain holds the goal's rows
+-- none of the rows from row `from` to row r is the goal's
+pub record NoGoal (v : ℕ) (counting : List ℕ) (from : ℕ) (xs : List ℕ) (r : ℕ) : Type 0 where
+  pub none : (k : ℕ) → from ≤ k → k < r → isGoalRow v counting (rowAt xs k) ≡ false
+
+-- and row r is, or it is row n
+pub record NextGoal (v : ℕ) (counting : List ℕ) (from n : ℕ) (xs : List ℕ) (r : ℕ) : Type 0 where
+  pub within : r ≤ n
+  pub passed : NoGoal v counting from xs r
+  pub found : r < n → (from ≤ r) × (isGoalRow v counting (rowAt xs r) ≡ true)
+
+-- the chain covers the goal's rows
 pub record OrderedAll (v : ℕ) (counting : List ℕ) (n : ℕ) (xs ys : List ℕ) (r : Gap) : Type 0 where
   pub ordered : Ordered v counting n xs ys (chain ys (r .rows) (r .first))
   pub few : r .rows ≤ n

@@ -14,8 +14,8 @@ use Rattle.journeys.specs.Computed.{frontOf}
 use Rattle.journeys.specs.Inner.{goalRows, costsOf, firstStep, NumberIs, offeredRows}
 use Rattle.journeys.specs.Inner.Chain.{chain, Parted, Differ, InTable, rank}
 use Rattle.journeys.specs.declared.chain.Gap.{Gap}
+use Rattle.journeys.specs.declared.chain.Spot.{Spot}
 use Rattle.journeys.specs.declared.front.Offered.{Offered}
-use Rattle.journeys.specs.declared.front.Spot.{Spot}
 use Rattle.journeys.specs.declared.front.Sweep.{Sweep}
 
 -- some row of es is nowhere above row k

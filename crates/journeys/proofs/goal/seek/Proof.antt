@@ -1,7 +1,8 @@
 -- `journeys::goal::seek` meets its contract. The loop's invariant: the gap is one of the same chain, and g is not before the row before it.
 -- The measure is the count of rows after the gap.
 -- Assumes nothing.
-use Rattle.journeys.proofs.Ordering.{compared, right-room, seekable-next, seekable-from, sought-next, sought-then}
+use Rattle.journeys.proofs.Climbing.{tested}
+use Rattle.journeys.proofs.Ordering.{compared, right-room, seekable-next, seekable-from, sought-next, sought-then, sought-led, sought-above}
 use Rattle.journeys.specs.declared.chain.Gap.{Gap}
 use Rattle.journeys.specs.Inner.Chain.{Seekable, SoughtFrom}
 use borrow.Author.Needs.{needs}
@@ -12,10 +13,10 @@ use Rattle.journeys.proofs.goal.seek.Statement.{statement}
 use Rattle.journeys.proofs.goal.seek.Tie as tie
 
 abbrev Inv-loop : tie.InvT-loop
-Inv-loop table g at₀ at = Seekable table at × SoughtFrom table at₀ g at
+Inv-loop table g gap₀ gap = Seekable table gap × SoughtFrom table gap₀ g gap
 
 abbrev μ-loop : tie.MeasureT-loop
-μ-loop table g at₀ at = at .rest
+μ-loop table g gap₀ gap = gap .rest
 
 seek-from-requires : tie.Need-seek-from-requires Inv-loop μ-loop
 seek-from-requires c κs = c .before .pre
@@ -33,20 +34,26 @@ before-requires : tie.Need-before-requires Inv-loop μ-loop
 before-requires c κs = search needs
 
 returns : tie.Need-returns Inv-loop μ-loop
-returns c = record { from = sought-then _ _ _ _ _ (c .before .before .before .before .before .before .before .seek-from .ensures) (c .before .before .before .before .before .before .loop .inv .1); right-above = λ h. compared (c .before .before .before .before .before .before .before .before .before .args .g) _ _ _ _ (c .before .before .row-cost .ensures) (c .before .before2 .ensures) (c .if2 .taken) }
+returns c = sought-above (sought-then (c .before .before .before .before .before .before .before .seek-from .ensures) (c .before .before .before .before .before .before .loop .inv .1)) (λ h. compared (c .before .before .before .before .before .before .before .before .before .args .g) _ _ _ _ (c .before .before .row-cost .ensures) (c .before .before2 .ensures) (c .if2 .taken))
 
-next-gap-requires : tie.Need-next-gap-requires Inv-loop μ-loop
-next-gap-requires c κs = (c .before .before .before .before .if1 .taken, right-room (c .before .before .before .before .before .before .loop .inv .0) (c .before .before .before .before .if1 .taken) .room)
-
-loop-less : tie.Need-loop-less Inv-loop μ-loop
-loop-less c = subst (λ (g : Gap). g .rest < c .before .before .before .before .before .before .before .loop .at .rest) (sym (c .next-gap .ensures)) (omega (arith, c .before .before .before .before .before .if1 .taken))
-
-loop-again : tie.Need-loop-again Inv-loop μ-loop
-loop-again c = let e = compared (c .before .before .before .before .before .before .before .before .before .before .args .g) _ _ _ _ (c .before .before .before .row-cost .ensures) (c .before .before .before2 .ensures) (c .before .if2 .left) in
-    rw (c .next-gap .ensures) (seekable-next (c .before .before .before .before .before .before .before .loop .inv .0) (c .before .before .before .before .before .if1 .taken), sought-next _ _ _ _ (c .before .before .before .before .before .before .before .loop .inv .1) (c .before .before .before .before .before .if1 .taken) e)
+at-most-requires : tie.Need-at-most-requires Inv-loop μ-loop
+at-most-requires c κs = search needs
 
 returns-2 : tie.Need-returns-2 Inv-loop μ-loop
-returns-2 c = record { from = sought-then _ _ _ _ _ (c .before .before .before .seek-from .ensures) (c .before .before .loop .inv .1); right-above = λ h. absurd (omega (arith, c .if1 .left)) }
+returns-2 c = sought-led (sought-then (c .before .before .before .before .before .before .before .before .before .seek-from .ensures) (c .before .before .before .before .before .before .before .before .loop .inv .1)) (c .before .before .before .before .before .before .if1 .taken) (tested _ _ _ _ _ _ (c .before .before .before .before .row-cost .ensures) refl (c .before .at-most .ensures) (c .if3 .taken))
+
+next-gap-requires : tie.Need-next-gap-requires Inv-loop μ-loop
+next-gap-requires c κs = (c .before .before .before .before .before .before .if1 .taken, right-room (c .before .before .before .before .before .before .before .before .loop .inv .0) (c .before .before .before .before .before .before .if1 .taken) .room)
+
+loop-less : tie.Need-loop-less Inv-loop μ-loop
+loop-less c = subst (λ (g : Gap). g .rest < c .before .before .before .before .before .before .before .before .before .loop .gap .rest) (sym (c .next-gap .ensures)) (omega (arith, c .before .before .before .before .before .before .before .if1 .taken))
+
+loop-again : tie.Need-loop-again Inv-loop μ-loop
+loop-again c = let e = compared (c .before .before .before .before .before .before .before .before .before .before .before .before .args .g) _ _ _ _ (c .before .before .before .before .before .row-cost .ensures) (c .before .before .before .before .before2 .ensures) (c .before .before .before .if2 .left) in
+    rw (c .next-gap .ensures) (seekable-next (c .before .before .before .before .before .before .before .before .before .loop .inv .0) (c .before .before .before .before .before .before .before .if1 .taken), sought-next (c .before .before .before .before .before .before .before .before .before .loop .inv .1) (c .before .before .before .before .before .before .before .if1 .taken) e)
+
+returns-3 : tie.Need-returns-3 Inv-loop μ-loop
+returns-3 c = sought-above (sought-then (c .before .before .before .seek-from .ensures) (c .before .before .loop .inv .1)) (λ h. absurd (omega (arith, c .if1 .left)))
 
 pub seek-spec : {M : Type 1} → statement M
 seek-spec =
@@ -60,7 +67,9 @@ seek-spec =
     row-cost-requires
     before-requires
     returns
+    at-most-requires
+    returns-2
     next-gap-requires
     loop-less
     loop-again
-    returns-2)
+    returns-3)

@@ -6,7 +6,7 @@ use Rattle.journeys.proofs.goal.seek_from.Statement.{statement}
 use Rattle.journeys.proofs.goal.seek_from.Tie as tie
 
 returns : tie.Need-returns
-returns c = sought-here _ _ _ (c .if1 .taken)
+returns c = sought-here (c .if1 .taken)
 
 cast-row-cost : tie.Need-cast-row-cost
 cast-row-cost c = search needs
@@ -21,10 +21,10 @@ start-requires : tie.Need-start-requires
 start-requires c κs = search needs
 
 returns-2 : tie.Need-returns-2
-returns-2 c = sought-start _ _ _ _ (c .start .ensures)
+returns-2 c = sought-start _ (c .start .ensures)
 
 returns-3 : tie.Need-returns-3
-returns-3 c = sought-on _ _ _ (compared (c .before .before .before .before .before .before .before .args .g) _ _ _ _ (c .before .before .row-cost .ensures) (c .before .before2 .ensures) (c .if2 .left))
+returns-3 c = sought-on (compared (c .before .before .before .before .before .before .before .args .g) _ _ _ _ (c .before .before .row-cost .ensures) (c .before .before2 .ensures) (c .if2 .left))
 
 pub seek-from-spec : {M : Type 1} → statement M
 seek-from-spec =
