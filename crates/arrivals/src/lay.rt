@@ -155,7 +155,7 @@ pub fn note_closures(net: &mut [u32])
     }
 }
 
-// Whether waiting is dearer where corridor j leads to, noted for the corridor and for the place.
+// Whether waiting is dearer where corridor j leads to.
 pub fn weigh_link(net: &mut [u32], j: usize)
     requires { ⌜ (Linked (now net)) × (j < countOf (now net)) × (WeighedTo (now net) j) ⌝ }
     ensures { λ _. ⌜ WeighedMore j (now (net .entry)) (now (net .exit)) ⌝ }
@@ -165,7 +165,6 @@ pub fn weigh_link(net: &mut [u32], j: usize)
         return;
     }
     net[DEAR + j] = 1;
-    net[INTO + to.0 as usize] = 2;
 }
 
 // Where waiting is dearer, for every corridor.

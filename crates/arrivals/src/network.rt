@@ -15,8 +15,8 @@ ghost use Rattle.arrivals.specs.Inner.Chains.{byPlace, byCell, cell, las
 ghost use Rattle.arrivals.specs.Inner.Lent.{Closing};
 
 // The parts of the array: from 0 the costs of waiting; then two chains of corridors; the corridors; their number, that of places, the start and the
-// number of closures; by place, 1 where a closure leads to it and 2 where waiting is dearer than where a corridor comes from; by corridor, whether it is
-// dearer where that leads to; the chain of closures, by cell and by closure; the closures; and its length.
+// number of closures; by place, 1 where a closure leads to it; by corridor, 1 where waiting is dearer where that leads to than where it comes from; the
+// chain of closures, by cell and by closure; the closures; and its length.
 pub const CHAINS: usize = 192;
 
 pub const CHAIN: usize = 320;
@@ -154,7 +154,7 @@ pub fn next_shut(net: &[u32], x: usize, cell: usize) -> usize
     x
 }
 
-// Does no closure lead to place v, and is waiting there nowhere dearer than where a corridor comes from?
+// Does no closure lead to place v?
 pub fn is_plain(net: &[u32], v: Place) -> bool
     requires { ⌜ (v .0 < 64) × (netRoom ≤ length (now net)) ⌝ }
     ensures { λ r. ⌜ (r ≡ true → intoOf (now (net .entry)) (v .0) ≡ 0) ⌝ }

@@ -110,18 +110,13 @@ pub record NotedLaid (m : ℕ) (a b : List ℕ) : Type 0 where
 pub note-besides : (a : List ℕ) (v : ℕ) → v < 64 → Besides 2116 2180 a (set a (2116 + v) 1)
 note-besides a v l = record { size = length-set a (2116 + v) 1; same = λ i o. getD-set-other a (2116 + v) i 1 0 (λ e. ⊎-elim (λ h. omega arith) (λ h. omega arith) o) }
 
--- the number of a place stays, or becomes 2
-pub record Lifted (a b : List ℕ) : Type 0 where
-  pub each : (v : ℕ) → v < 64 → (intoOf b v ≡ intoOf a v) ⊎ (intoOf b v ≡ 2)
-
--- then what was noted stays so
-pub noted-lifted : {a b : List ℕ} {m : ℕ} → m ≤ 256 → ((x : ℕ) → x < m → closureOf a 1 x < 64) → Besides 2116 2436 a b
-    → Lifted a b → NotedTo a m → NotedTo b m
-noted-lifted {a} {b} few inside o lifted t =
+-- what is noted stays so where other parts are changed
+pub noted-kept : {a b : List ℕ} {m : ℕ} → m ≤ 256 → ((x : ℕ) → x < m → closureOf a 1 x < 64) → Besides 2180 2436 a b → NotedTo a m → NotedTo b m
+noted-kept {a} {b} few inside o t =
     record {
       noted = λ x l z.
           let y = subst (λ (v : ℕ). intoOf b v ≡ 0) (o .same (3716 + x * 3 + 1) (inr (omega arith))) z in
-          ⊎-elim (λ s. t .noted x l (sym s ∙ y)) (λ s. omega (arith, s, y)) (lifted .each (closureOf a 1 x) (inside x l));
+          t .noted x l (sym (o .same (2116 + closureOf a 1 x) (inl (omega (arith, inside x l)))) ∙ y);
     }
 
 pub noted-more : (a : List ℕ) (x : ℕ) → x < 256 → 4484 ≤ length a → ((y : ℕ) → y ≤ x → closureOf a 1 y < 64) → NotedTo a x → NotedTo (set a (2116 + closureOf a 1 x) 1) (x + 1)
@@ -152,23 +147,17 @@ noted-more a x few size inside t =
 -- where waiting is dearer, for the corridors below m
 pub record WeighedTo (net : List ℕ) (m : ℕ) : Type 0 where
   pub cheap : (j : ℕ) → j < m → dearOf net j ≡ 0 → Cheap (waitIn net) (linkAt net j)
-  pub steady : (j : ℕ) → j < m → (intoOf net (linkOf net 1 j) ≡ 2 → ⊥) → Cheap (waitIn net) (linkAt net j)
 
 -- one corridor more is weighed
 pub record WeighedMore (j : ℕ) (a b : List ℕ) : Type 0 where
   pub weighed : WeighedTo b (j + 1)
-  pub others : Besides 2116 2436 a b
-  pub lifted : Lifted a b
+  pub others : Besides 2180 2436 a b
 
 pub record Weighed (m : ℕ) (a b : List ℕ) : Type 0 where
   pub weighed : WeighedTo b m
-  pub others : Besides 2116 2436 a b
-  pub lifted : Lifted a b
+  pub others : Besides 2180 2436 a b
 
-pub lifted-then : {a b c : List ℕ} → Lifted a b → Lifted b c → Lifted a c
-lifted-then f g = record { each = λ v l. ⊎-elim (λ e. ⊎-elim (λ d. inl (e ∙ d)) (λ d. inr (e ∙ d)) (f .each v l)) (λ e. inr e) (g .each v l) }
-
-cheap-kept : (a b : List ℕ) (j : ℕ) → linkOf a 0 j < 64 → linkOf a 1 j < 64 → j < 256 → Besides 2116 2436 a b → Cheap (waitIn a) (linkAt a j) → Cheap (waitIn b) (linkAt b j)
+cheap-kept : (a b : List ℕ) (j : ℕ) → linkOf a 0 j < 64 → linkOf a 1 j < 64 → j < 256 → Besides 2180 2436 a b → Cheap (waitIn a) (linkAt a j) → Cheap (waitIn b) (linkAt b j)
 cheap-kept a b j from to few o c =
     let f : linkOf a 0 j ≡ linkOf b 0 j = sym (o .same (832 + j * 5 + 0) (inl (omega arith))) in
     let g : linkOf a 1 j ≡ linkOf b 1 j = sym (o .same (832 + j * 5 + 1) (inl (omega arith))) in
@@ -178,68 +167,38 @@ cheap-kept a b j from to few o c =
     (subst (λ (y : Cost). AtMost y (waitIn b (linkOf a 0 j))) (sym w) (subst (AtMost (waitIn a (linkOf a 1 j))) (sym x) c)))
 
 pub weighed-cheap : (a : List ℕ) (j : ℕ) → Cheap (waitIn a) (linkAt a j) → WeighedTo a j → WeighedTo a (j + 1)
-weighed-cheap a j c w = record { cheap = λ i l z. at i l (λ lt. w .cheap i lt z); steady = λ i l z. at i l (λ lt. w .steady i lt z) }
+weighed-cheap a j c w = record { cheap = λ i l z. at i l (λ lt. w .cheap i lt z) }
   where
     at : (i : ℕ) → i < j + 1 → (i < j → Cheap (waitIn a) (linkAt a i)) → Cheap (waitIn a) (linkAt a i)
     at i l f = ⊎-elim f (λ ge. let e : j ≡ i = omega arith in subst (λ (n : ℕ). Cheap (waitIn a) (linkAt a n)) e c) (lt-or-le i j)
 
-pub dear-besides : (a : List ℕ) (j p x y : ℕ) → j < 256 → p < 64 → Besides 2116 2436 a (set (set a (2180 + j) x) (2116 + p) y)
-dear-besides a j p x y few to =
-    record {
-      size = simp length-set;
-      same = λ i o. getD-set-other (set a (2180 + j) x) (2116 + p) i y 0 (λ e. ⊎-elim (λ l. omega arith) (λ l. omega arith) o) ∙ getD-set-other a (2180 + j) i x 0 (λ e. ⊎-elim (λ l. omega arith) (λ l. omega arith) o);
-    }
+pub dear-besides : (a : List ℕ) (j : ℕ) → j < 256 → Besides 2180 2436 a (set a (2180 + j) 1)
+dear-besides a j few = record { size = length-set a (2180 + j) 1; same = λ i o. getD-set-other a (2180 + j) i 1 0 (λ e. ⊎-elim (λ l. omega arith) (λ l. omega arith) o) }
 
-pub weighed-dear : (a : List ℕ) (j : ℕ) → 4484 ≤ length a → j < 256 → ((q i : ℕ) → q < 2 → i ≤ j → linkOf a q i < 64) → WeighedTo a j → WeighedTo (set (set a (2180 + j) 1) (2116 + linkOf a 1 j) 2) (j + 1)
+pub weighed-dear : (a : List ℕ) (j : ℕ) → 4484 ≤ length a → j < 256 → ((q i : ℕ) → q < 2 → i ≤ j → linkOf a q i < 64) → WeighedTo a j → WeighedTo (set a (2180 + j) 1) (j + 1)
 weighed-dear a j size few ends w =
     record {
-      cheap = λ i l z. ⊎-elim (λ lt. keep i lt (w .cheap i lt (sym (old (2180 + i) (λ e. omega arith) (λ e. omega (arith, to))) ∙ z))) (λ ge. absurd (let e : i ≡ j = omega arith in omega (arith, own, subst (λ (n : ℕ). dearOf b n ≡ 0) e z))) (lt-or-le i j);
-      steady = λ i l z. ⊎-elim (λ lt. keep i lt (into i lt (ℕ-discrete (linkOf a 1 i) (linkOf a 1 j)) (subst (λ (n : ℕ). intoOf b n ≡ 2 → ⊥) (link i (omega arith)) z))) (λ ge. absurd (let e : i ≡ j = omega arith in subst (λ (n : ℕ). intoOf b n ≡ 2 → ⊥) (link i (omega arith) ∙ ap (linkOf a 1) e) z place)) (lt-or-le i j);
+      cheap = λ i l z. ⊎-elim
+          (λ lt. keep i lt (w .cheap i lt (sym (getD-set-other a (2180 + j) (2180 + i) 1 0 (λ e. omega arith)) ∙ z)))
+          (λ ge. absurd (let e : i ≡ j = omega arith in omega (arith, own, subst (λ (n : ℕ). dearOf b n ≡ 0) e z)))
+          (lt-or-le i j);
     }
   where
-    to : linkOf a 1 j < 64
-    to = ends 1 j (omega arith) (omega arith)
-
     b : List ℕ
-    b = set (set a (2180 + j) 1) (2116 + linkOf a 1 j) 2
-
-    others : Besides 2116 2436 a b
-    others = dear-besides a j (linkOf a 1 j) 1 2 few to
-
-    old : (i : ℕ) → (i ≡ 2180 + j → ⊥) → (i ≡ 2116 + linkOf a 1 j → ⊥) → getD b i 0 ≡ getD a i 0
-    old i n m = getD-set-other (set a (2180 + j) 1) (2116 + linkOf a 1 j) i 2 0 m ∙ getD-set-other a (2180 + j) i 1 0 n
+    b = set a (2180 + j) 1
 
     own : dearOf b j ≡ 1
-    own = getD-set-other (set a (2180 + j) 1) (2116 + linkOf a 1 j) (2180 + j) 2 0 (λ e. omega (arith, to)) ∙ getD-set-same a (2180 + j) 1 0 (omega arith)
-
-    place : intoOf b (linkOf a 1 j) ≡ 2
-    place = getD-set-same (set a (2180 + j) 1) (2116 + linkOf a 1 j) 2 0 (simp length-set (omega (arith, to)))
-
-    link : (i : ℕ) → i < 256 → linkOf b 1 i ≡ linkOf a 1 i
-    link i l = others .same (832 + i * 5 + 1) (inl (omega arith))
+    own = getD-set-same a (2180 + j) 1 0 (omega arith)
 
     keep : (i : ℕ) → i < j → Cheap (waitIn a) (linkAt a i) → Cheap (waitIn b) (linkAt b i)
-    keep i l c = cheap-kept a b i (ends 0 i (omega arith) (omega arith)) (ends 1 i (omega arith) (omega arith)) (omega arith) others c
+    keep i l c = cheap-kept a b i (ends 0 i (omega arith) (omega arith)) (ends 1 i (omega arith) (omega arith)) (omega arith) (dear-besides a j few) c
 
-    into : (i : ℕ) → i < j → Dec (linkOf a 1 i ≡ linkOf a 1 j) → (intoOf b (linkOf a 1 i) ≡ 2 → ⊥) → Cheap (waitIn a) (linkAt a i)
-    into i l (yes e) z = absurd (subst (λ (n : ℕ). intoOf b n ≡ 2 → ⊥) e z place)
-    into i l (no n) z = w .steady i l (λ d. z (old (2116 + linkOf a 1 i) (λ e. omega (arith, ends 1 i (omega arith) (omega arith))) (λ e. n (omega arith)) ∙ d))
-
-dear-lifted : (a : List ℕ) (j p v : ℕ) → 4484 ≤ length a → p < 64 → v < 64 → Dec (v ≡ p)
-    → (intoOf (set (set a (2180 + j) 1) (2116 + p) 2) v ≡ intoOf a v) ⊎ (intoOf (set (set a (2180 + j) 1) (2116 + p) 2) v ≡ 2)
-dear-lifted a j p v size low in-v (yes e) =
-    inr (subst (λ (u : ℕ). intoOf (set (set a (2180 + j) 1) (2116 + p) 2) u ≡ 2) (sym e) (getD-set-same (set a (2180 + j) 1) (2116 + p) 2 0 (simp length-set (omega arith))))
-dear-lifted a j p v size low in-v (no n) =
-    inl (getD-set-other (set a (2180 + j) 1) (2116 + p) (2116 + v) 2 0 (λ e. n (omega arith)) ∙ getD-set-other a (2180 + j) (2116 + v) 1 0 (λ e. omega arith))
-
-pub weighed-at : (net : List ℕ) (j to : ℕ) → to ≡ linkOf net 1 j → Linked net → j < countOf net → WeighedTo net j → WeighedMore j net (set (set net (2180 + j) 1) (2116 + to) 2)
-weighed-at net j to e links l w =
-    subst (λ (x : ℕ). WeighedMore j net (set (set net (2180 + j) 1) (2116 + x) 2)) (sym e)
-    (record {
+pub weighed-at : (net : List ℕ) (j : ℕ) → Linked net → j < countOf net → WeighedTo net j → WeighedMore j net (set net (2180 + j) 1)
+weighed-at net j links l w =
+    record {
       weighed = weighed-dear net j (links .size) (omega (arith, links .few)) (λ q i x y. links .ends q i x (omega arith)) w;
-      others = dear-besides net j (linkOf net 1 j) 1 2 (omega (arith, links .few)) (links .ends 1 j (omega arith) l);
-      lifted = record { each = λ v low. dear-lifted net j (linkOf net 1 j) v (links .size) (links .ends 1 j (omega arith) l) low (ℕ-discrete v (linkOf net 1 j)) };
-    })
+      others = dear-besides net j (omega (arith, links .few));
+    }
 
 pub cheap-of : (net : List ℕ) (j to from : ℕ) (a b : Cost) → to ≡ linkOf net 1 j → from ≡ linkOf net 0 j → a ≡ waitIn net to → b ≡ waitIn net from → AtMost a b → Cheap (waitIn net) (linkAt net j)
 cheap-of net j to from a b e f x y l = subst (λ (c : Cost). AtMost c (waitIn net (linkOf net 0 j))) (x ∙ ap (waitIn net) e) (subst (AtMost a) (y ∙ ap (waitIn net) f) l)
@@ -404,11 +363,11 @@ module _ (s : Sheet) (corridors closures : List ℕ) (m c : ℕ) (n0 n1 n2 n3 n4
             (chained-kept byCell (closuresOf n6) few6 (inl (omega arith)) (λ j b. (inr (omega arith), inr (omega arith))) (weighed .others)
             (chained-kept byCell (closuresOf n6) few6 (inl (omega arith)) (λ j b. (inr (omega arith), inr (omega arith))) (notes .others) (by .chained)));
         noted = subst (NotedTo n9) (sym (weighed .others .same 2115 (inl (omega arith)) ∙ notes .others .same 2115 (inl (omega arith))))
-            (noted-lifted few7 (λ x l. omega (arith, notes .others .same (3716 + x * 3 + 1) (inr (omega arith)), celled7 .places x l)) (weighed .others) (weighed .lifted) (notes .noted));
+            (noted-kept few7 (λ x l. omega (arith, notes .others .same (3716 + x * 3 + 1) (inr (omega arith)), celled7 .places x l)) (weighed .others) (notes .noted));
       }
     where
       five : (i : ℕ) → 832 ≤ i → i < 2116 → getD n9 i 0 ≡ getD n5 i 0
-      five i l m = weighed .others .same i (inl m) ∙ notes .others .same i (inl (omega arith)) ∙ by .others .same i (inl (omega arith)) ∙ into .others .same i (inr (omega arith))
+      five i l m = weighed .others .same i (inl (omega arith)) ∙ notes .others .same i (inl (omega arith)) ∙ by .others .same i (inl (omega arith)) ∙ into .others .same i (inr (omega arith))
 
       last : (i : ℕ) → 832 ≤ i → i < 2116 → getD n9 i 0 ≡ getD n4 i 0
       last i l m = five i l m ∙ out .others .same i (inr (omega arith))

@@ -27,7 +27,6 @@ pub record Given (free net : List ℕ) : Type 0 where
   pub into : Chained (byPlace 1) net (countOf net)
   pub closing : Closing net
   pub cheap : (j : ℕ) → j < countOf net → dearOf net j ≡ 0 → Cheap (waitIn net) (linkAt net j)
-  pub steady : (j : ℕ) → j < countOf net → (intoOf net (linkOf net 1 j) ≡ 2 → ⊥) → Cheap (waitIn net) (linkAt net j)
 
 pub link-lawful : {free net : List ℕ} → Given free net → (j : ℕ) → j < countOf net → Lawful (placesOf net) (linkAt net j)
 link-lawful {free} {net} given j l = links-at (Lawful (placesOf net)) net (countOf net) j l (given .legal .links)

@@ -1,7 +1,7 @@
 -- What is searched, as one list of numbers: from 0 the cost of waiting at each place, three figures; from 192 two chains of the corridors (Chains);
 -- from 832 the corridors, five numbers each; at 2112 their number, the number of places, the start and the number of closures; from 2116, by place,
--- whether closures lead to it and waiting is dearer there; from 2180, by corridor, whether waiting is dearer where it leads to; from 2436 a chain of
--- the closures (Chains); from 3716 the closures, three numbers each. Beside it stands the list of first steps of safe intervals, 256 for each place.
+-- whether closures lead to it; from 2180, by corridor, whether waiting is dearer where it leads to; from 2436 a chain of the closures (Chains); from
+-- 3716 the closures, three numbers each. Beside it stands the list of first steps of safe intervals, 256 for each place.
 use mathlib.Core.Path.{_≡_, refl, ap, subst}
 use mathlib.Core.Bool.{Bool, true, false, _&&_}
 use mathlib.Core.List.{List, [], _∷_}

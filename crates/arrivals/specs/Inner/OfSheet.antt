@@ -268,5 +268,4 @@ module _ {lines all : List ℕ} (S : SomeStore lines all) where
             chained = laid .cells;
           };
           cheap = laid .weighed .cheap;
-          steady = laid .weighed .steady;
         }

@@ -1,9 +1,7 @@
--- `arrivals::lay::weigh_link` meets its contract: where waiting is nowhere dearer nothing is noted, and else the corridor and the place.
+-- `arrivals::lay::weigh_link` meets its contract: where waiting is nowhere dearer nothing is noted, and else the corridor.
 -- Assumes nothing.
-use mathlib.Core.Path.{refl, _∙_, sym}
-use mathlib.Core.Logic.{inl}
+use mathlib.Core.Path.{_∙_, sym}
 use native.Mathlib.Omega.{arith}
-use lib.ListN.{length-set}
 use borrow.Author.Needs.{needs}
 use Rattle.costs.specs.Laws.Figures.{atMostb-true}
 use Rattle.arrivals.specs.Inner.Laying.{cheap-of, weighed-at, weighed-cheap}
@@ -30,7 +28,7 @@ same-length : tie.Need-same-length
 same-length c = search needs
 
 returns : tie.Need-returns
-returns c = record { weighed = weighed-cheap (c .before .before .before .before .before .before .before .before .before .before .args .net .now) (c .before .before .before .before .before .before .before .before .before .before .args .j) (cheap-of (c .before .before .before .before .before .before .before .before .before .before .args .net .now) (c .before .before .before .before .before .before .before .before .before .before .args .j) _ _ _ _ (c .before .before .before .before .before .before .before .link-end .ensures) (c .before .before .before .link-end2 .ensures) (c .before .before .before .before .before .wait-of .ensures) (c .before .before .wait-of2 .ensures) (atMostb-true _ _ (sym (c .before .at-most .ensures) ∙ c .if1 .taken))) (c .before .before .before .before .before .before .before .before .before .before .pre .2); others = besides-none _ _ _; lifted = record { each = λ v l. inl refl } }
+returns c = record { weighed = weighed-cheap (c .before .before .before .before .before .before .before .before .before .before .args .net .now) (c .before .before .before .before .before .before .before .before .before .before .args .j) (cheap-of (c .before .before .before .before .before .before .before .before .before .before .args .net .now) (c .before .before .before .before .before .before .before .before .before .before .args .j) _ _ _ _ (c .before .before .before .before .before .before .before .link-end .ensures) (c .before .before .before .link-end2 .ensures) (c .before .before .before .before .before .wait-of .ensures) (c .before .before .wait-of2 .ensures) (atMostb-true _ _ (sym (c .before .at-most .ensures) ∙ c .if1 .taken))) (c .before .before .before .before .before .before .before .before .before .before .pre .2); others = besides-none _ _ _ }
 
 add-net : tie.Need-add-net
 add-net c = search needs
@@ -41,23 +39,11 @@ mul-net c = search needs
 slice-write-net : tie.Need-slice-write-net
 slice-write-net c = omega (arith, c .before .before .before .before .before .before .before .before .before .before .pre .0 .few, c .before .before .before .before .before .before .before .before .before .before .pre .0 .size)
 
-cast-net : tie.Need-cast-net
-cast-net c = search needs
-
-add-net-2 : tie.Need-add-net-2
-add-net-2 c = search needs
-
-mul-net-2 : tie.Need-mul-net-2
-mul-net-2 c = search needs
-
-slice-write-net-2 : tie.Need-slice-write-net-2
-slice-write-net-2 c = simp length-set (omega (arith, c .before .before .before .before .before .before .before .before .link-end .ensures, c .before .before .before .before .before .before .before .before .before .before .before .pre .0 .ends 1 (c .before .before .before .before .before .before .before .before .before .before .before .args .j) (omega arith) (c .before .before .before .before .before .before .before .before .before .before .before .pre .1), c .before .before .before .before .before .before .before .before .before .before .before .pre .0 .size))
-
 same-length-2 : tie.Need-same-length-2
-same-length-2 c = simp length-set
+same-length-2 c = search needs
 
 returns-2 : tie.Need-returns-2
-returns-2 c = weighed-at (c .before .before .before .before .before .before .before .before .before .before .before .args .net .now) (c .before .before .before .before .before .before .before .before .before .before .before .args .j) _ (c .before .before .before .before .before .before .before .before .link-end .ensures) (c .before .before .before .before .before .before .before .before .before .before .before .pre .0) (c .before .before .before .before .before .before .before .before .before .before .before .pre .1) (c .before .before .before .before .before .before .before .before .before .before .before .pre .2)
+returns-2 c = let p = c .before .before .before .before .before .before .before .before .before .before .pre in weighed-at _ _ (p .0) (p .1) (p .2)
 
 pub weigh-link-spec : {M : Type 1} → statement M
 weigh-link-spec =
@@ -73,9 +59,5 @@ weigh-link-spec =
     add-net
     mul-net
     slice-write-net
-    cast-net
-    add-net-2
-    mul-net-2
-    slice-write-net-2
     same-length-2
     returns-2)
