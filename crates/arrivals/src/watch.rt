@@ -12,7 +12,6 @@ use intervals::sets::add_begins;
 use intervals::sets::union;
 use sheet::Place;
 use sheet::Step;
-ghost use mathlib.Core.Path.{_≡_};
 ghost use Prim.Native.Nat.{_<_, _≤_};
 ghost use lib.ListN.{length};
 ghost use Rattle.sheet.specs.Store.{SomeStore};

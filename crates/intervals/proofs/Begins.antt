@@ -4,10 +4,9 @@ use mathlib.Core.Path.{_≡_, refl, sym, _∙_, subst}
 use mathlib.Core.Bool.{Bool, true, false, true≢false}
 use mathlib.Core.Logic.{⊎-elim}
 use mathlib.Core.List.{List}
-use Prim.Native.Nat.{ℕ, _+_, _*_, _-_, _/_, _≤_, _<_}
+use Prim.Native.Nat.{ℕ, _+_, _*_, _-_, _≤_, _<_}
 use native.Mathlib.Omega.{arith}
 use native.Mathlib.Decide.{ℕ-discrete}
-use lib.ListN.{length}
 use Rattle.sheet.specs.Lists.{number}
 use Rattle.sheet.specs.Kinds.{kindO}
 use Rattle.sheet.specs.Sheet.{Sheet}
@@ -17,7 +16,7 @@ use Rattle.intervals.specs.Intervals.{freeb, Free, Run}
 use Rattle.intervals.specs.Laws.Runs.{since-free, since-run}
 use Rattle.intervals.specs.FirstSteps.{SinceTable}
 use Rattle.intervals.specs.Inner.{Followed, FollowedBy}
-use Rattle.intervals.specs.Sets.{Has, Kept, Added, kept-none, kept-on}
+use Rattle.intervals.specs.Sets.{Has, Added, kept-none, kept-on}
 use Rattle.intervals.proofs.Tables.{covers-true, true-covers}
 use Rattle.intervals.proofs.Covers.{taken-covered, free-uncovered}
 

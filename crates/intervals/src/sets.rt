@@ -1,6 +1,5 @@
 // Sets of places, each one number: place v is in a set where the binary digit v of the number is 1. So the places of a step that are to be looked at are
 // found without a look at the others.
-ghost use mathlib.Core.Path.{_≡_};
 ghost use Prim.Native.Nat.{_+_, _≤_, _<_};
 ghost use lib.ListN.{length};
 ghost use Rattle.sheet.specs.Store.{SomeStore};

@@ -17,7 +17,7 @@ use Rattle.arrivals.specs.Laws.Rows.{row-path}
 use Rattle.arrivals.specs.Inner.Rows.{rowsOf, rows-find, all-at, rows-kept, rows-tail, tailOf, tail-zero, Bounded}
 use Rattle.arrivals.specs.Inner.Network.{Case, caseOf, Link, Legal, since, sinceIn, Vacant, linkOf, linksOf, links-find, countOf}
 use Rattle.arrivals.specs.Inner.Entering.{Enters, RowLeads, Led, LedAt, Stands, Cand, Lead, Open, Less, cand-down, cand-bounded, self-leads, led-lead}
-use Rattle.arrivals.specs.Inner.Pruning.{Steady, steady-none}
+use Rattle.arrivals.specs.Inner.Pruning.{steady-none}
 use Rattle.arrivals.specs.Inner.Filling.{Sound, entered, Falling, more-falling, Filled, startRow, row-after, filling-of, filled-place, filled-as, result-done, Grown, grown-none, grown-more, Visiting, Visited}
 use Rattle.arrivals.specs.Inner.Offering.{Beaten, Thin, thin-none, thin-drop, thin-keep, Stops, stops-none, stops-at, Insert, insert-here, insert-past, Offered, offered-not, offered-in, Offers, offers-none, offers-more}
 use Rattle.arrivals.specs.Inner.Sweeps.{SweptAt}

@@ -384,16 +384,6 @@ covers-kept {xs} {ys} {n} {ix} {t} {v} {w} same f = record { of = λ i l p. old 
               (subst (λ (r : Row). AtMost (rowAt xs (k .at) .cost) (add (r .cost) (times (rowAt xs (k .at) .step - r .step) w))) (e i l) (k .least));
         }
 
--- where another index lists what this one does
-pub covers-listed : {xs : List ℕ} {n : ℕ} {ix iy : List ℕ} {t v : ℕ} {w : Cost} → ((i : ℕ) → i < n → rowAt xs i .place ≡ v → Listed ix xs i → Listed iy xs i)
-    → Covers xs n ix t v w → Covers xs n iy t v w
-covers-listed g f =
-    record {
-      of = λ i b p.
-          let k = f .of i b p in
-          record { at = k .at; inside = k .inside; listed = g (k .at) (k .inside) (k .place ∙ p) (k .listed); place = k .place; later = k .later; soon = k .soon; least = k .least };
-    }
-
 -- waiting on is waiting from one row to the next and from there on
 pub lag-sum : (a b c : ℕ) (w : Cost) (i : ℕ) → a ≤ b → b ≤ c → fig (times (c - a) w) i ≡ fig (times (b - a) w) i + fig (times (c - b) w) i
 lag-sum a b c w i l m =

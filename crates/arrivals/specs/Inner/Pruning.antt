@@ -1,18 +1,18 @@
 -- The pruning rule (001, section IV: the earliest arrival in a safe interval). A row that has waited need not be offered again over a corridor
 -- if it could have departed earlier, arriving in the same safe interval, and waiting there is nowhere dearer: that earlier arrival leads.
 use mathlib.Core.Path.{_≡_, refl, sym, ap, ap₂, _∙_, subst}
-use mathlib.Core.Bool.{Bool, true, false}
+use mathlib.Core.Bool.{true}
 use mathlib.Core.List.{List}
 use mathlib.Core.Logic.{_⊎_, inl, inr, ⊎-elim}
 use Prim.Native.Nat.{ℕ, _+_, _*_, _-_, _≤_, _<_}
 use native.Mathlib.Omega.{arith}
 use native.Mathlib.Nat.{add-mul, mul-le-mul-left}
-use Rattle.sheet.specs.Laws.Decided.{false-not-true, lt-or-le, Any, In, any-map, any-find, in-all}
+use Rattle.sheet.specs.Laws.Decided.{lt-or-le, Any, In, any-map, any-find, in-all}
 use Rattle.costs.specs.Costs.{Cost, fig, add, times}
 use Rattle.costs.specs.Priced.{Within}
 use Rattle.costs.specs.Laws.Figures.{fig-add, fig-times}
 use Rattle.arrivals.specs.Rows.{Row}
-use Rattle.arrivals.specs.Inner.Network.{Link, openb, Case, caseOf, since, sinceIn, waitIn, linkOf, linkAt, linksOf, countOf, dearOf, intoOf, Cheap}
+use Rattle.arrivals.specs.Inner.Network.{Link, openb, Case, caseOf, since, sinceIn, waitIn, linkOf, linkAt, linksOf, countOf, dearOf, Cheap}
 use Rattle.arrivals.specs.Inner.Network.{links-find, links-any, closureOf, closuresOf, open-of, Lawful, Legal}
 use Rattle.arrivals.specs.Inner.Lent.{Given, link-lawful}
 use Rattle.arrivals.specs.Inner.Filling.{Reaching}

@@ -18,7 +18,7 @@ use Rattle.costs.specs.Priced.{Within}
 use Rattle.costs.specs.Laws.Figures.{fig-add, within-more, within-times}
 use Rattle.arrivals.specs.Rows.{Row, rowAt}
 use Rattle.arrivals.specs.Inner.Rows.{rowsOf, all-at, tailOf, tail-find, Bounded}
-use Rattle.arrivals.specs.Inner.Network.{waitIn, linkOf, countOf, dearOf}
+use Rattle.arrivals.specs.Inner.Network.{waitIn}
 use Rattle.arrivals.specs.Inner.Offering.{Beaten}
 use Rattle.arrivals.specs.Inner.Index.{roomOf, odd-even, one-group, lowOf, highOf, backOf, Listed, Indexed, Cover, Older, covers-step, row-low, low-row, older-past, lag-sum}
 use Rattle.arrivals.specs.Inner.Due.{Covered}

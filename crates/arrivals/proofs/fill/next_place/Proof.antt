@@ -3,7 +3,6 @@
 use mathlib.Core.List.{List}
 use Prim.Native.Nat.{ℕ, _-_, _≤_}
 use native.Mathlib.Omega.{arith}
-use borrow.Author.Needs.{needs}
 use Rattle.arrivals.specs.Inner.Due.{Lookout}
 use Rattle.arrivals.specs.Inner.Network.{placesOf}
 use Rattle.arrivals.specs.Inner.Walking.{Walking, pass-to, pass-occupied}

@@ -1,6 +1,5 @@
 -- `arrivals::index::group` meets its contract.
 -- Assumes nothing.
-use mathlib.Core.Path.{refl}
 use native.Mathlib.Omega.{arith}
 use borrow.Author.Needs.{needs}
 use Rattle.arrivals.proofs.index.group.Statement.{statement}
