@@ -8,7 +8,7 @@ ghost use lib.ListN.{length, getD, take};
 ghost use Rattle.sheet.specs.Lists.{pick, number};
 ghost use Rattle.sheet.specs.Sheet.{beyond, outside, unpaired};
 ghost use Rattle.sheet.specs.Store.{kindCount};
-ghost use Rattle.sheet.specs.Inner.{limitAt, pairAt, lineAt, behindBy, turnBy, misplacedBy, UnknownIs, lateBy, notAboveBy, RowFits, Kept, LacksIs, FaultIs};
+ghost use Rattle.sheet.specs.Inner.{limitAt, pairAt, lineAt, behindBy, turnBy, misplacedBy, UnknownIs, lateBy, Kept, LacksIs, FaultIs};
 use crate::kinds::ALONE;
 use crate::kinds::C_LINE;
 use crate::kinds::CORRIDOR;
@@ -19,7 +19,6 @@ use crate::kinds::FIRST_CORRIDOR;
 use crate::kinds::KINDS;
 use crate::kinds::O_LINE;
 use crate::kinds::PLACE;
-use crate::kinds::Row;
 use crate::kinds::S_LINE;
 use crate::kinds::W_LINE;
 use crate::kinds::X_LINE;
@@ -161,19 +160,8 @@ fn is_late(all: &[u32], kind: usize, values: [u32; 8]) -> bool
     (kind == O_LINE) & (all[1] < values[1])
 }
 
-// Test 5: not above the last of the n lines of its kind.
-fn is_not_above(all: &[u32], row: Row, n: u32, values: [u32; 8]) -> bool
-    requires { ⌜ RowFits row n (length (now all)) ⌝ }
-    ensures { λ r. ⌜ r ≡ notAboveBy (now (all .entry)) row n values ⌝ }
-{
-    if n == 0 {
-        return false;
-    }
-    let at = row.base + (n as usize - 1) * row.width;
-    !is_before(all, at, values, row.key)
-}
-
-// The fault of a line after the lines in the array: the number of the first test that it fails, 0 for none.
+// The fault of a line after the lines in the array: the number of the first test that it fails, 0 for none. Test 5, not above the last of the n lines of
+// its kind, is made here: the compiler takes what stands behind six tests for rare, would call it, and would write row and numbers to memory for that.
 pub fn fault_of(lines: &[u32], all: &[u32], kind: usize, values: [u32; 8]) -> u32
     requires { ⌜ (kind < kindCount) × (Kept (now lines) (now all)) ⌝ }
     ensures { λ r. ⌜ FaultIs (now (lines .entry)) (now (all .entry)) (lineAt kind values) r ⌝ }
@@ -199,7 +187,11 @@ pub fn fault_of(lines: &[u32], all: &[u32], kind: usize, values: [u32; 8]) -> u3
     if is_late(all, kind, values) {
         return 16;
     }
-    if is_not_above(all, row, n, values) {
+    if n == 0 {
+        return 0;
+    }
+    let last = row.base + (n as usize - 1) * row.width;
+    if !is_before(all, last, values, row.key) {
         return 5;
     }
     0

@@ -3,11 +3,13 @@
 -- where it passed (`left-`).
 -- Assumes nothing.
 use mathlib.Core.Path.{_≡_, refl, sym, _∙_, ap}
-use mathlib.Core.Bool.{Bool, true, false}
+use mathlib.Core.Bool.{Bool, true, false, not}
 use mathlib.Core.List.{List}
-use Prim.Native.Nat.{ℕ}
+use Prim.Native.Nat.{ℕ, suc, _+_, _*_, _-_}
 use native.Mathlib.Omega.{arith}
+use native.Mathlib.Nat.{suc-mul}
 use lib.Dec.{leb}
+use lib.ListN.{length}
 use borrow.Author.Tests.{le-leb, lt-leb}
 use borrow.Author.Needs.{needs}
 use Rattle.sheet.specs.Lists.{number}
@@ -15,8 +17,8 @@ use Rattle.sheet.specs.Lines.{Line}
 use Rattle.sheet.specs.Sheet.{misplaced, tests, fault}
 use Rattle.sheet.specs.Inner.{lineAt, Stored}
 use Rattle.sheet.specs.Laws.Kinds.{width-small}
-use Rattle.sheet.proofs.Standing.{lines-length, all-length, row-fits}
-use Rattle.sheet.proofs.Tested.{misplaced-is, many-is, outside-is, unpaired-is, late-is, above-is}
+use Rattle.sheet.proofs.Standing.{RowFits, lines-length, all-length, row-fits}
+use Rattle.sheet.proofs.Tested.{misplaced-is, many-is, outside-is, unpaired-is, late-is, above-none, above-last}
 use Rattle.sheet.proofs.FirstFault.{Left, Tried, first, left-next, left-stop}
 use Rattle.sheet.proofs.judge.fault_of.Statement.{statement}
 use Rattle.sheet.proofs.judge.fault_of.Tie as tie
@@ -129,18 +131,45 @@ tried-16 c b e =
 left-16 : (c : tie.Else6) → LeftAt (row-16 (c .before)) 5
 left-16 c = left-next (left-15 (c .before .before)) (tried-16 (c .before) false (c .if6 .left))
 
--- test 5
-abbrev row-5 : tie.After-is-not-above → tie.After-row-of
-row-5 c = row-16 (c .before .before)
+-- test 5, where no line of the kind stands before
+tried-none : (c : tie.Then7) → TriedAt (row-16 (c .before .before)) 5 0 false
+unfolding tests
+tried-none c =
+    let r = row-16 (c .before .before) in
+    record { of = λ before S. ap (first 5 _) (above-none S (entry r .pre .0) (r .row-of .ensures) (entry r .args .values) (c .if7 .taken)) }
 
-tried-5 : (c : tie.After-is-not-above) (b : Bool) → c .is-not-above .result ≡ b → TriedAt (row-5 c) 5 0 b
+-- test 5, by the last of them: its row is inside the array
+abbrev row-last : tie.Else7 → tie.After-row-of
+row-last c = row-16 (c .before .before)
+
+last-fits : (c : tie.Else7) →
+    let r = row-last c in
+    let q = r .row-of .result in
+    let n = number (entry r .args .lines .now) (entry r .args .kind) in
+    ((n - 1) * q .width + q .width ≡ n * q .width) × RowFits q n (length (entry r .args .all .now))
+last-fits c =
+    let r = row-last c in
+    let n = number (entry r .args .lines .now) (entry r .args .kind) in
+    let w = r .row-of .result .width in
+    let e : suc (n - 1) ≡ n = omega (arith, c .if7 .left) in
+    (omega (arith, suc-mul (n - 1) w, ap (λ (m : ℕ). m * w) e), row-fits (entry r .pre .1 .stored) (entry r .pre .0) (r .row-of .ensures))
+
+abbrev row-5 : tie.After-is-before → tie.After-row-of
+row-5 c = row-last (c .before .before .before)
+
+tried-5 : (c : tie.After-is-before) (b : Bool) → not (c .is-before .result) ≡ b → TriedAt (row-5 c) 5 0 b
 unfolding tests
 tried-5 c b e =
     let r = row-5 c in
-    record { of = λ before S. ap (first 5 _) (above-is S (entry r .pre .0) (r .row-of .ensures) (entry r .args .values) ∙ sym (c .is-not-above .ensures) ∙ e) }
+    record {
+      of = λ before S. ap (first 5 _)
+          (above-last S (entry r .pre .0) (r .row-of .ensures) (entry r .args .values) (c .before .before .before .if7 .left)
+          ∙ ap not (sym (c .is-before .ensures))
+          ∙ e);
+    }
 
-left-5 : (c : tie.Else7) → LeftAt (row-5 (c .before)) 0
-left-5 c = left-next (left-16 (c .before .before)) (tried-5 (c .before) false (c .if7 .left))
+left-5 : (c : tie.Else8) → LeftAt (row-5 (c .before)) 0
+left-5 c = left-next (left-16 (c .before .before .before .before .before)) (tried-5 (c .before) false (c .if8 .left))
 
 row-of-requires : tie.Need-row-of-requires
 row-of-requires c κs = search needs
@@ -193,17 +222,31 @@ is-late-requires c κs = omega (arith, all-length (entry (row-15 (c .before)) .p
 returns-6 : tie.Need-returns-6
 returns-6 c = left-stop (left-15 (c .before .before)) (tried-16 (c .before) true (c .if6 .taken))
 
-is-not-above-requires : tie.Need-is-not-above-requires
-is-not-above-requires c κs =
-    let r = row-16 (c .before) in
-    row-fits (entry r .pre .1 .stored) (entry r .pre .0) (r .row-of .ensures)
-
 returns-7 : tie.Need-returns-7
-returns-7 c = left-stop (left-16 (c .before .before)) (tried-5 (c .before) true (c .if7 .taken))
+unfolding tests
+returns-7 c = record { of = λ before S. sym (left-next (left-16 (c .before)) (tried-none c) .of before S) }
+
+cast-last : tie.Need-cast-last
+cast-last c = search needs
+
+sub-last : tie.Need-sub-last
+sub-last c = search needs
+
+mul-last : tie.Need-mul-last
+mul-last c = omega (arith, last-fits (c .before))
+
+add-last : tie.Need-add-last
+add-last c = omega (arith, last-fits (c .before .before))
+
+is-before-requires : tie.Need-is-before-requires
+is-before-requires c κs = (omega (arith, last-fits (c .before .before)), omega (arith, last-fits (c .before .before)))
 
 returns-8 : tie.Need-returns-8
+returns-8 c = left-stop (left-16 (c .before .before .before .before .before)) (tried-5 (c .before) true (c .if8 .taken))
+
+returns-9 : tie.Need-returns-9
 unfolding tests
-returns-8 c = record { of = λ before S. sym (left-5 c .of before S) }
+returns-9 c = record { of = λ before S. sym (left-5 c .of before S) }
 
 pub fault-of-spec : {M : Type 1} → statement M
 fault-of-spec =
@@ -224,6 +267,11 @@ fault-of-spec =
     returns-5
     is-late-requires
     returns-6
-    is-not-above-requires
     returns-7
-    returns-8)
+    cast-last
+    sub-last
+    mul-last
+    add-last
+    is-before-requires
+    returns-8
+    returns-9)
