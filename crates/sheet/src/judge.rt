@@ -8,7 +8,7 @@ ghost use lib.ListN.{length, getD, take};
 ghost use Rattle.sheet.specs.Lists.{pick, number};
 ghost use Rattle.sheet.specs.Sheet.{beyond, outside, unpaired};
 ghost use Rattle.sheet.specs.Store.{kindCount};
-ghost use Rattle.sheet.specs.Inner.{limitAt, pairAt, lineAt, behindBy, turnBy, misplacedBy, UnknownIs, lateBy, Kept, LacksIs, FaultIs};
+ghost use Rattle.sheet.specs.Inner.{limitAt, pairAt, lineAt, behindBy, turnBy, misplacedBy, UnknownIs, lateBy, RowIs, Kept, LacksIs, FaultIs};
 use crate::kinds::ALONE;
 use crate::kinds::C_LINE;
 use crate::kinds::CORRIDOR;
@@ -19,10 +19,10 @@ use crate::kinds::FIRST_CORRIDOR;
 use crate::kinds::KINDS;
 use crate::kinds::O_LINE;
 use crate::kinds::PLACE;
+use crate::kinds::Row;
 use crate::kinds::S_LINE;
 use crate::kinds::W_LINE;
 use crate::kinds::X_LINE;
-use crate::kinds::row_of;
 use crate::seek::Group;
 use crate::seek::holds;
 use crate::seek::is_before;
@@ -160,13 +160,12 @@ fn is_late(all: &[u32], kind: usize, values: [u32; 8]) -> bool
     (kind == O_LINE) & (all[1] < values[1])
 }
 
-// The fault of a line after the lines in the array: the number of the first test that it fails, 0 for none. Test 5, not above the last of the n lines of
+// The fault of a line of the row's kind after the lines in the array: the number of the first test that it fails, 0 for none. Test 5, not above the last of the n lines of
 // its kind, is made here: the compiler takes what stands behind six tests for rare, would call it, and would write row and numbers to memory for that.
-pub fn fault_of(lines: &[u32], all: &[u32], kind: usize, values: [u32; 8]) -> u32
-    requires { ⌜ (kind < kindCount) × (Kept (now lines) (now all)) ⌝ }
+pub fn fault_of(lines: &[u32], all: &[u32], kind: usize, row: Row, values: [u32; 8]) -> u32
+    requires { ⌜ (kind < kindCount) × (Kept (now lines) (now all)) × (RowIs kind row) ⌝ }
     ensures { λ r. ⌜ FaultIs (now (lines .entry)) (now (all .entry)) (lineAt kind values) r ⌝ }
 {
-    let row = row_of(kind);
     let n = lines[kind];
     let limits = row.limits;
     if is_misplaced(lines, all, kind, values) {
