@@ -150,17 +150,17 @@ last-fits c =
     let e : suc (n - 1) ≡ n = omega (arith, c .if7 .left) in
     (omega (arith, suc-mul (n - 1) w, ap (λ (m : ℕ). m * w) e), row-fits (r .pre .1 .stored) (r .pre .0) (r .pre .2))
 
-abbrev row-5 : tie.After-is-before → tie.Start
+abbrev row-5 : tie.After-is-key-before → tie.Start
 row-5 c = row-last (c .before .before .before)
 
-tried-5 : (c : tie.After-is-before) (b : Bool) → not (c .is-before .result) ≡ b → TriedAt (row-5 c) 5 0 b
+tried-5 : (c : tie.After-is-key-before) (b : Bool) → not (c .is-key-before .result) ≡ b → TriedAt (row-5 c) 5 0 b
 unfolding tests
 tried-5 c b e =
     let r = row-5 c in
     record {
       of = λ before S. ap (first 5 _)
           (above-last S (r .pre .0) (r .pre .2) (r .args .values) (c .before .before .before .if7 .left)
-          ∙ ap not (sym (c .is-before .ensures))
+          ∙ ap not (sym (c .is-key-before .ensures))
           ∙ e);
     }
 
@@ -231,8 +231,8 @@ mul-last c = omega (arith, last-fits (c .before))
 add-last : tie.Need-add-last
 add-last c = omega (arith, last-fits (c .before .before))
 
-is-before-requires : tie.Need-is-before-requires
-is-before-requires c κs = (omega (arith, last-fits (c .before .before)), omega (arith, last-fits (c .before .before)))
+is-key-before-requires : tie.Need-is-key-before-requires
+is-key-before-requires c κs = (omega (arith, last-fits (c .before .before)), omega (arith, last-fits (c .before .before)))
 
 returns-8 : tie.Need-returns-8
 returns-8 c = left-stop (left-16 (c .before .before .before .before .before)) (tried-5 (c .before) true (c .if8 .taken))
@@ -264,6 +264,6 @@ fault-of-spec =
     sub-last
     mul-last
     add-last
-    is-before-requires
+    is-key-before-requires
     returns-8
     returns-9)
