@@ -3,12 +3,11 @@ use mathlib.Core.Bool.{Bool, true, false, not, _&&_, _||_}
 use mathlib.Core.Path.{_≡_}
 use mathlib.Core.List.{List, [], _∷_, _++_, map}
 use mathlib.Core.Option.{Option, some, none}
-use Prim.Native.Nat.{ℕ, zero, suc, _+_, _*_, _-_, _≤_, _<_}
+use Prim.Native.Nat.{ℕ, zero, suc, _+_, _*_, _≤_, _<_}
 use lib.Dec.{ltb, leb, eqb}
 use lib.ListN.{length, take, drop}
 use lib.Seq.{sets}
 use Rattle.sheet.specs.Lists.{pick, number, any, rows, bind}
-use Rattle.sheet.specs.Computed.{lexb}
 use Rattle.sheet.specs.Bytes.{kindOf, comma, split}
 use Rattle.sheet.specs.Decimal.{digitsFrom, numberOf, mostDigits}
 use Rattle.sheet.specs.Kinds.{Limit, between, place, cost, Pair, alone, different, ordered, width, kindW, kindC, kindO, kinds}

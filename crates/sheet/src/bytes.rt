@@ -9,7 +9,7 @@ pub const DIGIT: u8 = 0;
 
 pub const COMMA: u8 = 1;
 
-pub const LINE_FEED: u8 = 2;
+const LINE_FEED: u8 = 2;
 
 const LETTER: u8 = 3;
 
@@ -34,7 +34,7 @@ pub fn kind_of(b: u8) -> u8
     OTHER
 }
 
-// The first position from `at` on of a line feed, or the length, byte by byte.
+// The first position from `at` on of a line feed, or the length, byte by byte: for the last bytes of a text.
 fn near_feed(s: &[u8], at: usize) -> usize
     requires { ⌜ at ≤ length (now s) ⌝ }
     ensures { λ r. ⌜ r ≡ at + spanOf lineFeed (drop at (now (s .entry))) ⌝ }

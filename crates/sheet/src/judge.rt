@@ -186,8 +186,9 @@ fn is_key_before(all: &[u32], at: usize, key: usize, values: [u32; 8]) -> bool
     all[at + 2] < values[2]
 }
 
-// The fault of a line of the row's kind after the lines in the array: the number of the first test that it fails, 0 for none. Test 5, not above the last of the n lines of
-// its kind, is made here: the compiler takes what stands behind six tests for rare, would call it, and would write row and numbers to memory for that.
+// The fault of a line of the row's kind after the lines in the array: the number of the first test that it fails, 0 for none. Test 5, not above the last
+// of the n lines of its kind, is made here: the compiler takes what stands behind six tests for rare, would call it, and would write row and numbers to
+// memory for the call.
 pub fn fault_of(lines: &[u32], all: &[u32], kind: usize, row: Row, values: [u32; 8]) -> u32
     requires { ⌜ (kind < kindCount) × (Kept (now lines) (now all)) × (RowIs kind row) ⌝ }
     ensures { λ r. ⌜ FaultIs (now (lines .entry)) (now (all .entry)) (lineAt kind values) r ⌝ }

@@ -61,17 +61,20 @@ passed-1 c =
 passed-2 : (c : tie.Else2 Inv-loop μ-loop) → AheadOf (turn-2 (c .before)) 2
 passed-2 c =
     let t = turn-2 (c .before) in
-    past _ _ (t .before .loop .i + 1) _ (omega (arith, t)) (omega arith) (passed-1 (c .before .before .before)) (λ e. c .if2 .left (c .before .kind-of2 .ensures ∙ e))
+    past _ _ (t .before .loop .i + 1) _ (omega (arith, t)) (omega arith) (passed-1 (c .before .before .before))
+    (λ e. c .if2 .left (c .before .kind-of2 .ensures ∙ e))
 
 passed-3 : (c : tie.Else3 Inv-loop μ-loop) → AheadOf (turn-3 (c .before)) 3
 passed-3 c =
     let t = turn-3 (c .before) in
-    past _ _ (t .before .loop .i + 2) _ (omega (arith, t)) (omega arith) (passed-2 (c .before .before .before)) (λ e. c .if3 .left (c .before .kind-of3 .ensures ∙ e))
+    past _ _ (t .before .loop .i + 2) _ (omega (arith, t)) (omega arith) (passed-2 (c .before .before .before))
+    (λ e. c .if3 .left (c .before .kind-of3 .ensures ∙ e))
 
 passed-4 : (c : tie.Else4 Inv-loop μ-loop) → AheadOf (turn-4 (c .before)) 4
 passed-4 c =
     let t = turn-4 (c .before) in
-    past _ _ (t .before .loop .i + 3) _ (omega (arith, t)) (omega arith) (passed-3 (c .before .before .before)) (λ e. c .if4 .left (c .before .kind-of4 .ensures ∙ e))
+    past _ _ (t .before .loop .i + 3) _ (omega (arith, t)) (omega arith) (passed-3 (c .before .before .before))
+    (λ e. c .if4 .left (c .before .kind-of4 .ensures ∙ e))
 
 shared-slice-read-kind-of : tie.Need-shared-slice-read-kind-of Inv-loop μ-loop
 shared-slice-read-kind-of c = omega (arith, c .before)
@@ -95,7 +98,9 @@ add-result : tie.Need-add-result Inv-loop μ-loop
 add-result c = omega (arith, turn-2 (c .before))
 
 returns-2 : tie.Need-returns-2 Inv-loop μ-loop
-returns-2 c = let t = turn-2 (c .before) in here _ _ _ (omega (arith, t)) (passed-1 (c .before .before .before)) (sym (c .before .kind-of2 .ensures) ∙ c .if2 .taken)
+returns-2 c =
+    let t = turn-2 (c .before) in
+    here _ _ _ (omega (arith, t)) (passed-1 (c .before .before .before)) (sym (c .before .kind-of2 .ensures) ∙ c .if2 .taken)
 
 add-kind-of-2 : tie.Need-add-kind-of-2 Inv-loop μ-loop
 add-kind-of-2 c = omega (arith, turn-2 (c .before))
@@ -110,7 +115,9 @@ add-result-2 : tie.Need-add-result-2 Inv-loop μ-loop
 add-result-2 c = omega (arith, turn-3 (c .before))
 
 returns-3 : tie.Need-returns-3 Inv-loop μ-loop
-returns-3 c = let t = turn-3 (c .before) in here _ _ _ (omega (arith, t)) (passed-2 (c .before .before .before)) (sym (c .before .kind-of3 .ensures) ∙ c .if3 .taken)
+returns-3 c =
+    let t = turn-3 (c .before) in
+    here _ _ _ (omega (arith, t)) (passed-2 (c .before .before .before)) (sym (c .before .kind-of3 .ensures) ∙ c .if3 .taken)
 
 add-kind-of-3 : tie.Need-add-kind-of-3 Inv-loop μ-loop
 add-kind-of-3 c = omega (arith, turn-3 (c .before))
@@ -125,7 +132,9 @@ add-result-3 : tie.Need-add-result-3 Inv-loop μ-loop
 add-result-3 c = omega (arith, turn-4 (c .before))
 
 returns-4 : tie.Need-returns-4 Inv-loop μ-loop
-returns-4 c = let t = turn-4 (c .before) in here _ _ _ (omega (arith, t)) (passed-3 (c .before .before .before)) (sym (c .before .kind-of4 .ensures) ∙ c .if4 .taken)
+returns-4 c =
+    let t = turn-4 (c .before) in
+    here _ _ _ (omega (arith, t)) (passed-3 (c .before .before .before)) (sym (c .before .kind-of4 .ensures) ∙ c .if4 .taken)
 
 add-i : tie.Need-add-i Inv-loop μ-loop
 add-i c = omega (arith, turn-4 (c .before))

@@ -174,7 +174,9 @@ shared-slice-read-n : tie.Need-shared-slice-read-n
 shared-slice-read-n c = omega (arith, lines-length (c .before .before .before .pre .1 .stored))
 
 is-misplaced-requires : tie.Need-is-misplaced-requires
-is-misplaced-requires c κs = let e = c .before .before .before .before in (lines-length (e .pre .1 .stored), omega (arith, all-length (e .pre .1 .stored)), e .pre .0)
+is-misplaced-requires c κs =
+    let e = c .before .before .before .before in
+    (lines-length (e .pre .1 .stored), omega (arith, all-length (e .pre .1 .stored)), e .pre .0)
 
 returns : tie.Need-returns
 returns c = left-stop (left-all (row-3 (c .before))) (tried-3 (c .before) true (c .if1 .taken))

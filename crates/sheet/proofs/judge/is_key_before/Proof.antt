@@ -1,15 +1,13 @@
 -- `sheet::judge::is_key_before` meets its contract: number by number, the first that differs decides.
 -- Assumes nothing.
 use mathlib.Core.Path.{_≡_, sym, _∙_, ap}
-use mathlib.Core.Bool.{false}
 use mathlib.Core.List.{List}
 use Prim.Native.Nat.{ℕ, _+_, _≤_, _<_}
 use native.Mathlib.Omega.{arith}
 use native.Mathlib.Nat.{add-zero}
 use lib.Dec.{ltb}
-use lib.ListN.{length, getD, take, drop}
+use lib.ListN.{length, getD}
 use borrow.Author.Needs.{needs}
-use Rattle.sheet.specs.Computed.{lexb}
 use Rattle.sheet.proofs.Passing.{lexFrom, lex-differs, lex-same, lex-none, lex-last}
 use Rattle.sheet.proofs.judge.is_key_before.Statement.{statement}
 use Rattle.sheet.proofs.judge.is_key_before.Tie as tie
@@ -91,7 +89,8 @@ returns-4 : tie.Need-returns-4
 returns-4 c =
     let x = c .before .before in
     let s = start-1 (x .before) in
-    sym (lex-differs _ _ _ _ (inside s .0) (inside s .1) 1 (omega (arith, x .before .before .before .if1 .left, x .if3 .left)) (c .if4 .taken)) ∙ order-1 (x .before)
+    sym (lex-differs _ _ _ _ (inside s .0) (inside s .1) 1 (omega (arith, x .before .before .before .if1 .left, x .if3 .left)) (c .if4 .taken))
+    ∙ order-1 (x .before)
 
 returns-5 : tie.Need-returns-5
 returns-5 c = let s = start-2 (c .before) in sym (lex-none _ _ _ _ (inside s .0) (inside s .1) 2 (omega (arith, c .if5 .taken))) ∙ order-2 (c .before)
@@ -113,7 +112,8 @@ returns-6 c =
     let x = c .before .before in
     let s = start-2 x in
     let y = x .before .before in
-    sym (lex-last _ _ _ _ (inside s .0) (inside s .1) 2 (omega (arith, s .pre .0, y .before .before .before .if1 .left, y .if3 .left, c .before .if5 .left))) ∙ order-2 x
+    let e : 2 + 1 ≡ s .args .key = omega (arith, s .pre .0, y .before .before .before .if1 .left, y .if3 .left, c .before .if5 .left) in
+    sym (lex-last _ _ _ _ (inside s .0) (inside s .1) 2 e) ∙ order-2 x
 
 pub is-key-before-spec : {M : Type 1} → statement M
 is-key-before-spec =

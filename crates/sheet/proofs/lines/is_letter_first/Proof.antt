@@ -3,10 +3,10 @@
 use mathlib.Core.Bool.{Bool, true, false}
 use mathlib.Core.Path.{_≡_, refl, sym, _∙_, ap}
 use mathlib.Core.List.{List}
-use Prim.Native.Nat.{ℕ, suc, _≤_, _<_}
+use Prim.Native.Nat.{ℕ, _≤_}
 use native.Mathlib.Omega.{arith}
 use lib.Dec.{eqb}
-use lib.ListN.{length, getD, drop}
+use lib.ListN.{length, getD}
 use borrow.Author.Needs.{needs}
 use borrow.Author.Tests.{eq-eqb, ne-eqb, eqb-true, eqb-false}
 use Rattle.sheet.specs.Bytes.{kindOf, comma}
@@ -53,7 +53,8 @@ returns-4 : tie.Need-returns-4
 returns-4 c =
     let x = c .before .before .before in
     ap (λ (k : ℕ). eqb k comma) (c .kind-of2 .ensures)
-    ∙ followed _ (omega (arith, x .before .before .before)) (λ e. x .if2 .left (x .before .kind-of .ensures ∙ e)) (omega (arith, c .before .before, x .before .before .before)) _ refl
+    ∙ followed _ (omega (arith, x .before .before .before)) (λ e. x .if2 .left (x .before .kind-of .ensures ∙ e))
+    (omega (arith, c .before .before, x .before .before .before)) _ refl
 
 pub is-letter-first-spec : {M : Type 1} → statement M
 is-letter-first-spec =
