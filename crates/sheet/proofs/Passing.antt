@@ -2,7 +2,7 @@
 -- that are not 0.
 -- What is left from a position on decides the same as the whole, as long as every position before it decided nothing.
 -- Assumes nothing.
-use mathlib.Core.Path.{_≡_, sym, _∙_, ap}
+use mathlib.Core.Path.{_≡_, refl, sym, _∙_, ap}
 use mathlib.Core.Bool.{Bool, true, false, not, _||_}
 use mathlib.Core.List.{List, map}
 use Prim.Native.Nat.{ℕ, _+_, _≤_, _<_}
@@ -31,6 +31,13 @@ module _ (n : ℕ) (a : List ℕ) (at : ℕ) (b : List ℕ) (p : at + n ≤ leng
       let y : i < length (take n b) = omega (arith, length-take-le n b q) in
       rw (add-one, drop-cons (take n (drop at a)) i 0 x, drop-cons (take n b) i 0 y, getD-take n (drop at a) i 0 h, getD-drop at a i 0, getD-take n b i 0 h)
 
+  pub lex-differs : i < n → (getD a (at + i) 0 ≡ getD b i 0 → ⊥) → lexFrom n a at b i ≡ ltb (getD a (at + i) 0) (getD b i 0)
+  lex-differs h f = lex-next h ∙ rw (ne-eqb (getD a (at + i) 0) (getD b i 0) f) (go (ltb (getD a (at + i) 0) (getD b i 0)) (lexFrom n a at b (i + 1)))
+    where
+      go : (t r : Bool) → after t false r ≡ t
+      go true r = refl
+      go false r = refl
+
   pub lex-below : i < n → getD a (at + i) 0 < getD b i 0 → lexFrom n a at b i ≡ true
   lex-below h l = lex-next h ∙ rw (lt-ltb (getD a (at + i) 0) (getD b i 0) l)
 
@@ -45,6 +52,18 @@ module _ (n : ℕ) (a : List ℕ) (at : ℕ) (b : List ℕ) (p : at + n ≤ leng
       let x : length (take n (drop at a)) ≤ i = omega (arith, row-length) in
       let y : length (take n b) ≤ i = omega (arith, length-take-le n b q) in
       rw (drop-of-length-le (take n (drop at a)) x, drop-of-length-le (take n b) y)
+
+-- the last numbers decide by themselves
+pub lex-last : (n : ℕ) (a : List ℕ) (at : ℕ) (b : List ℕ) → at + n ≤ length a → n ≤ length b → (i : ℕ) → i + 1 ≡ n
+    → lexFrom n a at b i ≡ ltb (getD a (at + i) 0) (getD b i 0)
+lex-last n a at b p q i e =
+    lex-next n a at b p q i (omega arith)
+    ∙ rw (lex-none n a at b p q (i + 1) (omega arith)) (go (ltb (getD a (at + i) 0) (getD b i 0)) (eqb (getD a (at + i) 0) (getD b i 0)))
+  where
+    go : (t s : Bool) → after t s false ≡ t
+    go true s = refl
+    go false true = refl
+    go false false = refl
 
 -- the first numbers of a from `at` on and the first of b: number i of both
 module _ (a : List ℕ) (at : ℕ) (b : List ℕ) (i : ℕ) where

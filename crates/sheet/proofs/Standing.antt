@@ -18,15 +18,22 @@ use Rattle.sheet.specs.Lines.{Line}
 use Rattle.sheet.specs.Sheet.{Sheet, group, linesFrom, headIn, latest, lacking}
 use Rattle.sheet.specs.Laws.Groups.{isKind, groupsIn, first-head, head-group, passes-sorted, lines-groups}
 use Rattle.sheet.specs.Store.{kindCount, kindAt, baseOf, storeRoom, spread}
-use Rattle.sheet.specs.Inner.{Stored, RowIs, RowFits}
+use Rattle.sheet.specs.Inner.{Stored, RowIs}
 use Rattle.sheet.specs.Laws.Members.{mem-filter, mem-map}
 use Rattle.sheet.specs.Laws.Rows.{Wide}
 use Rattle.sheet.specs.Laws.Judge.{Passes}
 use Rattle.sheet.specs.Laws.Shape.{AllShaped}
-use Rattle.sheet.specs.Laws.Kinds.{width-small, most-small, key-inside, kinds-ascend}
+use Rattle.sheet.specs.Laws.Kinds.{key-inside, key-small, kinds-ascend}
 use Rattle.sheet.specs.Laws.Runs.{passes-runs}
 use Rattle.sheet.specs.Laws.Cells.{Held, held-run, held-count, held-length, held-few, held-part}
 use Rattle.sheet.specs.declared.kinds.Row.{Row}
+
+-- n lines of the row stand in an array of so many numbers, which is not long
+pub record RowFits (r : Row) (n len : ℕ) : Type 0 where
+  pub key-small : r .key ≤ 3
+  pub key-inside : r .key ≤ r .width
+  pub inside : r .base + n * r .width ≤ len
+  pub short : len ≤ 100000
 
 some-member : (n : List ℕ) (g : List (List ℕ)) → n ∈ g → 1 ≤ length g
 some-member n [] m = absurd m
@@ -107,11 +114,10 @@ module _ {before : List Line} {lines all : List ℕ} (S : Stored before lines al
     pub row-fits : {r : Row} → RowIs k r → RowFits r (number lines k) (length all)
     row-fits R =
         record {
-          narrow = omega (arith, R .width-is, width-small k h);
+          key-small = omega (arith, R .key-is, key-small k h);
           key-inside = omega (arith, R .width-is, R .key-is, key-inside k h);
-          few = omega (arith, count-few, most-small k h);
-          low = omega (arith, R .base-is, all-length, held-few stored-held k h .1);
           inside = rw (R .base-is, R .width-is) (held-few stored-held k h .1);
+          short = omega (arith, all-length);
         }
 
     -- the last row of the kind's group, where there is one

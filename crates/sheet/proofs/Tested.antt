@@ -17,7 +17,7 @@ use Rattle.sheet.specs.Lines.{Line}
 use Rattle.sheet.specs.Sheet.{from, to, first, group, outOfTurn, misplaced, tooMany, outside, headIn, unpaired, unknown, late, latest, notAbove}
 use Rattle.sheet.specs.Store.{kindCount, kindAt}
 use Rattle.sheet.specs.Seek.{Listed}
-use Rattle.sheet.specs.Inner.{limitAt, pairAt, lineAt, turnBy, misplacedBy, lateBy, notAboveBy, RowIs, Stored}
+use Rattle.sheet.specs.Inner.{limitAt, pairAt, lineAt, turnBy, misplacedBy, lateBy, RowIs, Stored}
 use Rattle.sheet.specs.Laws.Order.{and-true, true-and, bool-same}
 use Rattle.sheet.specs.Laws.Decided.{Decided, yes-of, is-yes}
 use Rattle.sheet.specs.Laws.Members.{any-mem, mem-any}
@@ -129,18 +129,17 @@ module _ {before : List Line} {lines all : List ℕ} (S : Stored before lines al
   pub unpaired-is : unpaired (kindAt k .pair) (take (width (kindAt k)) v) ≡ unpaired (pairAt (r .pair) (r .one) (r .other)) v
   unpaired-is = rw (← R .pair-is, ← R .width-is) (pair-inside (r .pair) (r .one) (r .other) (r .width) v (R .one-inside) (R .other-inside))
 
-  -- test 5
-  pub above-is : notAbove (kindAt k .key) (latest (group (kindAt k) before)) (take (width (kindAt k)) v) ≡ notAboveBy all r (number lines k) v
-  above-is = go (eqb (number lines k) 0) refl
-    where
-      go : (b : Bool) → eqb (number lines k) 0 ≡ b
-          → notAbove (kindAt k .key) (latest (group (kindAt k) before)) (take (width (kindAt k)) v)
-          ≡ not b && not (lexb (take (r .key) (drop (r .base + (number lines k - 1) * r .width) all)) (take (r .key) v))
-      go true q = rw (no-rows (group (kindAt k) before) (sym (count-is S h) ∙ eqb-true (number lines k) 0 q))
-      go false q =
-          let i = key-inside k h in
-          rw (last-is S h (omega (arith, eqb-false (number lines k) 0 q)), R .key-is, R .base-is, R .width-is, take-take (kindAt k .key) (width (kindAt k)) v i)
-          (ap (λ (l : List ℕ). not (lexb l (take (kindAt k .key) v))) (take-take (kindAt k .key) (width (kindAt k)) _ i))
+  -- test 5: no line of the kind stands before, or the last of them is looked at
+  pub above-none : number lines k ≡ 0 → notAbove (kindAt k .key) (latest (group (kindAt k) before)) (take (width (kindAt k)) v) ≡ false
+  above-none q = rw (no-rows (group (kindAt k) before) (sym (count-is S h) ∙ q))
+
+  pub above-last : (number lines k ≡ 0 → ⊥)
+      → notAbove (kindAt k .key) (latest (group (kindAt k) before)) (take (width (kindAt k)) v)
+      ≡ not (lexb (take (r .key) (drop (r .base + (number lines k - 1) * r .width) all)) (take (r .key) v))
+  above-last q =
+      let i = key-inside k h in
+      rw (last-is S h (omega (arith, q)), R .key-is, R .base-is, R .width-is, take-take (kindAt k .key) (width (kindAt k)) v i)
+      (ap (λ (l : List ℕ). not (lexb l (take (kindAt k .key) v))) (take-take (kindAt k .key) (width (kindAt k)) _ i))
 
 -- a number of the S line, which is this line or stands first in the array
 head-is : {before : List Line} {lines all : List ℕ} → Stored before lines all → {k : ℕ} → k < kindCount → (v : List ℕ) (i : ℕ) → i < width kindS

@@ -3,12 +3,11 @@ use mathlib.Core.Bool.{Bool, true, false, not, _&&_, _||_}
 use mathlib.Core.Path.{_≡_}
 use mathlib.Core.List.{List, [], _∷_, _++_, map}
 use mathlib.Core.Option.{Option, some, none}
-use Prim.Native.Nat.{ℕ, zero, suc, _+_, _*_, _-_, _≤_, _<_}
+use Prim.Native.Nat.{ℕ, zero, suc, _+_, _*_, _≤_, _<_}
 use lib.Dec.{ltb, leb, eqb}
 use lib.ListN.{length, take, drop}
 use lib.Seq.{sets}
 use Rattle.sheet.specs.Lists.{pick, number, any, rows, bind}
-use Rattle.sheet.specs.Computed.{lexb}
 use Rattle.sheet.specs.Bytes.{kindOf, comma, split}
 use Rattle.sheet.specs.Decimal.{digitsFrom, numberOf, mostDigits}
 use Rattle.sheet.specs.Kinds.{Limit, between, place, cost, Pair, alone, different, ordered, width, kindW, kindC, kindO, kinds}
@@ -51,7 +50,7 @@ pub record RowIs (k : ℕ) (r : Row) : Type 0 where
 abbrev pub lineAt : ℕ → List ℕ → Line
 lineAt k v = line (kindAt k) (take (width (kindAt k)) v)
 
--- test 3, from the counts of lines and the places: by the kind, and by the turn; test 16, from the S line; test 5, from the last row of n
+-- test 3, from the counts of lines and the places: by the kind, and by the turn; test 16, from the S line
 abbrev pub behindBy : List ℕ → ℕ → Bool
 behindBy lines k =
     pick (eqb k 0) (not (eqb (number lines 0) 0)) (eqb (number lines 0) 0 || any (λ n. not (eqb n 0)) (drop (suc k) lines))
@@ -65,17 +64,6 @@ misplacedBy lines all k v = behindBy lines k || turnBy lines all k v
 
 abbrev pub lateBy : List ℕ → ℕ → List ℕ → Bool
 lateBy all k v = eqb k (kindO .order) && ltb (number all 1) (number v 1)
-
-abbrev pub notAboveBy : List ℕ → Row → ℕ → List ℕ → Bool
-notAboveBy all r n v = not (eqb n 0) && not (lexb (take (r .key) (drop (r .base + (n - 1) * r .width) all)) (take (r .key) v))
-
--- n lines of the row stand in an array of so many numbers
-pub record RowFits (r : Row) (n len : ℕ) : Type 0 where
-  pub narrow : r .width ≤ 8
-  pub key-inside : r .key ≤ r .width
-  pub few : n ≤ 256
-  pub low : r .base ≤ 100000
-  pub inside : r .base + n * r .width ≤ len
 
 -- lines that are in shape and pass stand in the array, with these counts
 pub record Stored (before : List Line) (lines all : List ℕ) : Type 0 where

@@ -4,11 +4,12 @@ ghost use mathlib.Core.Path.{_≡_};
 ghost use mathlib.Core.List.{map};
 ghost use Prim.Native.Nat.{_+_, _≤_, _<_};
 ghost use lib.Dec.{ltb, eqb};
-ghost use lib.ListN.{length, getD, take};
+ghost use lib.ListN.{length, getD, take, drop};
 ghost use Rattle.sheet.specs.Lists.{pick, number};
+ghost use Rattle.sheet.specs.Computed.{lexb};
 ghost use Rattle.sheet.specs.Sheet.{beyond, outside, unpaired};
 ghost use Rattle.sheet.specs.Store.{kindCount};
-ghost use Rattle.sheet.specs.Inner.{limitAt, pairAt, lineAt, behindBy, turnBy, misplacedBy, UnknownIs, lateBy, notAboveBy, RowFits, Kept, LacksIs, FaultIs};
+ghost use Rattle.sheet.specs.Inner.{limitAt, pairAt, lineAt, behindBy, turnBy, misplacedBy, UnknownIs, lateBy, RowIs, Kept, LacksIs, FaultIs};
 use crate::kinds::ALONE;
 use crate::kinds::C_LINE;
 use crate::kinds::CORRIDOR;
@@ -23,10 +24,8 @@ use crate::kinds::Row;
 use crate::kinds::S_LINE;
 use crate::kinds::W_LINE;
 use crate::kinds::X_LINE;
-use crate::kinds::row_of;
 use crate::seek::Group;
 use crate::seek::holds;
-use crate::seek::is_before;
 
 // Test 3, by the kind: no S line first, a second S, or a line after one of a later kind.
 fn is_behind(lines: &[u32], kind: usize) -> bool
@@ -161,24 +160,39 @@ fn is_late(all: &[u32], kind: usize, values: [u32; 8]) -> bool
     (kind == O_LINE) & (all[1] < values[1])
 }
 
-// Test 5: not above the last of the n lines of its kind.
-fn is_not_above(all: &[u32], row: Row, n: u32, values: [u32; 8]) -> bool
-    requires { ⌜ RowFits row n (length (now all)) ⌝ }
-    ensures { λ r. ⌜ r ≡ notAboveBy (now (all .entry)) row n values ⌝ }
+// Whether the first `key` numbers, at most three, of the row from `at` on stand before those of a line. Each is named: for a loop over them the line's
+// numbers would be written to memory.
+fn is_key_before(all: &[u32], at: usize, key: usize, values: [u32; 8]) -> bool
+    requires { ⌜ (key ≤ 3) × (at + key ≤ length (now all)) ⌝ }
+    ensures { λ r. ⌜ r ≡ lexb (take key (drop at (now (all .entry)))) (take key values) ⌝ }
 {
-    if n == 0 {
+    if key == 0 {
         return false;
     }
-    let at = row.base + (n as usize - 1) * row.width;
-    !is_before(all, at, values, row.key)
+    let a = all[at];
+    if a != values[0] {
+        return a < values[0];
+    }
+    if key == 1 {
+        return false;
+    }
+    let b = all[at + 1];
+    if b != values[1] {
+        return b < values[1];
+    }
+    if key == 2 {
+        return false;
+    }
+    all[at + 2] < values[2]
 }
 
-// The fault of a line after the lines in the array: the number of the first test that it fails, 0 for none.
-pub fn fault_of(lines: &[u32], all: &[u32], kind: usize, values: [u32; 8]) -> u32
-    requires { ⌜ (kind < kindCount) × (Kept (now lines) (now all)) ⌝ }
+// The fault of a line of the row's kind after the lines in the array: the number of the first test that it fails, 0 for none. Test 5, not above the last
+// of the n lines of its kind, is made here: the compiler takes what stands behind six tests for rare, would call it, and would write row and numbers to
+// memory for the call.
+pub fn fault_of(lines: &[u32], all: &[u32], kind: usize, row: Row, values: [u32; 8]) -> u32
+    requires { ⌜ (kind < kindCount) × (Kept (now lines) (now all)) × (RowIs kind row) ⌝ }
     ensures { λ r. ⌜ FaultIs (now (lines .entry)) (now (all .entry)) (lineAt kind values) r ⌝ }
 {
-    let row = row_of(kind);
     let n = lines[kind];
     let limits = row.limits;
     if is_misplaced(lines, all, kind, values) {
@@ -199,7 +213,11 @@ pub fn fault_of(lines: &[u32], all: &[u32], kind: usize, values: [u32; 8]) -> u3
     if is_late(all, kind, values) {
         return 16;
     }
-    if is_not_above(all, row, n, values) {
+    if n == 0 {
+        return 0;
+    }
+    let last = row.base + (n as usize - 1) * row.width;
+    if !is_key_before(all, last, row.key, values) {
         return 5;
     }
     0

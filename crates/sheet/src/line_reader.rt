@@ -3,8 +3,7 @@
 ghost use mathlib.Core.Path.{_≡_};
 ghost use Prim.Native.Nat.{_+_, _<_, _^_};
 ghost use Rattle.sheet.specs.LineEnds.{EndIs, EndsAt, opened, goneOn};
-use crate::bytes::LINE_FEED;
-use crate::bytes::until;
+use crate::bytes::feed_from;
 
 pub struct LineReader<'a> {
     pub src: &'a [u8],
@@ -25,7 +24,7 @@ pub fn end_at(src: &[u8], at: usize) -> LineEnd
     if src.len() <= at {
         return LineEnd::Over;
     }
-    let e = until(src, at, LINE_FEED);
+    let e = feed_from(src, at);
     if e == src.len() {
         return LineEnd::Missing;
     }

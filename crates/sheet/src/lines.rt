@@ -2,15 +2,15 @@
 ghost use mathlib.Core.Bool.{false};
 ghost use mathlib.Core.Path.{_≡_};
 ghost use Prim.Native.Nat.{_≤_, _<_};
+ghost use lib.Dec.{eqb};
 ghost use lib.ListN.{length};
 ghost use Rattle.sheet.specs.Bytes.{comma};
 ghost use Rattle.sheet.specs.Lines.{numbersOf};
-ghost use Rattle.sheet.specs.Inner.{partsFrom, asNumbers, positionOf, DigitsAre, FieldIs};
+ghost use Rattle.sheet.specs.Inner.{spanOf, partsFrom, asNumbers, positionOf, DigitsAre, FieldIs};
 ghost use Rattle.sheet.specs.Forms.{SomeForms, LineIs};
 use crate::bytes::COMMA;
 use crate::bytes::DIGIT;
 use crate::bytes::kind_of;
-use crate::bytes::until;
 
 // The field of a line from some position on: ok where it is read, then with its end and its value.
 pub struct Field {
@@ -49,7 +49,7 @@ fn digits_from(line: &[u8], at: usize, most: usize) -> Field
                 value,
             };
         }
-        value = value * 10 + (b as u32 - 48);
+        value = value * 10 + (b - 48) as u32;
         i += 1;
     }
     Field {
@@ -143,12 +143,28 @@ fn position(letters: &[u8], c: u8) -> usize
     found
 }
 
+// Whether the first field of l is one byte: nothing past the first two bytes is looked at.
+fn is_letter_first(l: &[u8]) -> bool
+    ensures { λ r. ⌜ r ≡ eqb (spanOf comma (now (l .entry))) 1 ⌝ }
+{
+    if l.len() == 0 {
+        return false;
+    }
+    if kind_of(l[0]) == COMMA {
+        return false;
+    }
+    if l.len() == 1 {
+        return true;
+    }
+    kind_of(l[1]) == COMMA
+}
+
 // The line that the bytes of l are, without a line feed, among lines with these letters and counts of numbers of at most `most` digits.
 pub fn line_in(l: &[u8], letters: &[u8], widths: &[usize], most: usize) -> Parsed
     requires { ⌜ (SomeForms (now letters) (now widths)) × (most ≤ 8) ⌝ }
     ensures { λ r. ⌜ LineIs most (now (letters .entry)) (now (widths .entry)) (now (l .entry)) r ⌝ }
 {
-    if until(l, 0, COMMA) != 1 {
+    if !is_letter_first(l) {
         return bad_line();
     }
     let k = position(letters, l[0]);

@@ -16,7 +16,7 @@ pub struct Group {
 }
 
 // Whether the n numbers of a from `at` on stand before the first n of b.
-pub fn is_before(a: &[u32], at: usize, b: [u32; 8], n: usize) -> bool
+fn is_before(a: &[u32], at: usize, b: [u32; 8], n: usize) -> bool
     requires { ⌜ (n ≤ 8) × (at + n ≤ length (now a)) ⌝ }
     ensures { λ r. ⌜ r ≡ lexb (take n (drop at (now (a .entry)))) (take n b) ⌝ }
 {

@@ -36,11 +36,11 @@ pub fn take_line(lines: &mut [u32], all: &mut [u32], kind: usize, v: [u32; 8]) -
     requires { ⌜ (kind < kindCount) × (Kept (now lines) (now all)) ⌝ }
     ensures { λ r. ⌜ Takes (now (lines .entry)) (now (all .entry)) (lineAt kind v) (now (lines .exit)) (now (all .exit)) r ⌝ }
 {
-    let f = fault_of(lines, all, kind, v);
+    let row = row_of(kind);
+    let f = fault_of(lines, all, kind, row, v);
     if f != 0 {
         return f;
     }
-    let row = row_of(kind);
     let n = lines[kind];
     let at = row.base + n as usize * row.width;
     store(all, at, v, row.width);

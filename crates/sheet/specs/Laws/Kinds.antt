@@ -35,6 +35,9 @@ most-small k h = leb-true (kindAt k .most) 256 (kinds-all (λ j. leb (j .most) 2
 pub key-inside : (k : ℕ) → k < kindCount → kindAt k .key ≤ width (kindAt k)
 key-inside k h = leb-true (kindAt k .key) (width (kindAt k)) (kinds-all (λ j. leb (j .key) (width j)) refl k h)
 
+pub key-small : (k : ℕ) → k < kindCount → kindAt k .key ≤ 3
+key-small k h = leb-true (kindAt k .key) 3 (kinds-all (λ j. leb (j .key) 3) refl k h)
+
 pub order-at : (k : ℕ) → k < kindCount → kindAt k .order ≡ k
 order-at k h = eqb-true (kindAt k .order) k (all-at (λ n j. eqb (j .order) n) kindS kinds refl k h)
 

@@ -75,11 +75,11 @@ low c =
 mul-value : tie.Need-mul-value Inv-loop μ-loop
 mul-value c = omega (arith, low c)
 
-cast-value : tie.Need-cast-value Inv-loop μ-loop
-cast-value c = omega (arith, range c)
-
 sub-value : tie.Need-sub-value Inv-loop μ-loop
 sub-value c = omega (arith, range c)
+
+cast-value : tie.Need-cast-value Inv-loop μ-loop
+cast-value c = omega (arith, range c)
 
 add-value : tie.Need-add-value Inv-loop μ-loop
 add-value c = omega (arith, range c, low c)
@@ -124,8 +124,8 @@ digits-from-spec =
     kind-of-requires
     returns-2
     mul-value
-    cast-value
     sub-value
+    cast-value
     add-value
     add-i
     loop-less

@@ -2,10 +2,10 @@
 -- Assumes nothing.
 use mathlib.Core.Path.{_≡_, sym, _∙_}
 use native.Mathlib.Omega.{arith}
-use native.Mathlib.Nat.{zero-add}
 use Prim.Native.Nat.{_<_}
 use lib.ListN.{length}
 use borrow.Author.Needs.{needs}
+use borrow.Author.Tests.{eqb-true, eqb-false, not-true, not-false}
 use Rattle.sheet.specs.Bytes.{comma}
 use Rattle.sheet.specs.Inner.{spanOf}
 use Rattle.sheet.specs.Laws.Parts.{span-le}
@@ -13,18 +13,19 @@ use Rattle.sheet.proofs.LineLaws.{forms-widths, line-not-one, line-unkn
 use Rattle.sheet.proofs.lines.line_in.Statement.{statement}
 use Rattle.sheet.proofs.lines.line_in.Tie as tie
 
-until-requires : tie.Need-until-requires
-until-requires c κs = search needs
+is-letter-first-requires : tie.Need-is-letter-first-requires
+is-letter-first-requires c κs = search needs
 
 bad-line-requires : tie.Need-bad-line-requires
 bad-line-requires c κs = search needs
 
 returns : tie.Need-returns
-returns c = line-not-one _ _ _ _ _ (c .bad-line .ensures) (λ e. c .before .if1 .taken (c .before .before .until .ensures ∙ zero-add _ ∙ e))
+returns c =
+    line-not-one _ _ _ _ _ (c .bad-line .ensures) (eqb-false _ 1 (sym (c .before .before .is-letter-first .ensures) ∙ not-true _ (c .before .if1 .taken)))
 
 -- the first field is one byte
 one : (c : tie.Else1) → spanOf comma (c .before .before .before .before .before .args .l .now) ≡ 1
-one c = sym (zero-add _) ∙ sym (c .before .until .ensures) ∙ c .if1 .left
+one c = eqb-true _ 1 (sym (c .before .is-letter-first .ensures) ∙ not-false _ (c .if1 .left))
 
 shared-slice-read-position : tie.Need-shared-slice-read-position
 shared-slice-read-position c = omega (arith, one (c .before), span-le comma (c .before .before .before .before .before .before .args .l .now))
@@ -69,7 +70,7 @@ pub line-in-spec : {M : Type 1} → statement M
 line-in-spec =
     tie.close
     (tie.spec
-    until-requires
+    is-letter-first-requires
     bad-line-requires
     returns
     shared-slice-read-position
