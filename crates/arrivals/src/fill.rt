@@ -22,7 +22,8 @@ use intervals::first_step;
 use intervals::sets::next_in;
 use sheet::Place;
 use sheet::Step;
-ghost use mathlib.Core.Bool.{true};
+ghost use mathlib.Core.Path.{_≡_};
+ghost use mathlib.Core.Bool.{true, false};
 ghost use Prim.Native.Nat.{_+_, _≤_, _<_};
 ghost use lib.ListN.{length};
 ghost use Rattle.arrivals.specs.Inner.Network.{placesOf, caseOf, Vacant};
@@ -138,6 +139,17 @@ pub struct Stepped {
     pub next: u64,
 }
 
+// More rows than there is room for.
+fn crowded(rows: usize) -> Stepped
+    ensures { λ r. ⌜ r ≡ record { ok = false; rows = rows; next = 0 } ⌝ }
+{
+    Stepped {
+        ok: false,
+        rows,
+        next: 0,
+    }
+}
+
 // Fills in step t, where corridors lead to `next` from the rows of the step before.
 pub fn fill_step(
     table: &mut [u32],
@@ -163,11 +175,7 @@ pub fn fill_step(
         let ok = r.ok;
         let m = r.rows;
         if !ok {
-            return Stepped {
-                ok: false,
-                rows: m,
-                next: 0,
-            };
+            return crowded(m);
         }
         onward = led_on(sets, onward, Place(v), n, m);
         n = m;

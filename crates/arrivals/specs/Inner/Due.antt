@@ -13,7 +13,8 @@ use Rattle.sheet.specs.Kinds.{kindO}
 use Rattle.sheet.specs.Store.{partOf}
 use Rattle.sheet.specs.Laws.Decided.{lt-or-le}
 use Rattle.intervals.specs.FirstSteps.{SinceTable}
-use Rattle.intervals.specs.Sets.{Has, Kept, Begun, kept-none, kept-on, has-all}
+use Rattle.intervals.specs.Sets.{Has, Kept, Begun}
+use Rattle.intervals.specs.Laws.Sets.{kept-none, kept-on, has-all}
 use Rattle.arrivals.specs.Rows.{Row, rowAt}
 use Rattle.arrivals.specs.Laws.Rows.{row-kept}
 use Rattle.arrivals.specs.Inner.Rows.{rowsOf, all-at}

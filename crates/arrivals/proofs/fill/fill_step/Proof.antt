@@ -1,14 +1,14 @@
 -- `arrivals::fill::fill_step` meets its contract: the places of the step's set that are free are visited one after another. The loop's invariant: all is
 -- filled in before place v at step t, and v is free, or there is no place left; and what corridors lead to from the rows of this step is in `onward`.
 -- Assumes nothing.
-use mathlib.Core.Path.{_≡_, refl}
+use mathlib.Core.Path.{_≡_, refl, sym, subst}
 use Prim.Native.Nat.{_+_, _-_, _<_}
 use native.Mathlib.Omega.{arith}
 use lib.ListN.{length}
 use borrow.Author.Needs.{needs}
 use borrow.Author.Tests.{not-false, not-true}
 use Rattle.sheet.specs.Laws.Decided.{false-not-true}
-use Rattle.arrivals.specs.Inner.Due.{Lookout, Onward, lookout, lookout-on, onward-none, onward-on}
+use Rattle.arrivals.specs.Inner.Due.{Lookout, Onward, SteppedOn, lookout, lookout-on, onward-none, onward-on}
 use Rattle.arrivals.specs.Inner.Filling.{crowded-step, filled-end, result-done, result-full}
 use Rattle.arrivals.specs.Inner.Network.{caseOf, placesOf, Vacant}
 use Rattle.arrivals.specs.Inner.Settling.{walking-settling}
@@ -44,6 +44,9 @@ visit-requires c κs =
     let e = c .before .before .before .before .before .places-of .ensures in
     (inv .2, omega (arith, e), inv .3 (omega (arith, e)))
 
+crowded-requires : tie.Need-crowded-requires Inv-loop μ-loop
+crowded-requires c κs = search needs
+
 same-length : tie.Need-same-length Inv-loop μ-loop
 same-length c = search needs
 
@@ -52,8 +55,13 @@ same-length-2 c = search needs
 
 returns : tie.Need-returns Inv-loop μ-loop
 returns c =
-    let r = c .before .before .before .before .before .visit .ensures .0 .result in
-    record { result = result-full _ _ _ _ _ (r .room) (crowded-step (r .full (not-true _ (c .if1 .taken)))); index = λ e. absurd (false-not-true refl e); onward = λ e. absurd (false-not-true refl e) }
+    let r = c .before .before .before .before .before .before .visit .ensures .0 .result in
+    subst (SteppedOn _ _ _ _ _) (sym (c .crowded .ensures))
+    (record {
+      result = result-full _ _ _ _ _ (r .room) (crowded-step (r .full (not-true _ (c .before .if1 .taken))));
+      index = λ e. absurd (false-not-true refl e);
+      onward = λ e. absurd (false-not-true refl e);
+    })
 
 led-on-requires : tie.Need-led-on-requires Inv-loop μ-loop
 led-on-requires c κs = let p = c .before .before .before .before .before .before .before .before .before .before .before .before .before .before .before .before .before .before .pre in (omega (arith, c .before .before .before .before .before .before .before .before .before .before .before .places-of .ensures, p .0 .given .places), p .2 .size)
@@ -115,6 +123,7 @@ fill-step-spec =
     next-place-requires
     loop-holds
     visit-requires
+    crowded-requires
     same-length
     same-length-2
     returns

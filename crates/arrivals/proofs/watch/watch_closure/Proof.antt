@@ -4,7 +4,7 @@ use mathlib.Core.Path.{ap, _∙_}
 use Prim.Native.Nat.{ℕ, _+_}
 use native.Mathlib.Omega.{arith}
 use borrow.Author.Needs.{needs}
-use Rattle.intervals.specs.Sets.{kept-none, added-as}
+use Rattle.intervals.specs.Laws.Sets.{kept-none, added-as}
 use Rattle.arrivals.proofs.watch.watch_closure.Statement.{statement}
 use Rattle.arrivals.proofs.watch.watch_closure.Tie as tie
 

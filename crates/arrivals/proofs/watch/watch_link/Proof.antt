@@ -5,7 +5,7 @@ use mathlib.Core.Logic.{inl, inr}
 use Prim.Native.Nat.{ℕ, _+_}
 use native.Mathlib.Omega.{arith}
 use borrow.Author.Needs.{needs}
-use Rattle.intervals.specs.Sets.{kept-on, added-as}
+use Rattle.intervals.specs.Laws.Sets.{kept-on, added-as}
 use Rattle.arrivals.proofs.watch.watch_link.Statement.{statement}
 use Rattle.arrivals.proofs.watch.watch_link.Tie as tie
 

@@ -1,7 +1,7 @@
 -- `intervals::sets::add` meets its contract.
 -- Assumes nothing.
 use borrow.Author.Needs.{needs}
-use Rattle.intervals.specs.Sets.{added-one}
+use Rattle.intervals.specs.Laws.Sets.{added-one}
 use Rattle.intervals.proofs.sets.add.Statement.{statement}
 use Rattle.intervals.proofs.sets.add.Tie as tie
 

@@ -4,7 +4,7 @@ use Prim.Native.Nat.{_/_, _^_}
 use native.Mathlib.Omega.{arith}
 use borrow.Author.Needs.{needs}
 use lib.Count.{trailing-le}
-use Rattle.intervals.specs.Sets.{next-in}
+use Rattle.intervals.specs.Laws.Sets.{next-in}
 use Rattle.intervals.proofs.sets.next_in.Statement.{statement}
 use Rattle.intervals.proofs.sets.next_in.Tie as tie
 

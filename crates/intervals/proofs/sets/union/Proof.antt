@@ -1,6 +1,6 @@
 -- `intervals::sets::union` meets its contract.
 -- Assumes nothing.
-use Rattle.intervals.specs.Sets.{has-left, has-right}
+use Rattle.intervals.specs.Laws.Sets.{has-left, has-right}
 use Rattle.intervals.proofs.sets.union.Statement.{statement}
 use Rattle.intervals.proofs.sets.union.Tie as tie
 
