@@ -161,7 +161,7 @@ pub record Orderable (n : ℕ) (xs : List ℕ) (g : Gap) : Type 0 where
 
 -- and with row n, if that is one of the goal's
 pub record OrderedIn (n : ℕ) (xs ys : List ℕ) (g r : Gap) : Type 0 where
-  pub of : (v : ℕ) (counting base : List ℕ) → Ordering v counting n base xs g → isGoalRow v counting (rowAt xs n) ≡ true → Ordering v counting (n + 1) base ys r
+  pub of : (v : ℕ) (told base : List ℕ) → Ordering v told n base xs g → isGoalRow v told (rowAt xs n) ≡ true → Ordering v told (n + 1) base ys r
 
 -- none of the rows from row `from` to row r is the goal's
 pub record NoGoal (v : ℕ) (counting : List ℕ) (from : ℕ) (xs : List ℕ) (r : ℕ) : Type 0 where
