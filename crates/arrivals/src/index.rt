@@ -6,8 +6,7 @@ ghost use mathlib.Core.Path.{_≡_};
 ghost use mathlib.Core.Logic.{_⊎_};
 ghost use Prim.Native.Nat.{_<_, _≤_};
 ghost use lib.ListN.{length};
-ghost use Rattle.arrivals.specs.Inner.Index.{roomOf, lowOf, highOf, newestOf, Older, NotedAs};
-ghost use Rattle.arrivals.specs.Inner.Settling.{Regrouped};
+ghost use Rattle.arrivals.specs.Inner.Index.{roomOf, groupAt, lowOf, highOf, newestOf, Older, Regrouped, NotedAs};
 
 // The index: from 0 the step past the rows of each place; then, for each step and place, the first row and the row past the last, with the step before. Its
 // length for steps below 16, below 64 and below 256.
@@ -25,12 +24,20 @@ pub struct Span {
     pub hi: usize,
 }
 
+// Where the numbers of place v and step s stand.
+fn group_at(v: Place, s: Step) -> usize
+    requires { ⌜ (v .0 < 64) × (s .0 ≤ 255) ⌝ }
+    ensures { λ r. ⌜ r ≡ groupAt (s .0) (v .0) ⌝ }
+{
+    GROUPS + (s.0 as usize * 64 + v.0 as usize) * 2
+}
+
 // The rows of place v and step s.
 pub fn group(ix: &[u32], v: Place, s: Step) -> Span
     requires { ⌜ (v .0 < 64) × (s .0 ≤ 255) × (roomOf (s .0) ≤ length (now ix)) ⌝ }
     ensures { λ r. ⌜ (r .lo ≡ lowOf (now (ix .entry)) (s .0) (v .0)) × (r .hi ≡ highOf (now (ix .entry)) (s .0) (v .0)) ⌝ }
 {
-    let at = GROUPS + (s.0 as usize * 64 + v.0 as usize) * 2;
+    let at = group_at(v, s);
     Span {
         lo: wide(ix[at]),
         hi: wide(ix[at + 1] / 512),
@@ -50,7 +57,7 @@ pub fn older(ix: &[u32], v: Place, s: Step) -> Step
     requires { ⌜ (v .0 < 64) × (s .0 ≤ 255) × (roomOf (s .0) ≤ length (now ix)) ⌝ }
     ensures { λ r. ⌜ Older (now (ix .entry)) (s .0) (v .0) (r .0) ⌝ }
 {
-    let at = GROUPS + (s.0 as usize * 64 + v.0 as usize) * 2;
+    let at = group_at(v, s);
     let packed = ix[at + 1];
     if ix[at] < packed / 512 {
         return Step(packed % 512);
@@ -70,24 +77,22 @@ pub fn latest(ix: &[u32], v: Place, t: Step) -> Step
     t
 }
 
-// Notes the rows of a span as those of place v and step s.
-pub fn note(ix: &mut [u32], span: Span, v: Place, s: Step)
-    requires { ⌜ (v .0 < 64) × (s .0 ≤ 255) × (roomOf (s .0) ≤ length (now ix)) × (span .lo ≤ span .hi) × (span .hi ≤ 8388607) ⌝ }
-    ensures { λ _. ⌜ NotedAs (now (ix .entry)) (now (ix .exit)) (span .lo) (span .hi) (s .0) (v .0) ⌝ }
-{
-    let b = latest(ix, v, s);
-    ix[v.0 as usize] = s.0 + 1;
-    let at = GROUPS + (s.0 as usize * 64 + v.0 as usize) * 2;
-    ix[at] = span.lo as u32;
-    ix[at + 1] = span.hi as u32 * 512 + b.0;
-}
-
 // Makes the rows of a span those of place v and step s, before which the rows of v begin below step `back`.
 pub fn regroup(ix: &mut [u32], span: Span, v: Place, s: Step, back: Step)
     requires { ⌜ (v .0 < 64) × (s .0 ≤ 255) × (roomOf (s .0) ≤ length (now ix)) × (span .hi ≤ 8388607) × (span .lo ≤ span .hi) × (back .0 ≤ s .0) ⌝ }
     ensures { λ _. ⌜ Regrouped (now (ix .entry)) (now (ix .exit)) (span .lo) (span .hi) (back .0) (s .0) (v .0) ⌝ }
 {
-    let at = GROUPS + (s.0 as usize * 64 + v.0 as usize) * 2;
+    let at = group_at(v, s);
     ix[at] = span.lo as u32;
     ix[at + 1] = span.hi as u32 * 512 + back.0;
+}
+
+// Notes the rows of a span as those of place v and step s, its newest.
+pub fn note(ix: &mut [u32], span: Span, v: Place, s: Step)
+    requires { ⌜ (v .0 < 64) × (s .0 ≤ 255) × (roomOf (s .0) ≤ length (now ix)) × (span .lo ≤ span .hi) × (span .hi ≤ 8388607) ⌝ }
+    ensures { λ _. ⌜ NotedAs (now (ix .entry)) (now (ix .exit)) (span .lo) (span .hi) (s .0) (v .0) ⌝ }
+{
+    let back = latest(ix, v, s);
+    ix[v.0 as usize] = s.0 + 1;
+    regroup(ix, span, v, s, back);
 }

@@ -12,8 +12,12 @@ use intervals::sets::add_begins;
 use intervals::sets::union;
 use sheet::Place;
 use sheet::Step;
+ghost use mathlib.Core.Path.{_≡_};
+ghost use mathlib.Core.Bool.{not};
 ghost use Prim.Native.Nat.{_<_, _≤_};
+ghost use lib.Dec.{eqb};
 ghost use lib.ListN.{length};
+ghost use Rattle.sheet.specs.Lists.{number};
 ghost use Rattle.sheet.specs.Store.{SomeStore};
 ghost use Rattle.arrivals.specs.Inner.Network.{netRoom, countOf, closuresOf, closureOf};
 ghost use Rattle.arrivals.specs.Inner.Lent.{Linked, Closing};
@@ -105,6 +109,7 @@ pub fn led_on(sets: &[u64], next: u64, v: Place, n: usize, m: usize) -> u64
 // Is waiting dearer somewhere than where a corridor comes from?
 pub fn is_somewhere_dear(sets: &[u64]) -> bool
     requires { ⌜ 323 ≤ length (now sets) ⌝ }
+    ensures { λ r. ⌜ r ≡ not (eqb (number (now (sets .entry)) 322) 0) ⌝ }
 {
     sets[ALWAYS] != 0
 }

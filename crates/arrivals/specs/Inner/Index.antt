@@ -1,5 +1,5 @@
 -- Where the rows of each step and place stand: for place v, at v, one more than the last step at which v has rows; for step s and place v, at
--- 64 + (s * 64 + v) * 2, the first row; next to it the row past the last, times 512, and one more than the last step before s at which v has rows. So the
+-- groupAt s v, the first row; next to it the row past the last, times 512, and one more than the last step before s at which v has rows. So the
 -- steps up to s take the first roomOf s numbers. Rows for which a later row of their place stands may be left out: Covers says for which (document 02, E8;
 -- the search: live rows).
 use mathlib.Core.Path.{_≡_, refl, sym, ap, ap₂, _∙_, subst}
@@ -23,17 +23,21 @@ use Rattle.arrivals.specs.Inner.Filling.{Grown}
 abbrev pub roomOf : ℕ → ℕ
 roomOf s = 64 + (s + 1) * 128
 
+-- where the numbers of step s and place v stand
+abbrev pub groupAt : ℕ → ℕ → ℕ
+groupAt s v = 64 + (s * 64 + v) * 2
+
 abbrev pub newestOf : List ℕ → ℕ → ℕ
 newestOf ix v = getD ix v 0
 
 abbrev pub lowOf : List ℕ → ℕ → ℕ → ℕ
-lowOf ix s v = getD ix (64 + (s * 64 + v) * 2) 0
+lowOf ix s v = getD ix (groupAt s v) 0
 
 abbrev pub highOf : List ℕ → ℕ → ℕ → ℕ
-highOf ix s v = getD ix (64 + (s * 64 + v) * 2 + 1) 0 / 512
+highOf ix s v = getD ix (groupAt s v + 1) 0 / 512
 
 abbrev pub backOf : List ℕ → ℕ → ℕ → ℕ
-backOf ix s v = getD ix (64 + (s * 64 + v) * 2 + 1) 0 % 512
+backOf ix s v = getD ix (groupAt s v + 1) 0 % 512
 
 -- row i, which is r, is one of its group as the index has it
 abbrev pub InGroup : List ℕ → ℕ → Row → Type 0
@@ -125,16 +129,25 @@ row-newest-in {xs} {n} {ix} w r m = let f = rows-find xs n m in subst (λ (q : R
 pub none-after : {xs : List ℕ} {n : ℕ} {ix : List ℕ} {t : ℕ} → Indexed xs n ix t → (u f : ℕ) → newestOf ix u ≤ f → (r : Row) → In r (rowsOf xs n) → r .place ≡ u → r .step < f
 none-after {xs} {n} {ix} w u f l r m e = omega (arith, subst (λ (v : ℕ). r .step < newestOf ix v) e (row-newest-in w r m))
 
--- what noting the rows from lo to hi as those of step s and place v makes of an index
-pub record Noted (ix iy : List ℕ) (lo hi s v b : ℕ) : Type 0 where
+-- the group of step s and place v becomes the rows from lo to hi, and those of v before it begin below step b; no other group is changed
+pub record Grouped (ix iy : List ℕ) (lo hi b s v : ℕ) : Type 0 where
   pub size : length iy ≡ length ix
   pub low : lowOf iy s v ≡ lo
   pub high : highOf iy s v ≡ hi
   pub back : backOf iy s v ≡ b
-  pub newest : newestOf iy v ≡ s + 1
   pub lows : (r u : ℕ) → r ≤ 255 → u < 64 → (r ≡ s → u ≡ v → ⊥) → lowOf iy r u ≡ lowOf ix r u
   pub highs : (r u : ℕ) → r ≤ 255 → u < 64 → (r ≡ s → u ≡ v → ⊥) → highOf iy r u ≡ highOf ix r u
   pub backs : (r u : ℕ) → r ≤ 255 → u < 64 → (r ≡ s → u ≡ v → ⊥) → backOf iy r u ≡ backOf ix r u
+
+-- the same, and nothing else is changed
+pub record Regrouped (ix iy : List ℕ) (lo hi b s v : ℕ) : Type 0 where
+  pub group : Grouped ix iy lo hi b s v
+  pub rest : (j : ℕ) → j < 64 → getD iy j 0 ≡ getD ix j 0
+
+-- the same, as the newest rows of v
+pub record Noted (ix iy : List ℕ) (lo hi s v b : ℕ) : Type 0 where
+  pub group : Grouped ix iy lo hi b s v
+  pub newest : newestOf iy v ≡ s + 1
   pub newests : (u : ℕ) → u < 64 → (u ≡ v → ⊥) → newestOf iy u ≡ newestOf ix u
 
 pub record NotedAs (ix iy : List ℕ) (lo hi s v : ℕ) : Type 0 where
@@ -144,49 +157,66 @@ pub record NotedAs (ix iy : List ℕ) (lo hi s v : ℕ) : Type 0 where
   pub noted : Noted ix iy lo hi s v last
 
 -- the numbers of two groups are apart
-pub odd-even : (a b : ℕ) → 64 + a * 2 + 1 ≡ 64 + b * 2 → ⊥
+odd-even : (a b : ℕ) → 64 + a * 2 + 1 ≡ 64 + b * 2 → ⊥
 odd-even a b e = omega arith
 
-pub one-group : (r u s v : ℕ) → u < 64 → v < 64 → r * 64 + u ≡ s * 64 + v → (r ≡ s) × (u ≡ v)
+one-group : (r u s v : ℕ) → u < 64 → v < 64 → r * 64 + u ≡ s * 64 + v → (r ≡ s) × (u ≡ v)
 one-group r u s v l m e = (omega arith, omega arith)
 
-pub noted : (ix : List ℕ) (lo hi s v b : ℕ) → s ≤ 255 → v < 64 → b ≤ s → roomOf s ≤ length ix → Noted ix (set (set (set ix v (s + 1)) (64 + (s * 64 + v) * 2) lo) (64 + (s * 64 + v) * 2 + 1) (hi * 512 + b)) lo hi s v b
-noted ix lo hi s v b l m bs size =
-    record {
-      size = simp length-set (omega arith);
-      low = skip3 (64 + (s * 64 + v) * 2) (λ e. odd-even (s * 64 + v) (s * 64 + v) (sym e)) ∙ getD-set-same i1 (64 + (s * 64 + v) * 2) lo 0 (simp length-set (omega arith));
-      high = omega (arith, packed);
-      back = omega (arith, packed);
-      newest = skip3 v (λ e. omega arith) ∙ skip2 v (λ e. omega arith) ∙ getD-set-same ix v (s + 1) 0 (omega arith);
-      lows = λ r u a c n. skip3 (64 + (r * 64 + u) * 2) (λ e. odd-even (s * 64 + v) (r * 64 + u) (sym e)) ∙ skip2 (64 + (r * 64 + u) * 2) (λ e. apart r u c n (omega arith)) ∙ skip1 (64 + (r * 64 + u) * 2) (λ e. omega arith);
-      highs = λ r u a c n. ap (λ (x : ℕ). x / 512) (cell r u a c n);
-      backs = λ r u a c n. ap (λ (x : ℕ). x % 512) (cell r u a c n);
-      newests = λ u c n. skip3 u (λ e. omega arith) ∙ skip2 u (λ e. omega arith) ∙ skip1 u (λ e. n (omega arith));
-    }
+pub regrouped : (ix : List ℕ) (at lo hi b s v : ℕ) → at ≡ groupAt s v → s ≤ 255 → v < 64 → b < 512 → roomOf s ≤ length ix
+    → Regrouped ix (set (set ix at lo) (at + 1) (hi * 512 + b)) lo hi b s v
+regrouped ix at lo hi b s v is l m bs size =
+    subst (λ (i : ℕ). Regrouped ix (set (set ix i lo) (i + 1) (hi * 512 + b)) lo hi b s v) (sym is)
+    (record {
+      group = record {
+        size = simp length-set (omega arith);
+        low = skip2 (groupAt s v) (λ e. odd-even (s * 64 + v) (s * 64 + v) (sym e)) ∙ getD-set-same ix (groupAt s v) lo 0 (omega arith);
+        high = omega (arith, packed);
+        back = omega (arith, packed);
+        lows = λ r u a c n. skip2 (groupAt r u) (λ e. odd-even (s * 64 + v) (r * 64 + u) (sym e)) ∙ skip1 (groupAt r u) (λ e. apart r u c n (omega arith));
+        highs = λ r u a c n. ap (λ (x : ℕ). x / 512) (cell r u a c n);
+        backs = λ r u a c n. ap (λ (x : ℕ). x % 512) (cell r u a c n);
+      };
+      rest = λ j c. skip2 j (λ e. omega arith) ∙ skip1 j (λ e. omega arith);
+    })
   where
     i1 : List ℕ
-    i1 = set ix v (s + 1)
+    i1 = set ix (groupAt s v) lo
 
-    i2 : List ℕ
-    i2 = set i1 (64 + (s * 64 + v) * 2) lo
+    packed : getD (set i1 (groupAt s v + 1) (hi * 512 + b)) (groupAt s v + 1) 0 ≡ hi * 512 + b
+    packed = getD-set-same i1 (groupAt s v + 1) (hi * 512 + b) 0 (simp length-set (omega arith))
 
-    packed : getD (set i2 (64 + (s * 64 + v) * 2 + 1) (hi * 512 + b)) (64 + (s * 64 + v) * 2 + 1) 0 ≡ hi * 512 + b
-    packed = getD-set-same i2 (64 + (s * 64 + v) * 2 + 1) (hi * 512 + b) 0 (simp length-set (omega arith))
+    skip1 : (j : ℕ) → (j ≡ groupAt s v → ⊥) → getD i1 j 0 ≡ getD ix j 0
+    skip1 j n = getD-set-other ix (groupAt s v) j lo 0 n
 
-    skip1 : (j : ℕ) → (j ≡ v → ⊥) → getD i1 j 0 ≡ getD ix j 0
-    skip1 j n = getD-set-other ix v j (s + 1) 0 n
-
-    skip2 : (j : ℕ) → (j ≡ 64 + (s * 64 + v) * 2 → ⊥) → getD i2 j 0 ≡ getD i1 j 0
-    skip2 j n = getD-set-other i1 (64 + (s * 64 + v) * 2) j lo 0 n
-
-    skip3 : (j : ℕ) → (j ≡ 64 + (s * 64 + v) * 2 + 1 → ⊥) → getD (set i2 (64 + (s * 64 + v) * 2 + 1) (hi * 512 + b)) j 0 ≡ getD i2 j 0
-    skip3 j n = getD-set-other i2 (64 + (s * 64 + v) * 2 + 1) j (hi * 512 + b) 0 n
+    skip2 : (j : ℕ) → (j ≡ groupAt s v + 1 → ⊥) → getD (set i1 (groupAt s v + 1) (hi * 512 + b)) j 0 ≡ getD i1 j 0
+    skip2 j n = getD-set-other i1 (groupAt s v + 1) j (hi * 512 + b) 0 n
 
     apart : (r u : ℕ) → u < 64 → (r ≡ s → u ≡ v → ⊥) → r * 64 + u ≡ s * 64 + v → ⊥
     apart r u c n e = let z = one-group r u s v c m e in n (z .0) (z .1)
 
-    cell : (r u : ℕ) → r ≤ 255 → u < 64 → (r ≡ s → u ≡ v → ⊥) → getD (set i2 (64 + (s * 64 + v) * 2 + 1) (hi * 512 + b)) (64 + (r * 64 + u) * 2 + 1) 0 ≡ getD ix (64 + (r * 64 + u) * 2 + 1) 0
-    cell r u a c n = skip3 (64 + (r * 64 + u) * 2 + 1) (λ e. apart r u c n (omega arith)) ∙ skip2 (64 + (r * 64 + u) * 2 + 1) (λ e. odd-even (r * 64 + u) (s * 64 + v) e) ∙ skip1 (64 + (r * 64 + u) * 2 + 1) (λ e. omega arith)
+    cell : (r u : ℕ) → r ≤ 255 → u < 64 → (r ≡ s → u ≡ v → ⊥) → getD (set i1 (groupAt s v + 1) (hi * 512 + b)) (groupAt r u + 1) 0 ≡ getD ix (groupAt r u + 1) 0
+    cell r u a c n = skip2 (groupAt r u + 1) (λ e. apart r u c n (omega arith)) ∙ skip1 (groupAt r u + 1) (λ e. odd-even (r * 64 + u) (s * 64 + v) e)
+
+-- regrouped after the newest step of v is noted
+pub noted : (ix iy : List ℕ) (lo hi b s v : ℕ) → v < 64 → 64 ≤ length ix → Regrouped (set ix v (s + 1)) iy lo hi b s v → Noted ix iy lo hi s v b
+noted ix iy lo hi b s v m size d =
+    record {
+      group = record {
+        size = d .group .size ∙ length-set ix v (s + 1);
+        low = d .group .low;
+        high = d .group .high;
+        back = d .group .back;
+        lows = λ r u a c n. d .group .lows r u a c n ∙ other (groupAt r u) (omega arith);
+        highs = λ r u a c n. d .group .highs r u a c n ∙ ap (λ (x : ℕ). x / 512) (other (groupAt r u + 1) (omega arith));
+        backs = λ r u a c n. d .group .backs r u a c n ∙ ap (λ (x : ℕ). x % 512) (other (groupAt r u + 1) (omega arith));
+      };
+      newest = d .rest v m ∙ getD-set-same ix v (s + 1) 0 (omega arith);
+      newests = λ u c n. d .rest u c ∙ getD-set-other ix v u (s + 1) 0 n;
+    }
+  where
+    other : (j : ℕ) → 64 ≤ j → getD (set ix v (s + 1)) j 0 ≡ getD ix j 0
+    other j l = getD-set-other ix v j (s + 1) 0 (λ e. omega arith)
 
 -- a row covers itself, where it is listed
 pub cover-own : {xs : List ℕ} {n : ℕ} {ix : List ℕ} {t : ℕ} {w : Cost} (i : ℕ) → i < n → Listed ix xs i → Cover xs n ix t w i
@@ -235,17 +265,17 @@ module _ (xs ys : List ℕ) (n m : ℕ) (ix iy : List ℕ) (t v b : ℕ) (w : In
   not-here i l e f = let z = old-step i l f in omega arith
 
   not-order : (s u : ℕ) → s ≤ 255 → u < 64 → ((s ≡ t) × (u ≡ v)) ⊎ (s ≡ t → u ≡ v → ⊥) → (lowOf iy s u ≤ highOf iy s u) × (highOf iy s u ≤ m)
-  not-order s u a c (inl e) = subst (λ (y : ℕ). (lowOf iy y u ≤ highOf iy y u) × (highOf iy y u ≤ m)) (sym (e .0)) (subst (λ (y : ℕ). (lowOf iy t y ≤ highOf iy t y) × (highOf iy t y ≤ m)) (sym (e .1)) (omega (arith, d .low, d .high, g .more), omega (arith, d .high)))
-  not-order s u a c (inr e) = let o = w .order s u a c in let x = d .lows s u a c e in let y = d .highs s u a c e in (omega (arith, o .0), omega (arith, o .1, g .more))
+  not-order s u a c (inl e) = subst (λ (y : ℕ). (lowOf iy y u ≤ highOf iy y u) × (highOf iy y u ≤ m)) (sym (e .0)) (subst (λ (y : ℕ). (lowOf iy t y ≤ highOf iy t y) × (highOf iy t y ≤ m)) (sym (e .1)) (omega (arith, d .group .low, d .group .high, g .more), omega (arith, d .group .high)))
+  not-order s u a c (inr e) = let o = w .order s u a c in let x = d .group .lows s u a c e in let y = d .group .highs s u a c e in (omega (arith, o .0), omega (arith, o .1, g .more))
 
   only-at : (s u i : ℕ) → s ≤ 255 → u < 64 → lowOf iy s u ≤ i → i < highOf iy s u → ((s ≡ t) × (u ≡ v)) ⊎ (s ≡ t → u ≡ v → ⊥) → (rowAt ys i .place ≡ u) × (rowAt ys i .step ≡ s)
   only-at s u i a c l h (inl e) =
       let l′ = subst (λ (y : ℕ). lowOf iy t y ≤ i) (e .1) (subst (λ (y : ℕ). lowOf iy y u ≤ i) (e .0) l) in
       let h′ = subst (λ (y : ℕ). i < highOf iy t y) (e .1) (subst (λ (y : ℕ). i < highOf iy y u) (e .0) h) in
-      let o = g .own i (omega (arith, l′, d .low)) (omega (arith, h′, d .high)) in
+      let o = g .own i (omega (arith, l′, d .group .low)) (omega (arith, h′, d .group .high)) in
       (o .0 ∙ sym (e .1), o .1 ∙ sym (e .0))
   only-at s u i a c l h (inr e) =
-      let x = d .lows s u a c e in let y = d .highs s u a c e in
+      let x = d .group .lows s u a c e in let y = d .group .highs s u a c e in
       let o = w .order s u a c in
       subst (λ (r : Row). (r .place ≡ u) × (r .step ≡ s)) (same-row i (omega (arith, o .1))) (w .only s u i a c (omega arith) (omega arith))
 
@@ -262,26 +292,26 @@ module _ (xs ys : List ℕ) (n m : ℕ) (ix iy : List ℕ) (t v b : ℕ) (w : In
       let z = row-newest w i v l (ap (λ (r : Row). r .place) (same-row i l) ∙ p) in
       let z′ = subst (λ (r : Row). r .step < newestOf ix v) (same-row i l) z in
       let q = old-step i l p in
-      ⊎-elim (λ x. omega (arith, d .back)) (λ x. omega (arith, d .back)) bn
+      ⊎-elim (λ x. omega (arith, d .group .back)) (λ x. omega (arith, d .group .back)) bn
 
   -- an old row is listed as it was
   old-listed : (i : ℕ) → i < n → Listed iy ys i → Listed ix xs i
   old-listed i l g =
       let a : rowAt ys i .step ≤ 255 = omega (arith, old-late i l, w .now) in
-      let x = d .lows (rowAt ys i .step) (rowAt ys i .place) a (old-place i l) (not-here i l) in
-      let y = d .highs (rowAt ys i .step) (rowAt ys i .place) a (old-place i l) (not-here i l) in
+      let x = d .group .lows (rowAt ys i .step) (rowAt ys i .place) a (old-place i l) (not-here i l) in
+      let y = d .group .highs (rowAt ys i .step) (rowAt ys i .place) a (old-place i l) (not-here i l) in
       record { group = subst (InGroup ix i) (sym (same-row i l)) (omega (arith, g .group .0), omega (arith, g .group .1)) }
 
   listed-old : (i : ℕ) → i < n → Listed ix xs i → Listed iy ys i
   listed-old i l g =
       let a : rowAt ys i .step ≤ 255 = omega (arith, old-late i l, w .now) in
-      let x = d .lows (rowAt ys i .step) (rowAt ys i .place) a (old-place i l) (not-here i l) in
-      let y = d .highs (rowAt ys i .step) (rowAt ys i .place) a (old-place i l) (not-here i l) in
+      let x = d .group .lows (rowAt ys i .step) (rowAt ys i .place) a (old-place i l) (not-here i l) in
+      let y = d .group .highs (rowAt ys i .step) (rowAt ys i .place) a (old-place i l) (not-here i l) in
       let h = subst (InGroup ix i) (same-row i l) (g .group) in
       record { group = (omega (arith, h .0), omega (arith, h .1)) }
 
   listed-new : (i : ℕ) → n ≤ i → i < m → Listed iy ys i
-  listed-new i l u = record { group = (own-key (λ s w. lowOf iy s w ≤ i) i l u (omega (arith, d .low)), own-key (λ s w. i < highOf iy s w) i l u (omega (arith, d .high))) }
+  listed-new i l u = record { group = (own-key (λ s w. lowOf iy s w ≤ i) i l u (omega (arith, d .group .low)), own-key (λ s w. i < highOf iy s w) i l u (omega (arith, d .group .high))) }
 
   back-at : (i j : ℕ) → i < m → j < m → Listed iy ys i → Listed iy ys j → rowAt ys i .place ≡ rowAt ys j .place → rowAt ys i .step < rowAt ys j .step
       → rowAt ys i .step < backOf iy (rowAt ys j .step) (rowAt ys j .place)
@@ -291,7 +321,7 @@ module _ (xs ys : List ℕ) (n m : ℕ) (ix iy : List ℕ) (t v b : ℕ) (w : In
       let i-old : i < n = ⊎-elim (λ x. x) (λ x. let o = g .own i x l in absurd (omega (arith, o .1, old-late j lt))) (lt-or-le i n) in
       omega (
         arith,
-        d .backs (rowAt ys j .step) (rowAt ys j .place) (omega (arith, old-late j lt, w .now)) (old-place j lt) (not-here j lt),
+        d .group .backs (rowAt ys j .step) (rowAt ys j .place) (omega (arith, old-late j lt, w .now)) (old-place j lt) (not-here j lt),
         subst (λ (r : Row). rowAt ys i .step < backOf ix (r .step) (r .place)) (same-row j lt)
             (subst (λ (r : Row). r .step < backOf ix (rowAt xs j .step) (rowAt xs j .place)) (same-row i i-old)
             (w .back i j i-old lt (old-listed i i-old gi) (old-listed j lt gj) (ap (λ (r : Row). r .place) (same-row i i-old) ∙ p ∙ sym (ap (λ (r : Row). r .place) (same-row j lt)))
@@ -324,7 +354,7 @@ module _ (xs ys : List ℕ) (n m : ℕ) (ix iy : List ℕ) (t v b : ℕ) (w : In
   pub indexed-more : Indexed ys m iy t
   indexed-more =
       record {
-        size = omega (arith, d .size, w .size);
+        size = omega (arith, d .group .size, w .size);
         now = w .now;
         places = split old-place (λ i l u. let o = g .own i l u in omega (arith, o .0));
         steps = split old-late (λ i l u. let o = g .own i l u in omega (arith, o .1));
@@ -333,7 +363,7 @@ module _ (xs ys : List ℕ) (n m : ℕ) (ix iy : List ℕ) (t v b : ℕ) (w : In
         newest = split (λ i l. newest-at i l (ℕ-discrete (rowAt ys i .place) v)) (λ i l u. own-key (λ s w. s < newestOf iy w) i l u (omega (arith, d .newest)));
         latest = λ u c. latest-at u c (ℕ-discrete u v);
         back = back-at;
-        down = λ s u a c. ⊎-elim (λ e. subst (λ (y : ℕ). backOf iy y u ≤ y) (sym (e .0)) (subst (λ (y : ℕ). backOf iy t y ≤ t) (sym (e .1)) (omega (arith, d .back)))) (λ e. omega (arith, d .backs s u a c e, w .down s u a c)) (key s u);
+        down = λ s u a c. ⊎-elim (λ e. subst (λ (y : ℕ). backOf iy y u ≤ y) (sym (e .0)) (subst (λ (y : ℕ). backOf iy t y ≤ t) (sym (e .1)) (omega (arith, d .group .back)))) (λ e. omega (arith, d .group .backs s u a c e, w .down s u a c)) (key s u);
       }
 
 pub indexed-step : {xs : List ℕ} {n : ℕ} {ix : List ℕ} {t : ℕ} (u : ℕ) → t ≤ u → u ≤ 255 → roomOf u ≤ length ix → Indexed xs n ix t → Indexed xs n ix u
@@ -347,12 +377,12 @@ indexed-none xs n t l m =
       now = m;
       places = λ i b. absurd (omega arith);
       steps = λ i b. absurd (omega arith);
-      order = λ s v a b. (omega (arith, zeros-at n (64 + (s * 64 + v) * 2)), omega (arith, zeros-at n (64 + (s * 64 + v) * 2 + 1)));
-      only = λ s v i a b c d. absurd (omega (arith, zeros-at n (64 + (s * 64 + v) * 2 + 1)));
+      order = λ s v a b. (omega (arith, zeros-at n (groupAt s v)), omega (arith, zeros-at n (groupAt s v + 1)));
+      only = λ s v i a b c d. absurd (omega (arith, zeros-at n (groupAt s v + 1)));
       newest = λ i b. absurd (omega arith);
       latest = λ v b. omega (arith, zeros-at n v);
       back = λ i j b. absurd (omega arith);
-      down = λ s v a b. omega (arith, zeros-at n (64 + (s * 64 + v) * 2 + 1));
+      down = λ s v a b. omega (arith, zeros-at n (groupAt s v + 1));
     }
 
 -- what covers a row covers it at a later step, and after cells that are no row's are changed

@@ -5,12 +5,11 @@ use mathlib.Core.Path.{_≡_, sym, ap, _∙_, subst}
 use mathlib.Core.List.{List}
 use mathlib.Core.Bool.{Bool, false}
 use mathlib.Core.Logic.{_⊎_, inl, inr, ⊎-elim}
-use Prim.Native.Nat.{ℕ, _+_, _*_, _-_, _/_, _%_, _≤_, _<_}
+use Prim.Native.Nat.{ℕ, _+_, _*_, _-_, _≤_, _<_}
 use native.Mathlib.Omega.{arith}
 use native.Mathlib.Decide.{ℕ-discrete}
 use lib.Dec.{ltb}
-use lib.ListN.{length, getD, set, length-set}
-use lib.Seq.{getD-set-same, getD-set-other}
+use lib.ListN.{length, getD}
 use borrow.Author.Tests.{ltb-false}
 use Rattle.sheet.specs.Laws.Decided.{lt-or-le, All}
 use Rattle.costs.specs.Costs.{Cost, add, times, AtMost}
@@ -20,53 +19,10 @@ use Rattle.arrivals.specs.Rows.{Row, rowAt}
 use Rattle.arrivals.specs.Inner.Rows.{rowsOf, all-at, tailOf, tail-find, Bounded}
 use Rattle.arrivals.specs.Inner.Network.{waitIn}
 use Rattle.arrivals.specs.Inner.Offering.{Beaten}
-use Rattle.arrivals.specs.Inner.Index.{roomOf, odd-even, one-group, lowOf, highOf, backOf, Listed, Indexed, Cover, Older, covers-step, row-low, low-row, older-past, lag-sum}
+use Rattle.arrivals.specs.Inner.Index.{roomOf, Regrouped, lowOf, highOf, backOf, Listed, Indexed, Cover, Older, covers-step, row-low, low-row, older-past, lag-sum}
 use Rattle.arrivals.specs.Inner.Due.{Covered}
 use Rattle.arrivals.specs.Inner.Walking.{Walking}
 use Rattle.arrivals.specs.declared.index.Span.{Span}
-
--- the group of step s and place v becomes the rows from lo to hi, and those of v before it begin below step b; nothing else is changed
-pub record Regrouped (ix iy : List ℕ) (lo hi b s v : ℕ) : Type 0 where
-  pub size : length iy ≡ length ix
-  pub low : lowOf iy s v ≡ lo
-  pub high : highOf iy s v ≡ hi
-  pub back : backOf iy s v ≡ b
-  pub lows : (r u : ℕ) → r ≤ 255 → u < 64 → (r ≡ s → u ≡ v → ⊥) → lowOf iy r u ≡ lowOf ix r u
-  pub highs : (r u : ℕ) → r ≤ 255 → u < 64 → (r ≡ s → u ≡ v → ⊥) → highOf iy r u ≡ highOf ix r u
-  pub backs : (r u : ℕ) → r ≤ 255 → u < 64 → (r ≡ s → u ≡ v → ⊥) → backOf iy r u ≡ backOf ix r u
-  pub rest : (j : ℕ) → j < 64 → getD iy j 0 ≡ getD ix j 0
-
-pub regrouped : (ix : List ℕ) (lo hi b s v : ℕ) → s ≤ 255 → v < 64 → b < 512 → roomOf s ≤ length ix
-    → Regrouped ix (set (set ix (64 + (s * 64 + v) * 2) lo) (64 + (s * 64 + v) * 2 + 1) (hi * 512 + b)) lo hi b s v
-regrouped ix lo hi b s v l m bs size =
-    record {
-      size = simp length-set (omega arith);
-      low = skip2 (64 + (s * 64 + v) * 2) (λ e. odd-even (s * 64 + v) (s * 64 + v) (sym e)) ∙ getD-set-same ix (64 + (s * 64 + v) * 2) lo 0 (omega arith);
-      high = omega (arith, packed);
-      back = omega (arith, packed);
-      lows = λ r u a c n. skip2 (64 + (r * 64 + u) * 2) (λ e. odd-even (s * 64 + v) (r * 64 + u) (sym e)) ∙ skip1 (64 + (r * 64 + u) * 2) (λ e. apart r u c n (omega arith));
-      highs = λ r u a c n. ap (λ (x : ℕ). x / 512) (cell r u a c n);
-      backs = λ r u a c n. ap (λ (x : ℕ). x % 512) (cell r u a c n);
-      rest = λ j c. skip2 j (λ e. omega arith) ∙ skip1 j (λ e. omega arith);
-    }
-  where
-    i1 : List ℕ
-    i1 = set ix (64 + (s * 64 + v) * 2) lo
-
-    packed : getD (set i1 (64 + (s * 64 + v) * 2 + 1) (hi * 512 + b)) (64 + (s * 64 + v) * 2 + 1) 0 ≡ hi * 512 + b
-    packed = getD-set-same i1 (64 + (s * 64 + v) * 2 + 1) (hi * 512 + b) 0 (simp length-set (omega arith))
-
-    skip1 : (j : ℕ) → (j ≡ 64 + (s * 64 + v) * 2 → ⊥) → getD i1 j 0 ≡ getD ix j 0
-    skip1 j n = getD-set-other ix (64 + (s * 64 + v) * 2) j lo 0 n
-
-    skip2 : (j : ℕ) → (j ≡ 64 + (s * 64 + v) * 2 + 1 → ⊥) → getD (set i1 (64 + (s * 64 + v) * 2 + 1) (hi * 512 + b)) j 0 ≡ getD i1 j 0
-    skip2 j n = getD-set-other i1 (64 + (s * 64 + v) * 2 + 1) j (hi * 512 + b) 0 n
-
-    apart : (r u : ℕ) → u < 64 → (r ≡ s → u ≡ v → ⊥) → r * 64 + u ≡ s * 64 + v → ⊥
-    apart r u c n e = let z = one-group r u s v c m e in n (z .0) (z .1)
-
-    cell : (r u : ℕ) → r ≤ 255 → u < 64 → (r ≡ s → u ≡ v → ⊥) → getD (set i1 (64 + (s * 64 + v) * 2 + 1) (hi * 512 + b)) (64 + (r * 64 + u) * 2 + 1) 0 ≡ getD ix (64 + (r * 64 + u) * 2 + 1) 0
-    cell r u a c n = skip2 (64 + (r * 64 + u) * 2 + 1) (λ e. apart r u c n (omega arith)) ∙ skip1 (64 + (r * 64 + u) * 2 + 1) (λ e. odd-even (r * 64 + u) (s * 64 + v) e)
 
 -- the rows up to step t and their index, whose listed rows cover them all from step t + 1 on
 pub record Settling (net xs : List ℕ) (n : ℕ) (ix : List ℕ) (t : ℕ) : Type 0 where
@@ -118,10 +74,10 @@ module _ {net xs : List ℕ} {n : ℕ} {ix iy : List ℕ} {t lo hi b s v : ℕ} 
       go (inl (e, f)) =
           subst (λ (y : ℕ). (lowOf ix y u ≤ lowOf iy y u) × (lowOf iy y u ≤ highOf iy y u) × (highOf iy y u ≤ highOf ix y u)) (sym e)
           (subst (λ (y : ℕ). (lowOf ix s y ≤ lowOf iy s y) × (lowOf iy s y ≤ highOf iy s y) × (highOf iy s y ≤ highOf ix s y)) (sym f)
-          (omega (arith, g .low), omega (arith, g .low, g .high), omega (arith, g .high)))
+          (omega (arith, g .group .low), omega (arith, g .group .low, g .group .high), omega (arith, g .group .high)))
       go (inr n) =
           let o = a .indexed .order r u c d in
-          (omega (arith, g .lows r u c d n), omega (arith, g .lows r u c d n, g .highs r u c d n, o .0), omega (arith, g .highs r u c d n))
+          (omega (arith, g .group .lows r u c d n), omega (arith, g .group .lows r u c d n, g .group .highs r u c d n, o .0), omega (arith, g .group .highs r u c d n))
 
   row-day : (i : ℕ) → i < n → rowAt xs i .step ≤ 255
   row-day i l = omega (arith, a .indexed .steps i l, a .indexed .now)
@@ -134,8 +90,8 @@ module _ {net xs : List ℕ} {n : ℕ} {ix iy : List ℕ} {t lo hi b s v : ℕ} 
   -- a row of another group is listed as it was
   others : (i : ℕ) → i < n → (rowAt xs i .step ≡ s → rowAt xs i .place ≡ v → ⊥) → Listed ix xs i → Listed iy xs i
   others i l m k =
-      let x = g .lows (rowAt xs i .step) (rowAt xs i .place) (row-day i l) (a .indexed .places i l) m in
-      let y = g .highs (rowAt xs i .step) (rowAt xs i .place) (row-day i l) (a .indexed .places i l) m in
+      let x = g .group .lows (rowAt xs i .step) (rowAt xs i .place) (row-day i l) (a .indexed .places i l) m in
+      let y = g .group .highs (rowAt xs i .step) (rowAt xs i .place) (row-day i l) (a .indexed .places i l) m in
       record { group = (omega (arith, k .group .0), omega (arith, k .group .1)) }
 
   back-at : (i j : ℕ) → i < n → j < n → Listed iy xs i → Listed iy xs j → rowAt xs i .place ≡ rowAt xs j .place → rowAt xs i .step < rowAt xs j .step
@@ -145,18 +101,18 @@ module _ {net xs : List ℕ} {n : ℕ} {ix iy : List ℕ} {t lo hi b s v : ℕ} 
       go : ((rowAt xs j .step ≡ s) × (rowAt xs j .place ≡ v)) ⊎ (rowAt xs j .step ≡ s → rowAt xs j .place ≡ v → ⊥) → rowAt xs i .step < backOf iy (rowAt xs j .step) (rowAt xs j .place)
       go (inl (c, d)) =
           subst (λ (y : ℕ). rowAt xs i .step < backOf iy y (rowAt xs j .place)) (sym c)
-          (subst (λ (y : ℕ). rowAt xs i .step < backOf iy s y) (sym d) (omega (arith, g .back, begins i l (fewer i l p) (e ∙ d) (omega arith))))
+          (subst (λ (y : ℕ). rowAt xs i .step < backOf iy s y) (sym d) (omega (arith, g .group .back, begins i l (fewer i l p) (e ∙ d) (omega arith))))
       go (inr c) =
           omega (
             arith,
-            g .backs (rowAt xs j .step) (rowAt xs j .place) (row-day j m) (a .indexed .places j m) c,
+            g .group .backs (rowAt xs j .step) (rowAt xs j .place) (row-day j m) (a .indexed .places j m) c,
             a .indexed .back i j l m (fewer i l p) (fewer j m q) e f,
           )
 
   indexed : Indexed xs n iy t
   indexed =
       record {
-        size = omega (arith, g .size, a .indexed .size);
+        size = omega (arith, g .group .size, a .indexed .size);
         now = a .indexed .now;
         places = a .indexed .places;
         steps = a .indexed .steps;
@@ -166,8 +122,8 @@ module _ {net xs : List ℕ} {n : ℕ} {ix iy : List ℕ} {t lo hi b s v : ℕ} 
         latest = λ u c. omega (arith, g .rest u c, a .indexed .latest u c);
         back = back-at;
         down = λ r u c d. ⊎-elim
-            (λ e. subst (λ (y : ℕ). backOf iy y u ≤ y) (sym (e .0)) (subst (λ (y : ℕ). backOf iy s y ≤ s) (sym (e .1)) (omega (arith, g .back))))
-            (λ e. omega (arith, g .backs r u c d e, a .indexed .down r u c d))
+            (λ e. subst (λ (y : ℕ). backOf iy y u ≤ y) (sym (e .0)) (subst (λ (y : ℕ). backOf iy s y ≤ s) (sym (e .1)) (omega (arith, g .group .back))))
+            (λ e. omega (arith, g .group .backs r u c d e, a .indexed .down r u c d))
             (key r u);
       }
 
@@ -213,7 +169,7 @@ module _ {net xs : List ℕ} {n : ℕ} {ix iy : List ℕ} {t lo hi b s v : ℕ} 
           ⊎-elim
           (λ before. instead i k p e (stands (k .at) (k .inside) (r .0) (r .1) (inl before)))
           (λ after. ⊎-elim
-          (λ within. kept (low-row xs iy (k .at) s v (omega (arith, g .low)) (omega (arith, g .high)) e (k .place ∙ p)))
+          (λ within. kept (low-row xs iy (k .at) s v (omega (arith, g .group .low)) (omega (arith, g .group .high)) e (k .place ∙ p)))
           (λ past. instead i k p e (stands (k .at) (k .inside) (r .0) (r .1) (inr past)))
           (lt-or-le (k .at) hi))
           (lt-or-le (k .at) lo)
@@ -342,7 +298,7 @@ module _ {xs ix : List ℕ} {v s t : ℕ} {wait : Cost} {back : ℕ} (p : Shorte
     pub shortened : {r : Bool} → r ≡ ltb lo hi → Shortened xs v s t wait back ix iy r
     shortened {r} e =
         record {
-          size = g .size;
+          size = g .group .size;
           of = λ net n q a b.
               let from : lowOf ix s v ≤ lo = omega (arith, f .from) in
               let upto : hi ≤ highOf ix s v = omega (arith, l .upto) in
@@ -353,7 +309,7 @@ module _ {xs ix : List ℕ} {v s t : ℕ} {wait : Cost} {back : ℕ} (p : Shorte
                 fewer = fewer a g day (p .inside) from (l .from) upto (p .down) b dead;
                 none = λ z i m k x y.
                     let c = row-low i s v k y x in
-                    omega (arith, c .0, c .1, g .low, g .high, ltb-false lo hi (sym e ∙ z));
+                    omega (arith, c .0, c .1, g .group .low, g .group .high, ltb-false lo hi (sym e ∙ z));
               };
         }
 

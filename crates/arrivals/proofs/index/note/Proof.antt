@@ -1,5 +1,6 @@
--- `arrivals::index::note` meets its contract.
+-- `arrivals::index::note` meets its contract: the newest step of the place is written, and then the group.
 -- Assumes nothing.
+use mathlib.Core.Path.{_∙_}
 use native.Mathlib.Omega.{arith}
 use lib.ListN.{length-set}
 use borrow.Author.Needs.{needs}
@@ -22,59 +23,17 @@ mul-ix c = search needs
 slice-write-ix : tie.Need-slice-write-ix
 slice-write-ix c = omega (arith, c .before .before .before .before .before .pre .0, c .before .before .before .before .before .pre .2)
 
-cast-at : tie.Need-cast-at
-cast-at c = search needs
-
-mul-at : tie.Need-mul-at
-mul-at c = search needs
-
-cast-at-2 : tie.Need-cast-at-2
-cast-at-2 c = search needs
-
-add-at : tie.Need-add-at
-add-at c = search needs
-
-mul-at-2 : tie.Need-mul-at-2
-mul-at-2 c = search needs
-
-add-at-2 : tie.Need-add-at-2
-add-at-2 c = search needs
-
-cast-ix-2 : tie.Need-cast-ix-2
-cast-ix-2 c = search needs
-
-mul-ix-2 : tie.Need-mul-ix-2
-mul-ix-2 c = search needs
-
-slice-write-ix-2 : tie.Need-slice-write-ix-2
-slice-write-ix-2 c = let p = c .before .before .before .before .before .before .before .before .pre in simp length-set (omega (arith, p .0, p .2))
-
-cast-ix-3 : tie.Need-cast-ix-3
-cast-ix-3 c = search needs
-
-mul-ix-3 : tie.Need-mul-ix-3
-mul-ix-3 c = search needs
-
-add-ix-2 : tie.Need-add-ix-2
-add-ix-2 c = search needs
-
-add-ix-3 : tie.Need-add-ix-3
-add-ix-3 c = search needs
-
-mul-ix-4 : tie.Need-mul-ix-4
-mul-ix-4 c = search needs
-
-slice-write-ix-3 : tie.Need-slice-write-ix-3
-slice-write-ix-3 c = let p = c .before .before .before .before .before .before .before .before .before .before .pre in simp length-set (omega (arith, p .0, p .2))
+regroup-requires : tie.Need-regroup-requires
+regroup-requires c κs = let p = c .before .before .before .before .before .before .pre in (p .0, p .1, simp length-set (omega (arith, p .2)), p .4, p .3, c .before .before .before .latest .ensures .0)
 
 same-length : tie.Need-same-length
-same-length c = simp length-set
+same-length c = c .before .before .regroup .ensures .group .size ∙ simp length-set
 
 returns : tie.Need-returns
 returns c =
-    let l = c .before .before .before .before .before .before .before .latest in
-    let p = c .before .before .before .before .before .before .before .before .before .before .pre in
-    record { last = l .result .0; most = l .ensures .0; past = l .ensures .1; noted = noted _ _ _ _ _ _ (p .1) (p .0) (l .ensures .0) (p .2) }
+    let l = c .before .before .before .before .before .before .latest in
+    let p = c .before .before .before .before .before .before .before .before .before .pre in
+    record { last = l .result .0; most = l .ensures .0; past = l .ensures .1; noted = noted _ _ _ _ _ _ _ (p .0) (omega (arith, p .2)) (c .before .before .regroup .ensures) }
 
 pub note-spec : {M : Type 1} → statement M
 note-spec =
@@ -85,20 +44,6 @@ note-spec =
     cast-ix
     mul-ix
     slice-write-ix
-    cast-at
-    mul-at
-    cast-at-2
-    add-at
-    mul-at-2
-    add-at-2
-    cast-ix-2
-    mul-ix-2
-    slice-write-ix-2
-    cast-ix-3
-    mul-ix-3
-    add-ix-2
-    add-ix-3
-    mul-ix-4
-    slice-write-ix-3
+    regroup-requires
     same-length
     returns)

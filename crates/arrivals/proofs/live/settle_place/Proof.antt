@@ -124,7 +124,7 @@ loop-again-2 c =
     let e : (c .before .before .before .before .before .before .before .before .before .before .before .before .before .before .before .before .before .loop) .s .0 ≡ (c .before .before .before .before .before .before .before .before .before .before .before .before .before .before .before .before .before .loop) .s .0 - 1 + 1 = omega arith in (
       omega (arith, inv .0),
       inv .1,
-      (c .before .before .regroup) .ensures .size ∙ (c .before .before .before .before .before .before .before .before .before .shorten) .ensures .size ∙ inv .2,
+      (c .before .before .regroup) .ensures .group .size ∙ (c .before .before .before .before .before .before .before .before .before .shorten) .ensures .size ∙ inv .2,
       λ n a.
           let i = inv .3 n a in
           rows-none ((c .before .before .before .before .before .before .before .before .before .shorten) .ensures) ((c .before .before .before .before .before .before .before .before .before .before .before .before .before .before .before .before .before .before .before .before .before .wait-of) .ensures) low (omega (arith, inv .0, inv .1)) ((c .before .before .before .before .before .before .before .before .before .before .before .older2) .ensures) (i .0) ((c .before .before .before .before .before .before .if3) .left) (omega (arith, inv .1)) (omega (arith, inv .0)) m

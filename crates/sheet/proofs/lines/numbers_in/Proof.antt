@@ -1,7 +1,7 @@
 -- `sheet::lines::numbers_in` meets its contract. Invariant: the numbers so far, in front of what is left to read, are what the whole reads
 -- as.
 -- Assumes nothing.
-use mathlib.Core.Bool.{Bool, true, false}
+use mathlib.Core.Bool.{Bool, false}
 use mathlib.Core.Path.{_≡_, refl, sym, _∙_, ap}
 use mathlib.Core.Option.{some, none}
 use Prim.Native.Nat.{ℕ, _≤_, _<_, _-_}

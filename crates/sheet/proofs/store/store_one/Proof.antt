@@ -1,6 +1,5 @@
 -- `sheet::store::store_one` meets its contract: the test decides whether the number is written.
 -- Assumes nothing.
-use mathlib.Core.Path.{_≡_, refl}
 use native.Mathlib.Omega.{arith}
 use borrow.Author.Needs.{needs}
 use borrow.Author.Tests.{le-leb, lt-leb}
