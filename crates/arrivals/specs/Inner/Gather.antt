@@ -6,11 +6,9 @@ use mathlib.Core.Logic.{_⊎_, inl, inr, ⊎-elim}
 use Prim.Native.Nat.{ℕ, zero, suc, _+_, _*_, _-_, _≤_, _<_}
 use native.Mathlib.Omega.{arith}
 use lib.ListN.{getD}
-use Rattle.sheet.specs.Lists.{Lex}
-use Rattle.sheet.specs.Laws.Order.{Lex-trans}
-use Rattle.sheet.specs.Laws.Decided.{lt-or-le, Any, All, In, here, there, none, more, any-cons, any-nil, all-head, all-tail, all-map, all-both, all-join, any-map, any-all, any-right, any-left, any-split, none-of}
+use Rattle.sheet.specs.Laws.Decided.{lt-or-le, Any, All, In, here, there, none, more, any-cons, any-nil, all-head, all-tail, all-map, all-both, all-join, any-map, any-all, any-right, any-left, any-split}
 use Rattle.costs.specs.Costs.{Cost, add, times, AtMost}
-use Rattle.costs.specs.Laws.Figures.{fig-add, at-most-refl, at-most-trans, Lex-compared}
+use Rattle.costs.specs.Laws.Figures.{fig-add, at-most-trans}
 use Rattle.intervals.specs.Sets.{Has}
 use Rattle.arrivals.specs.Rows.{Row, rowAt, Put}
 use Rattle.arrivals.specs.Laws.Rows.{row-path}
@@ -19,24 +17,11 @@ use Rattle.arrivals.specs.Inner.Network.{Case, caseOf, Link, Legal, sinc
 use Rattle.arrivals.specs.Inner.Entering.{Enters, RowLeads, Led, LedAt, Stands, Cand, Lead, Open, Less, cand-down, cand-bounded, self-leads, led-lead}
 use Rattle.arrivals.specs.Inner.Pruning.{steady-none}
 use Rattle.arrivals.specs.Inner.Filling.{Sound, entered, Falling, more-falling, Filled, startRow, row-after, filling-of, filled-place, filled-as, result-done, Grown, grown-none, grown-more, Visiting, Visited}
-use Rattle.arrivals.specs.Inner.Offering.{Beaten, Thin, thin-none, thin-drop, thin-keep, Stops, stops-none, stops-at, Insert, insert-here, insert-past, Offered, offered-not, offered-in, Offers, offers-none, offers-more}
+use Rattle.arrivals.specs.Inner.Offering.{Beaten, Offered, offered-not, offered-in, Offers, offers-none, offers-more, Apart, Sorted, sorted-none, sorted-head, sorted-tail, thin-all, insert-all, offers-sorted}
 use Rattle.arrivals.specs.Inner.Sweeps.{SweptAt}
 use Rattle.arrivals.specs.Inner.Index.{Indexed, Covers, indexed-more, indexed-kept, covers-more, covers-kept, NotedAs}
 use Rattle.arrivals.specs.Inner.Due.{Lookout}
 use Rattle.arrivals.specs.declared.network.Here.{Here}
-
-abbrev pub Apart : List ℕ → Row → Type 0
-Apart g q = Lex (q .cost) g × (AtMost (q .cost) g → ⊥)
-
-pub data Sorted : List Row → Type 0 where
-  sorted-none : Sorted []
-  sorted-more : {r : Row} {gs : List Row} → All (Apart (r .cost)) gs → Sorted gs → Sorted (r ∷ gs)
-
-sorted-head : {r : Row} {gs : List Row} → Sorted (r ∷ gs) → All (Apart (r .cost)) gs
-sorted-head (sorted-more a s) = a
-
-sorted-tail : {r : Row} {gs : List Row} → Sorted (r ∷ gs) → Sorted gs
-sorted-tail (sorted-more a s) = s
 
 -- a row of the group that is gathered at v and t after the rows rs
 pub record Own (k : Case) (rs : List Row) (v t : ℕ) (r : Row) : Type 0 where
@@ -44,54 +29,20 @@ pub record Own (k : Case) (rs : List Row) (v t : ℕ) (r : Row) : Type 0 where
   pub step : r .step ≡ t
   pub fresh : Open k rs v t (r .cost)
 
-thin-all : {P : Row → Type 0} {g : List ℕ} {gs ps : List Row} → Thin g gs ps → All P gs → All P ps
-thin-all thin-none a = a
-thin-all (thin-drop l x) a = thin-all x (all-tail a)
-thin-all (thin-keep l x) a = more (all-head a) (thin-all x (all-tail a))
-
-thin-any : {P : Row → Type 0} {g : List ℕ} {gs ps : List Row} → Thin g gs ps → Any P ps → Any P gs
-thin-any thin-none a = a
-thin-any (thin-drop l x) a = there (thin-any x a)
-thin-any (thin-keep l x) a = ⊎-elim (λ p. here p) (λ b. there (thin-any x b)) (any-cons a)
-
-thin-left : {g : List ℕ} {gs ps : List Row} → Thin g gs ps → All (λ q. AtMost g (q .cost) → ⊥) ps
-thin-left thin-none = none
-thin-left (thin-drop l x) = thin-left x
-thin-left (thin-keep l x) = more l (thin-left x)
-
-thin-sorted : {g : List ℕ} {gs ps : List Row} → Thin g gs ps → Sorted gs → Sorted ps
-thin-sorted thin-none s = s
-thin-sorted (thin-drop l x) s = thin-sorted x (sorted-tail s)
-thin-sorted (thin-keep l x) s = sorted-more (thin-all x (sorted-head s)) (thin-sorted x (sorted-tail s))
-
-insert-all : {P : Row → Type 0} {r : Row} {ps qs : List Row} → Insert r ps qs → P r → All P ps → All P qs
-insert-all (insert-here s) p a = more p a
-insert-all (insert-past l i) p a = more (all-head a) (insert-all i p (all-tail a))
-
-all-behind : {r : Row} {ps : List Row} → Stops r ps → Sorted ps → (Beaten ps (r .cost) → ⊥) → All (Apart (r .cost)) ps
-all-behind stops-none s n = none
-all-behind {r} (stops-at {q} {qs} b) s n =
-    let first : Lex (q .cost) (r .cost) =
-    ⊎-elim (λ e. absurd (n (here (subst (λ (x : List ℕ). AtMost (q .cost) x) e (at-most-refl (q .cost)))))) (λ d. ⊎-elim (λ y. y) (λ y. absurd (b y)) d) (Lex-compared (q .cost) (r .cost)) in
-    more (first, λ m. n (here m)) (all-both (λ p x y. (Lex-trans (p .cost) (q .cost) (r .cost) (x .0) first, y)) (sorted-head s) (none-of qs (λ x. n (there x))))
-
-insert-sorted : {r : Row} {ps qs : List Row} → (Beaten ps (r .cost) → ⊥) → All (λ q. AtMost (r .cost) (q .cost) → ⊥) ps → Sorted ps → Insert r ps qs → Sorted qs
-insert-sorted n m s (insert-here b) = sorted-more (all-behind b s n) s
-insert-sorted n m s (insert-past b i) = sorted-more (insert-all i (b, all-head m) (sorted-head s)) (insert-sorted (λ x. n (there x)) (all-tail m) (sorted-tail s) i)
-
 module _ (k : Case) (rs : List Row) (v t : ℕ) where
   abbrev Older : List ℕ → Type 0
   Older h = Led rs v t (since k v t) (k .wait v) h
 
   pub gathered : {S : List ℕ → Type 0} {gs : List Row} → ((h : List ℕ) → S h → Cand k rs v t h) → Offers S Older v t [] gs → All (Own k rs v t) gs × Sorted gs
-  gathered f offers-none = (none, sorted-none)
-  gathered {S} f (offers-more {ps} {qs} {g} o s x) = let w = gathered f o in go (w .0) (w .1) x
+  gathered f o = (owned f o, offers-sorted o sorted-none)
     where
-      go : {ps qs : List Row} → All (Own k rs v t) ps → Sorted ps → Offered Older v t g ps qs → All (Own k rs v t) qs × Sorted qs
-      go a b (offered-not y) = (a, b)
-      go a b (offered-in n h y i) =
-          let own : Own k rs v t (record { place = v; step = t; cost = g }) = record { place = refl; step = refl; fresh = record { cand = f g s; unled = λ l. h (l .row) } } in
-          (insert-all i own (thin-all y a), insert-sorted (λ z. n (thin-any y z)) (thin-left y) (thin-sorted y b) i)
+      owned : {S : List ℕ → Type 0} {gs : List Row} → ((h : List ℕ) → S h → Cand k rs v t h) → Offers S Older v t [] gs → All (Own k rs v t) gs
+      owned f offers-none = none
+      owned {S} f (offers-more {ps} {qs} {g} o s x) = go (owned f o) x
+        where
+          go : {ps qs : List Row} → All (Own k rs v t) ps → Offered Older v t g ps qs → All (Own k rs v t) qs
+          go a (offered-not y) = a
+          go a (offered-in n h y i) = insert-all i (record { place = refl; step = refl; fresh = record { cand = f g s; unled = λ l. h (l .row) } }) (thin-all y a)
 
 less-sum : (a b g : List ℕ) → AtMost (add a b) g → AtMost a g
 less-sum a b g l = record { every = λ i. omega (arith, fig-add a b i, l .every i) }

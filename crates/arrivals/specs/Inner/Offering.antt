@@ -10,7 +10,7 @@ use Rattle.sheet.specs.Lists.{Lex}
 use Rattle.sheet.specs.Laws.Order.{Lex-trans}
 use Rattle.costs.specs.Costs.{AtMost, figures}
 use Rattle.costs.specs.Laws.Figures.{at-most-refl, at-most-trans, at-most-Lex, at-most-not-Lex, Lex-asym, Lex-compared}
-use Rattle.sheet.specs.Laws.Decided.{false-not-true, lt-or-le, from-length, Any, All, here, there, none, more, all-head, all-tail, any-cons, any-map}
+use Rattle.sheet.specs.Laws.Decided.{false-not-true, lt-or-le, from-length, Any, All, here, there, none, more, all-head, all-tail, all-both, any-cons, any-map, none-of}
 use Rattle.arrivals.specs.Rows.{Row, rowAt, Put}
 use Rattle.arrivals.specs.Laws.Rows.{row-kept}
 use Rattle.arrivals.specs.Inner.Rows.{tailOf, tail-more, tail-kept, tail-any, tail-find, put-tail}
@@ -44,10 +44,14 @@ pub data Offers (S H : List ℕ → Type 0) (v t : ℕ) (gs : List Row) : List R
   offers-none : Offers S H v t gs gs
   offers-more : {ps qs : List Row} {g : List ℕ} → Offers S H v t gs ps → S g → Offered H v t g ps qs → Offers S H v t gs qs
 
--- the newest first, no cost comes before the one behind it
-pub data Rising : List Row → Type 0 where
-  rising-none : Rising []
-  rising-more : {r : Row} {gs : List Row} → Stops r gs → Rising gs → Rising (r ∷ gs)
+-- row q comes before the cost g and is somewhere above it
+abbrev pub Apart : List ℕ → Row → Type 0
+Apart g q = Lex (q .cost) g × (AtMost (q .cost) g → ⊥)
+
+-- the last row first: each comes after those behind it, and none of these is nowhere above it
+pub data Sorted : List Row → Type 0 where
+  sorted-none : Sorted []
+  sorted-more : {r : Row} {gs : List Row} → All (Apart (r .cost)) gs → Sorted gs → Sorted (r ∷ gs)
 
 -- costs of S are offered to the d rows of xs from row a on, which become the e rows of ys; where ok, all of S
 pub record Swept (S H : List ℕ → Type 0) (v t a : ℕ) (xs ys : List ℕ) (d : ℕ) (ok : Bool) (e : ℕ) : Type 0 where
@@ -96,44 +100,61 @@ offers-then f g o (offers-more p r x) = offers-more (offers-then f g o p) (g _ r
 not-before : (a b c : List ℕ) → (Lex a b → ⊥) → (Lex b c → ⊥) → Lex a c → ⊥
 not-before a b c x y l = ⊎-elim (λ e. y (subst (λ (z : List ℕ). Lex z c) e l)) (⊎-elim x (λ p. y (Lex-trans b a c p l))) (Lex-compared a b)
 
-rising-head : {r : Row} {gs : List Row} → Rising (r ∷ gs) → Stops r gs
-rising-head (rising-more s x) = s
+pub sorted-head : {r : Row} {gs : List Row} → Sorted (r ∷ gs) → All (Apart (r .cost)) gs
+sorted-head (sorted-more a s) = a
 
-rising-tail : {r : Row} {gs : List Row} → Rising (r ∷ gs) → Rising gs
-rising-tail (rising-more s x) = x
+pub sorted-tail : {r : Row} {gs : List Row} → Sorted (r ∷ gs) → Sorted gs
+sorted-tail (sorted-more a s) = s
 
 stops-head : {r q : Row} {gs : List Row} → Stops r (q ∷ gs) → Lex (r .cost) (q .cost) → ⊥
 stops-head (stops-at n) = n
 
-stops-past : {r q : Row} {gs : List Row} → Stops r (q ∷ gs) → Stops q gs → Stops r gs
-stops-past s stops-none = stops-none
-stops-past {r} {q} s (stops-at {q = o} n) = stops-at (not-before (r .cost) (q .cost) (o .cost) (stops-head s) n)
+stops-past : {r q : Row} {gs : List Row} → Stops r (q ∷ gs) → All (Apart (q .cost)) gs → Stops r gs
+stops-past s none = stops-none
+stops-past {r} {q} s (more {x = o} a b) = stops-at (not-before (r .cost) (q .cost) (o .cost) (stops-head s) (Lex-asym (o .cost) (q .cost) (a .0)))
 
-thin-stops : {r : Row} {g : List ℕ} {gs ps : List Row} → Thin g gs ps → Rising gs → Stops r gs → Stops r ps
-thin-stops thin-none x s = s
-thin-stops (thin-drop l t) x s = thin-stops t (rising-tail x) (stops-past s (rising-head x))
-thin-stops (thin-keep l t) x s = stops-at (stops-head s)
+pub thin-all : {P : Row → Type 0} {g : List ℕ} {gs ps : List Row} → Thin g gs ps → All P gs → All P ps
+thin-all thin-none a = a
+thin-all (thin-drop l x) a = thin-all x (all-tail a)
+thin-all (thin-keep l x) a = more (all-head a) (thin-all x (all-tail a))
 
-thin-rising : {g : List ℕ} {gs ps : List Row} → Thin g gs ps → Rising gs → Rising ps
-thin-rising thin-none x = x
-thin-rising (thin-drop l t) x = thin-rising t (rising-tail x)
-thin-rising (thin-keep l t) x = rising-more (thin-stops t (rising-tail x) (rising-head x)) (thin-rising t (rising-tail x))
+thin-any : {P : Row → Type 0} {g : List ℕ} {gs ps : List Row} → Thin g gs ps → Any P ps → Any P gs
+thin-any thin-none a = a
+thin-any (thin-drop l x) a = there (thin-any x a)
+thin-any (thin-keep l x) a = ⊎-elim (λ p. here p) (λ b. there (thin-any x b)) (any-cons a)
 
-insert-stops : {r q : Row} {ps qs : List Row} → Insert r ps qs → Lex (r .cost) (q .cost) → Stops q ps → Stops q qs
-insert-stops {r} {q} (insert-here s) l u = stops-at (Lex-asym (r .cost) (q .cost) l)
-insert-stops (insert-past m i) l u = stops-at (stops-head u)
+thin-left : {g : List ℕ} {gs ps : List Row} → Thin g gs ps → All (λ q. AtMost g (q .cost) → ⊥) ps
+thin-left thin-none = none
+thin-left (thin-drop l x) = thin-left x
+thin-left (thin-keep l x) = more l (thin-left x)
 
-insert-rising : {r : Row} {ps qs : List Row} → Insert r ps qs → Rising ps → Rising qs
-insert-rising (insert-here s) x = rising-more s x
-insert-rising (insert-past l i) x = rising-more (insert-stops i l (rising-head x)) (insert-rising i (rising-tail x))
+thin-sorted : {g : List ℕ} {gs ps : List Row} → Thin g gs ps → Sorted gs → Sorted ps
+thin-sorted thin-none s = s
+thin-sorted (thin-drop l x) s = thin-sorted x (sorted-tail s)
+thin-sorted (thin-keep l x) s = sorted-more (thin-all x (sorted-head s)) (thin-sorted x (sorted-tail s))
 
-pub offers-rising : {S H : List ℕ → Type 0} {v t : ℕ} {gs qs : List Row} → Offers S H v t gs qs → Rising gs → Rising qs
-offers-rising offers-none x = x
-offers-rising (offers-more o s w) x = go w (offers-rising o x)
-  where
-    go : {H : List ℕ → Type 0} {v t : ℕ} {g : List ℕ} {ps qs : List Row} → Offered H v t g ps qs → Rising ps → Rising qs
-    go (offered-not y) x = x
-    go (offered-in n h y i) x = insert-rising i (thin-rising y x)
+pub insert-all : {P : Row → Type 0} {r : Row} {ps qs : List Row} → Insert r ps qs → P r → All P ps → All P qs
+insert-all (insert-here s) p a = more p a
+insert-all (insert-past l i) p a = more (all-head a) (insert-all i p (all-tail a))
+
+all-behind : {r : Row} {ps : List Row} → Stops r ps → Sorted ps → (Beaten ps (r .cost) → ⊥) → All (Apart (r .cost)) ps
+all-behind stops-none s n = none
+all-behind {r} (stops-at {q} {qs} b) s n =
+    let first : Lex (q .cost) (r .cost) =
+    ⊎-elim (λ e. absurd (n (here (subst (λ (x : List ℕ). AtMost (q .cost) x) e (at-most-refl (q .cost)))))) (λ d. ⊎-elim (λ y. y) (λ y. absurd (b y)) d) (Lex-compared (q .cost) (r .cost)) in
+    more (first, λ m. n (here m)) (all-both (λ p x y. (Lex-trans (p .cost) (q .cost) (r .cost) (x .0) first, y)) (sorted-head s) (none-of qs (λ x. n (there x))))
+
+insert-sorted : {r : Row} {ps qs : List Row} → (Beaten ps (r .cost) → ⊥) → All (λ q. AtMost (r .cost) (q .cost) → ⊥) ps → Sorted ps → Insert r ps qs → Sorted qs
+insert-sorted n m s (insert-here b) = sorted-more (all-behind b s n) s
+insert-sorted n m s (insert-past b i) = sorted-more (insert-all i (b, all-head m) (sorted-head s)) (insert-sorted (λ x. n (there x)) (all-tail m) (sorted-tail s) i)
+
+offered-sorted : {H : List ℕ → Type 0} {v t : ℕ} {g : List ℕ} {ps qs : List Row} → Offered H v t g ps qs → Sorted ps → Sorted qs
+offered-sorted (offered-not y) s = s
+offered-sorted (offered-in n h y i) s = insert-sorted (λ z. n (thin-any y z)) (thin-left y) (thin-sorted y s) i
+
+pub offers-sorted : {S H : List ℕ → Type 0} {v t : ℕ} {gs qs : List Row} → Offers S H v t gs qs → Sorted gs → Sorted qs
+offers-sorted offers-none s = s
+offers-sorted (offers-more o x w) s = offered-sorted w (offers-sorted o s)
 
 -- sweeps, one after another
 pub swept-none : {S H : List ℕ → Type 0} {v t a : ℕ} {xs : List ℕ} {d : ℕ} → (a + d) * 5 ≤ length xs → ((h : List ℕ) → S h → H h) → Swept S H v t a xs xs d true d
@@ -287,11 +308,11 @@ unfolding tailOf
 stops-more r xs a zero h = stops-none
 stops-more r xs a (suc k) h = let e : a + k ≡ a + suc k - 1 = omega arith in stops-at (λ b. h (omega arith, subst (λ (n : ℕ). Lex (r .cost) (rowAt xs n .cost)) e b))
 
-rising-low : (xs : List ℕ) (a d p : ℕ) → p ≤ d → Rising (tailOf xs a d) → Rising (tailOf xs a p)
+sorted-low : (xs : List ℕ) (a d p : ℕ) → p ≤ d → Sorted (tailOf xs a d) → Sorted (tailOf xs a p)
 unfolding tailOf
-rising-low xs a zero p l x = let e : 0 ≡ p = omega arith in subst (λ (n : ℕ). Rising (tailOf xs a n)) e x
-rising-low xs a (suc d) p l x =
-    ⊎-elim (λ lt. rising-low xs a d p (omega arith) (rising-tail x)) (λ ge. let e : suc d ≡ p = omega arith in subst (λ (n : ℕ). Rising (tailOf xs a n)) e x) (lt-or-le p (suc d))
+sorted-low xs a zero p l x = let e : 0 ≡ p = omega arith in subst (λ (n : ℕ). Sorted (tailOf xs a n)) e x
+sorted-low xs a (suc d) p l x =
+    ⊎-elim (λ lt. sorted-low xs a d p (omega arith) (sorted-tail x)) (λ ge. let e : suc d ≡ p = omega arith in subst (λ (n : ℕ). Sorted (tailOf xs a n)) e x) (lt-or-le p (suc d))
 
 thin-join : {g : List ℕ} {qs ps us : List Row} → Thin g qs ps → Thin g us us → Thin g (qs ++ us) (ps ++ us)
 thin-join thin-none t = t
@@ -326,19 +347,19 @@ module _ (v t : ℕ) (g xs : List ℕ) (a d p : ℕ) (three : length g ≡ figur
       (lt-or-le (f .at - a) p)
 
   -- of what does not come after g and is somewhere above it, g drops nothing
-  unthinned : (k : ℕ) → Stops (record { place = v; step = t; cost = g }) (tailOf xs a k) → Rising (tailOf xs a k) → (Beaten (tailOf xs a k) g → ⊥) → Thin g (tailOf xs a k) (tailOf xs a k)
+  unthinned : (k : ℕ) → Stops (record { place = v; step = t; cost = g }) (tailOf xs a k) → Sorted (tailOf xs a k) → (Beaten (tailOf xs a k) g → ⊥) → Thin g (tailOf xs a k) (tailOf xs a k)
   unfolding tailOf
   unthinned zero s x n = thin-none
   unthinned (suc k) s x n =
       thin-keep
       (λ l. ⊎-elim (λ e. n (here (subst (λ (c : List ℕ). AtMost c g) e (at-most-refl g)))) (stops-head s) (at-most-Lex g (rowAt xs (a + k) .cost) (same-size (a + k)) l))
-      (unthinned k (stops-past s (rising-head x)) (rising-tail x) (λ b. n (there b)))
+      (unthinned k (stops-past s (sorted-head x)) (sorted-tail x) (λ b. n (there b)))
 
-  pub offered-at : {H : List ℕ → Type 0} (ys zs : List ℕ) (k : ℕ) → Rising (tailOf xs a d) → (Beaten (tailOf xs a p) g → ⊥) → (H g → ⊥) → ThinnedAll g (a + p) (d - p) xs ys k
+  pub offered-at : {H : List ℕ → Type 0} (ys zs : List ℕ) (k : ℕ) → Sorted (tailOf xs a d) → (Beaten (tailOf xs a p) g → ⊥) → (H g → ⊥) → ThinnedAll g (a + p) (d - p) xs ys k
       → Inserted (record { place = v; step = t; cost = g }) (a + p) k ys zs → Offered H v t g (tailOf xs a d) (tailOf zs a (p + k + 1))
   offered-at {H} ys zs k x n h y i =
       subst (Offered H v t g (tailOf xs a d)) (sym parts) (subst (λ (gs : List Row). Offered H v t g gs (qs ++ r ∷ us)) (sym whole)
-      (offered-in (λ b. unbeaten n (subst (λ (gs : List Row). Beaten gs g) (sym whole) b)) h (thin-join (y .thin) (unthinned p stop (rising-low xs a d p (w .most) x) n)) (insert-join (y .thin) later stop)))
+      (offered-in (λ b. unbeaten n (subst (λ (gs : List Row). Beaten gs g) (sym whole) b)) h (thin-join (y .thin) (unthinned p stop (sorted-low xs a d p (w .most) x) n)) (insert-join (y .thin) later stop)))
     where
       r : Row
       r = record { place = v; step = t; cost = g }

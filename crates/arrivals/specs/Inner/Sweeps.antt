@@ -17,7 +17,7 @@ use Rattle.arrivals.specs.Inner.Chains.{byPlace, NextOne}
 use Rattle.arrivals.specs.Inner.Entering.{reach, Enters, Entry, LedAt, led-up, Ready, Complete}
 use Rattle.arrivals.specs.Inner.Filling.{Reaching}
 use Rattle.arrivals.specs.Inner.Pruning.{Tried}
-use Rattle.arrivals.specs.Inner.Offering.{Rising, rising-none, offers-rising, Swept, swept-then, swept-as, swept-under}
+use Rattle.arrivals.specs.Inner.Offering.{Sorted, sorted-none, offers-sorted, Swept, swept-then, swept-as, swept-under}
 use Rattle.arrivals.specs.Inner.Index.{Listed, Indexed, Cover, Covers, Older, lowOf, highOf, newestOf, indexed-kept, covers-kept, older-most, older-past, row-low, low-row, row-newest, lag-sum}
 use Rattle.arrivals.specs.declared.network.Here.{Here}
 use Rattle.arrivals.specs.declared.network.Source.{Source}
@@ -41,7 +41,7 @@ pub record Sweepable (xs : List ℕ) (a d : ℕ) (ix : List ℕ) (h : Here) : Ty
   pub ready : Ready xs a h
   pub indexed : Indexed xs a ix (h .step .0)
   pub covers : Covers xs a ix (h .step .0) (h .place .0) (h .wait)
-  pub rising : Rising (tailOf xs a d)
+  pub sorted : Sorted (tailOf xs a d)
 
 -- the rows of span p stand below row n and before step t
 pub record Before (xs : List ℕ) (n : ℕ) (p : Span) (t : ℕ) : Type 0 where
@@ -76,11 +76,11 @@ ready-kept {xs} {ys} {n} e same r =
     record { room = omega (arith, r .room); inside = r .inside; steps = r .steps; waits = r .waits; bounded = subst (All Bounded) (sym (rows-kept xs ys n same)) (r .bounded) }
 
 pub sweepable-none : {xs : List ℕ} {a : ℕ} {ix : List ℕ} {h : Here} → Startable xs a ix h → Sweepable xs a 0 ix h
-sweepable-none {xs} {a} s = record { room = omega (arith, s .room); ready = s .ready; indexed = s .indexed; covers = s .covers; rising = subst Rising (sym (tail-zero xs a)) rising-none }
+sweepable-none {xs} {a} s = record { room = omega (arith, s .room); ready = s .ready; indexed = s .indexed; covers = s .covers; sorted = subst Sorted (sym (tail-zero xs a)) sorted-none }
 
 pub sweepable-kept : {S : Cost → Type 0} {xs ys : List ℕ} {a d e : ℕ} {ix : List ℕ} {h : Here} → length ys ≡ length xs → SweptAt S h a xs ys d true e → Sweepable xs a d ix h → Sweepable ys a e ix h
 sweepable-kept size w s =
-    record { room = w .room; ready = ready-kept size (w .below) (s .ready); indexed = indexed-kept (w .below) (s .indexed); covers = covers-kept (w .below) (s .covers); rising = offers-rising (w .done refl) (s .rising) }
+    record { room = w .room; ready = ready-kept size (w .below) (s .ready); indexed = indexed-kept (w .below) (s .indexed); covers = covers-kept (w .below) (s .covers); sorted = offers-sorted (w .done refl) (s .sorted) }
 
 pub reaching-kept : {free net xs ys : List ℕ} {n : ℕ} {h : Here} → length ys ≡ length xs → ((j : ℕ) → j < n * 5 → getD ys j 0 ≡ getD xs j 0) → Reaching free net xs n h → Reaching free net ys n h
 reaching-kept {free} {net} {xs} {ys} {n} {h} size same a =

@@ -75,7 +75,7 @@ returns-4 c =
     swept-one
     (λ j l. i .below j (omega arith) ∙ t .below j (omega arith))
     (omega arith)
-    (offered-at (a .here .place .0) (a .here .step .0) (a .g) (a .table .now) (a .a) (a .d) (c .before .before .before .before .before .before .before .before .before .before .before .before .before .before .before .place-of .result) (search (needs, c .before .before .before .before .before .before .before .before .before .before .before .before .before .before .before .before .before .before .before .good)) (c .before .before .before .before .before .before .before .before .before .before .before .before .before .before .before .place-of .ensures) _ _ _ (c .before .before .before .before .before .before .before .before .before .before .before .before .before .before .before .before .before .before .before .pre .rising)
+    (offered-at (a .here .place .0) (a .here .step .0) (a .g) (a .table .now) (a .a) (a .d) (c .before .before .before .before .before .before .before .before .before .before .before .before .before .before .before .place-of .result) (search (needs, c .before .before .before .before .before .before .before .before .before .before .before .before .before .before .before .before .before .before .before .good)) (c .before .before .before .before .before .before .before .before .before .before .before .before .before .before .before .place-of .ensures) _ _ _ (c .before .before .before .before .before .before .before .before .before .before .before .before .before .before .before .before .before .before .before .pre .sorted)
     (no-of (c .before .before .before .before .before .before .before .before .before .before .before .before .before .beaten .ensures) (c .before .before .before .before .before .before .before .before .before .before .before .before .if1 .left)) (no-of (c .before .before .before .before .before .before .before .before .before .before .led-walk .ensures) (c .before .before .before .before .before .before .before .before .before .if2 .left)) t i)
 
 pub offer-spec : {M : Type 1} → statement M
