@@ -258,63 +258,21 @@ pub fn search_by(
     Outcome { ok: false, rows }
 }
 
-// The same, with an index for steps below 16.
-pub fn search_short(
-    table: &mut [u32],
-    sets: &[u64],
-    net: &[u32],
-    runs: &[u16],
-    last: Step,
-) -> Outcome
-    requires { ⌜ (Searchable (now runs) (now net) (now sets) (last .0)) × (last .0 < 16) ⌝ }
-    ensures { λ r. ⌜ Result (caseOf (now (runs .entry)) (now (net .entry))) (now (table .exit)) (last .0 + 1) 0 (r .ok) (r .rows) ⌝ }
-{
-    let mut ix = [0; SHORT];
-    search_by(table, &mut ix, sets, net, runs, last)
-}
-
-// The same, with an index for steps below 64.
-pub fn search_middle(
-    table: &mut [u32],
-    sets: &[u64],
-    net: &[u32],
-    runs: &[u16],
-    last: Step,
-) -> Outcome
-    requires { ⌜ (Searchable (now runs) (now net) (now sets) (last .0)) × (last .0 < 64) ⌝ }
-    ensures { λ r. ⌜ Result (caseOf (now (runs .entry)) (now (net .entry))) (now (table .exit)) (last .0 + 1) 0 (r .ok) (r .rows) ⌝ }
-{
-    let mut ix = [0; MIDDLE];
-    search_by(table, &mut ix, sets, net, runs, last)
-}
-
-// The same, with an index for all steps.
-pub fn search_long(
-    table: &mut [u32],
-    sets: &[u64],
-    net: &[u32],
-    runs: &[u16],
-    last: Step,
-) -> Outcome
-    requires { ⌜ Searchable (now runs) (now net) (now sets) (last .0) ⌝ }
-    ensures { λ r. ⌜ Result (caseOf (now (runs .entry)) (now (net .entry))) (now (table .exit)) (last .0 + 1) 0 (r .ok) (r .rows) ⌝ }
-{
-    let mut ix = [0; INDEX];
-    search_by(table, &mut ix, sets, net, runs, last)
-}
-
-// The same, with no larger an index than the steps need: clearing it takes most of the time where there are few.
+// The same, with no longer an index than the steps need: clearing it takes most of the time where there are few. The three take one place on the stack.
 pub fn search_all(table: &mut [u32], sets: &[u64], net: &[u32], runs: &[u16], last: Step) -> Outcome
     requires { ⌜ Searchable (now runs) (now net) (now sets) (last .0) ⌝ }
     ensures { λ r. ⌜ Result (caseOf (now (runs .entry)) (now (net .entry))) (now (table .exit)) (last .0 + 1) 0 (r .ok) (r .rows) ⌝ }
 {
     if last.0 < 16 {
-        return search_short(table, sets, net, runs, last);
+        let mut ix = [0; SHORT];
+        return search_by(table, &mut ix, sets, net, runs, last);
     }
     if last.0 < 64 {
-        return search_middle(table, sets, net, runs, last);
+        let mut ix = [0; MIDDLE];
+        return search_by(table, &mut ix, sets, net, runs, last);
     }
-    search_long(table, sets, net, runs, last)
+    let mut ix = [0; INDEX];
+    search_by(table, &mut ix, sets, net, runs, last)
 }
 
 // All the rows of the search, and zeros after them; or zeros alone where there is no room.
