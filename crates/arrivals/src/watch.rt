@@ -21,7 +21,7 @@ ghost use Rattle.sheet.specs.Lists.{number};
 ghost use Rattle.sheet.specs.Store.{SomeStore};
 ghost use Rattle.arrivals.specs.Inner.Network.{netRoom, countOf, closuresOf, closureOf};
 ghost use Rattle.arrivals.specs.Inner.Lent.{Linked, Closing};
-ghost use Rattle.arrivals.specs.Inner.Due.{LinkWatched, LinksWatched, ClosureWatched, ClosuresWatched, Watches, StepSet, LedOn};
+ghost use Rattle.arrivals.specs.Inner.Due.{LinkWatched, LinksWatched, ClosureWatched, ClosuresWatched, Watches, stepSet, ledOn};
 
 // The sets: from 0, for each step, the places that are looked at then whatever rows there are; for each place, those that corridors lead to from it; those
 // that are looked at at each step; and how many sets there are.
@@ -87,7 +87,7 @@ pub fn watch(lines: &[u32], all: &[u32], net: &[u32], sets: &mut [u64])
 // The places that are looked at at step t, where corridors lead to `next` from the rows of the step before.
 pub fn step_set(sets: &[u64], next: u64, t: Step) -> u64
     requires { ⌜ (t .0 ≤ 255) × (323 ≤ length (now sets)) ⌝ }
-    ensures { λ r. ⌜ StepSet (now (sets .entry)) next (t .0) r ⌝ }
+    ensures { λ r. ⌜ r ≡ stepSet (now (sets .entry)) next (t .0) ⌝ }
 {
     let own = sets[t.0 as usize];
     let always = sets[ALWAYS];
@@ -97,7 +97,7 @@ pub fn step_set(sets: &[u64], next: u64, t: Step) -> u64
 // The set with the places that corridors lead to from v, where the rows from n to m are new rows of v.
 pub fn led_on(sets: &[u64], next: u64, v: Place, n: usize, m: usize) -> u64
     requires { ⌜ (v .0 < 64) × (323 ≤ length (now sets)) ⌝ }
-    ensures { λ r. ⌜ LedOn (now (sets .entry)) next (v .0) n m r ⌝ }
+    ensures { λ r. ⌜ r ≡ ledOn (now (sets .entry)) next (v .0) n m ⌝ }
 {
     if n < m {
         let onward = sets[ONWARD + v.0 as usize];

@@ -16,8 +16,8 @@ use Rattle.intervals.specs.Intervals.{freeb, Free, Run}
 use Rattle.intervals.specs.Laws.Runs.{since-free, since-run}
 use Rattle.intervals.specs.FirstSteps.{SinceTable}
 use Rattle.intervals.specs.Inner.{Followed, FollowedBy}
-use Rattle.intervals.specs.Sets.{Has, Added}
-use Rattle.intervals.specs.Laws.Sets.{kept-none, kept-on}
+use Rattle.intervals.specs.Sets.{Has}
+use Rattle.intervals.specs.Laws.Sets.{Added, kept-none, kept-on}
 use Rattle.intervals.proofs.Tables.{covers-true, true-covers}
 use Rattle.intervals.proofs.Covers.{taken-covered, free-uncovered}
 

@@ -1,9 +1,11 @@
--- Sets of places, each as one number of 64 bits: place v is in the set where the binary digit v is 1. Sets only grow here, so of a set it is said what it
--- holds, and nothing of what it does not.
+-- Sets of places, each as one number of 64 bits: place v is in the set where the binary digit v is 1. Of the sets that the search keeps it is said what
+-- they hold, and nothing of what they do not: a place that is looked at in vain adds no row.
 use mathlib.Core.Path.{_≡_}
 use mathlib.Core.List.{List}
+use mathlib.Core.Logic.{_⊎_}
 use Prim.Native.Nat.{ℕ, _+_, _*_, _/_, _%_, _^_, _≤_, _<_}
-use lib.ListN.{length}
+use lib.Bits.{bitOr}
+use lib.ListN.{length, set}
 use Rattle.sheet.specs.Lists.{number}
 use Rattle.sheet.specs.Store.{partOf}
 use Rattle.sheet.specs.Kinds.{kindO}
@@ -13,25 +15,20 @@ use Rattle.intervals.specs.FirstSteps.{SinceTable}
 pub record Has (m v : ℕ) : Type 0 where
   pub digit : m / 2 ^ v % 2 ≡ 1
 
+-- the sets with place v added to set i
+unfoldable pub withPlace : List ℕ → ℕ → ℕ → List ℕ
+withPlace sets i v = set sets i (bitOr (number sets i) (2 ^ v))
+
 -- what is in some set before is in it after
 pub record Kept (before after : List ℕ) : Type 0 where
   pub size : length after ≡ length before
   pub more : (i v : ℕ) → Has (number before i) v → Has (number after i) v
 
--- place v is added to set i
-pub record Added (i v : ℕ) (before after : List ℕ) : Type 0 where
-  pub kept : Kept before after
-  pub own : Has (number after i) v
-
--- r holds both sets
-pub record Union (a b r : ℕ) : Type 0 where
-  pub left : (v : ℕ) → Has a v → Has r v
-  pub right : (v : ℕ) → Has b v → Has r v
-
--- from place v on no place before place r is in the set m
+-- place r is the first from place v on that is in the set m, or there is none
 pub record NextIn (m v r : ℕ) : Type 0 where
   pub on : v ≤ r
   pub none : (w : ℕ) → v ≤ w → w < r → Has m w → ⊥
+  pub own : Has m r ⊎ (64 ≤ r)
 
 -- set t of the sets after holds every place of which a free run begins at step t, by the table of first steps of the lines' sheet
 pub record Begun (lines all before after : List ℕ) : Type 0 where

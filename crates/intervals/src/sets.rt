@@ -1,11 +1,13 @@
 // Sets of places, each one number: place v is in a set where the binary digit v of the number is 1. So the places of a step that are to be looked at are
 // found without a look at the others.
+ghost use mathlib.Core.Path.{_≡_};
 ghost use Prim.Native.Nat.{_+_, _≤_, _<_};
+ghost use lib.Bits.{bitOr};
 ghost use lib.ListN.{length};
 ghost use Rattle.sheet.specs.Store.{SomeStore};
 ghost use Rattle.intervals.specs.FirstSteps.{ValidGroup};
 ghost use Rattle.intervals.specs.Inner.{FollowedBy};
-ghost use Rattle.intervals.specs.Sets.{Added, Union, NextIn, Begun};
+ghost use Rattle.intervals.specs.Sets.{withPlace, NextIn, Begun};
 use sheet::Place;
 use sheet::kinds::FIRST_OCCUPANCY;
 use sheet::kinds::O_LINE;
@@ -14,7 +16,7 @@ use sheet::kinds::OCCUPANCY;
 // Adds place v to set i.
 pub fn add(sets: &mut [u64], i: usize, v: Place)
     requires { ⌜ (i < length (now sets)) × (v .0 < 64) ⌝ }
-    ensures { λ _. ⌜ Added i (v .0) (now (sets .entry)) (now (sets .exit)) ⌝ }
+    ensures { λ _. ⌜ now (sets .exit) ≡ withPlace (now (sets .entry)) i (v .0) ⌝ }
 {
     let own = 1u64 << v.0;
     sets[i] = sets[i] | own;
@@ -22,7 +24,7 @@ pub fn add(sets: &mut [u64], i: usize, v: Place)
 
 // The places of two sets.
 pub fn union(a: u64, b: u64) -> u64
-    ensures { λ r. ⌜ Union a b r ⌝ }
+    ensures { λ r. ⌜ r ≡ bitOr a b ⌝ }
 {
     a | b
 }

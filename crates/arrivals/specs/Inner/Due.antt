@@ -2,19 +2,22 @@
 -- rule spares every row.
 use mathlib.Core.Path.{_≡_, sym, ap, _∙_, subst}
 use mathlib.Core.List.{List}
-use mathlib.Core.Bool.{true}
+use mathlib.Core.Bool.{Bool, true, false}
 use mathlib.Core.Logic.{_⊎_, inl, inr, ⊎-elim}
 use Prim.Native.Nat.{ℕ, _+_, _-_, _≤_, _<_}
 use native.Mathlib.Omega.{arith}
 use native.Mathlib.Decide.{ℕ-discrete}
+use lib.Bits.{bitOr}
+use lib.Dec.{ltb}
 use lib.ListN.{length}
-use Rattle.sheet.specs.Lists.{number}
+use borrow.Author.Tests.{lt-ltb}
+use Rattle.sheet.specs.Lists.{pick, number}
 use Rattle.sheet.specs.Kinds.{kindO}
 use Rattle.sheet.specs.Store.{partOf}
 use Rattle.sheet.specs.Laws.Decided.{lt-or-le}
 use Rattle.intervals.specs.FirstSteps.{SinceTable}
 use Rattle.intervals.specs.Sets.{Has, Kept, Begun}
-use Rattle.intervals.specs.Laws.Sets.{kept-none, kept-on, has-all}
+use Rattle.intervals.specs.Laws.Sets.{kept-none, kept-on, has-left, has-right, has-all}
 use Rattle.arrivals.specs.Rows.{Row, rowAt}
 use Rattle.arrivals.specs.Laws.Rows.{row-kept}
 use Rattle.arrivals.specs.Inner.Rows.{rowsOf, all-at}
@@ -114,15 +117,12 @@ watches lines all net xs ys zs ws size a b c =
     }
 
 -- the set of step t
-pub record StepSet (sets : List ℕ) (next t r : ℕ) : Type 0 where
-  pub before : (v : ℕ) → Has next v → Has r v
-  pub own : (v : ℕ) → Has (number sets t) v → Has r v
-  pub always : (v : ℕ) → Has (number sets 322) v → Has r v
+abbrev pub stepSet : List ℕ → ℕ → ℕ → ℕ
+stepSet sets next t = bitOr (bitOr next (number sets t)) (number sets 322)
 
 -- the set with what corridors lead to from v, if there are new rows of v
-pub record LedOn (sets : List ℕ) (next v n m r : ℕ) : Type 0 where
-  pub kept : (w : ℕ) → Has next w → Has r w
-  pub own : n < m → (w : ℕ) → Has (number sets (258 + v)) w → Has r w
+abbrev pub ledOn : List ℕ → ℕ → ℕ → ℕ → ℕ → ℕ
+ledOn sets next v n m = pick (ltb n m) (bitOr next (number sets (258 + v))) next
 
 -- a set holds every place that a corridor leads to from a row of the step before t; at step 1, where no departure was before, every place
 pub record Onward (net xs : List ℕ) (n t next : ℕ) : Type 0 where
@@ -138,20 +138,25 @@ pub record Lookout (free net xs : List ℕ) (n t set : ℕ) : Type 0 where
 pub onward-all : (net xs : List ℕ) (n : ℕ) → Linked net → Onward net xs n 1 18446744073709551615
 onward-all net xs n linked = record { of = λ j i l m p e. has-all (linkOf net 1 j) (linked .ends 1 j (omega arith) l); first = λ e v l. has-all v l }
 
-pub lookout : (free net xs sets : List ℕ) (n t next r : ℕ) → Given free net → Watching free net sets → 1 ≤ t → t ≤ 255 → Onward net xs n t next → StepSet sets next t r
-    → Lookout free net xs n t r
-lookout free net xs sets n t next r given w first last o s =
+pub lookout : (free net xs sets : List ℕ) (n t next : ℕ) → Given free net → Watching free net sets → 1 ≤ t → t ≤ 255 → Onward net xs n t next → Lookout free net xs n t (stepSet sets next t)
+lookout free net xs sets n t next given w first last o =
     record {
-      begins = λ v l e. s .own v (w .begins v t l first last e);
-      steady = λ v l out. ⊎-elim (λ one. absurd (out (s .before v (o .first (omega arith) v l)))) (λ more. covered v more out) (lt-or-le t 2);
-      onward = λ j i l m p e. s .before (linkOf net 1 j) (o .of j i l m p e);
+      begins = λ v l e. own v (w .begins v t l first last e);
+      steady = λ v l out. ⊎-elim (λ one. absurd (out (before v (o .first (omega arith) v l)))) (λ more. covered v more out) (lt-or-le t 2);
+      onward = λ j i l m p e. before (linkOf net 1 j) (o .of j i l m p e);
     }
   where
-    covered : (v : ℕ) → 2 ≤ t → (Has r v → ⊥) → Steady (caseOf free net) v t
+    before : (v : ℕ) → Has next v → Has (stepSet sets next t) v
+    before v h = has-left (bitOr next (number sets t)) (number sets 322) v (has-left next (number sets t) v h)
+
+    own : (v : ℕ) → Has (number sets t) v → Has (stepSet sets next t) v
+    own v h = has-left (bitOr next (number sets t)) (number sets 322) v (has-right next (number sets t) v h)
+
+    covered : (v : ℕ) → 2 ≤ t → (Has (stepSet sets next t) v → ⊥) → Steady (caseOf free net) v t
     covered v more out =
         steady-of free net v t given
-        (λ j l to. ⊎-elim (λ z. z) (λ h. absurd (out (s .always v (subst (Has (number sets 322)) to h)))) (w .dear j l))
-        (λ x l e to. let z : closureOf net 2 x + 2 ≡ t = omega arith in out (s .own v (subst (λ (i : ℕ). Has (number sets i) v) z (subst (Has (number sets (closureOf net 2 x + 2))) to (w .reopens x l (omega arith))))))
+        (λ j l to. ⊎-elim (λ z. z) (λ h. absurd (out (has-right (bitOr next (number sets t)) (number sets 322) v (subst (Has (number sets 322)) to h)))) (w .dear j l))
+        (λ x l e to. let z : closureOf net 2 x + 2 ≡ t = omega arith in out (own v (subst (λ (i : ℕ). Has (number sets i) v) z (subst (Has (number sets (closureOf net 2 x + 2))) to (w .reopens x l (omega arith))))))
 
 -- a row below n after others were added
 grown-row : {xs ys : List ℕ} {n m v t : ℕ} → Grown xs ys n m v t → (i : ℕ) → i < n → rowAt ys i ≡ rowAt xs i
@@ -168,18 +173,23 @@ lookout-on {n = n} g a =
           (lt-or-le i n);
     }
 
-pub onward-on : {free net xs ys sets : List ℕ} {n m v t next r : ℕ} → 1 ≤ t → Watching free net sets → Grown xs ys n m v t → LedOn sets next v n m r → Onward net xs n (t + 1) next
-    → Onward net ys m (t + 1) r
-onward-on {net = net} {sets = sets} {n = n} {v = v} {r = r} one w g a o =
+pub onward-on : {free net xs ys sets : List ℕ} {n m v t next : ℕ} → 1 ≤ t → Watching free net sets → Grown xs ys n m v t → Onward net xs n (t + 1) next
+    → Onward net ys m (t + 1) (ledOn sets next v n m)
+onward-on {net = net} {sets = sets} {n = n} {m = m} {v = v} {next = next} one w g o =
     record {
       of = λ j i l b p e. ⊎-elim
-          (λ lt. a .kept (linkOf net 1 j) (o .of j i l lt (ap (λ (r : Row). r .place) (sym (grown-row g i lt)) ∙ p) (ap (λ (r : Row). r .step + 1) (sym (grown-row g i lt)) ∙ e)))
+          (λ lt. kept (ltb n m) (linkOf net 1 j) (o .of j i l lt (ap (λ (r : Row). r .place) (sym (grown-row g i lt)) ∙ p) (ap (λ (r : Row). r .step + 1) (sym (grown-row g i lt)) ∙ e)))
           (λ ge.
           let from : linkOf net 0 j ≡ v = sym p ∙ g .own i ge b .0 in
-          a .own (omega arith) (linkOf net 1 j) (subst (λ (u : ℕ). Has (number sets (258 + u)) (linkOf net 1 j)) from (w .onward j l)))
+          subst (λ (c : Bool). Has (pick c (bitOr next (number sets (258 + v))) next) (linkOf net 1 j)) (sym (lt-ltb n m (omega arith)))
+          (has-right next (number sets (258 + v)) (linkOf net 1 j) (subst (λ (u : ℕ). Has (number sets (258 + u)) (linkOf net 1 j)) from (w .onward j l))))
           (lt-or-le i n);
       first = λ e. absurd (omega arith);
     }
+  where
+    kept : (c : Bool) (u : ℕ) → Has next u → Has (pick c (bitOr next (number sets (258 + v))) next) u
+    kept true u h = has-left next (number sets (258 + v)) u h
+    kept false u h = h
 
 -- at the beginning of step t no row is of it
 pub onward-none : (free net xs : List ℕ) (n t : ℕ) → 1 ≤ t → Filled (caseOf free net) (rowsOf xs n) t 0 → Onward net xs n (t + 1) 0

@@ -35,7 +35,7 @@ loop-holds : tie.Need-loop-holds Inv-loop μ-loop
 loop-holds c =
     let p = c .before .before .before .before .before .before .before .before .pre in
     let r = c .next-place .ensures in
-    let look = lookout _ _ _ _ _ _ _ _ (p .0 .given) (p .2) (p .0 .first) (p .0 .last) (p .3) (c .before .before .step-set .ensures) in
+    let look = subst (Lookout _ _ _ _ _) (sym (c .before .before .step-set .ensures)) (lookout _ _ _ _ _ _ _ (p .0 .given) (p .2) (p .0 .first) (p .0 .last) (p .3)) in
     (refl, refl, r .passed _ _ _ look (walking-first (p .0) (p .1)), r .vacant, look, onward-none _ _ _ _ _ (p .0 .first) (p .0 .filled))
 
 visit-requires : tie.Need-visit-requires Inv-loop μ-loop
@@ -87,7 +87,7 @@ loop-again c =
       r .passed _ _ _ look (walking-on (inv .2) (omega (arith, c .before .before .before .before .before .before .before .before .before .before .before .before .before .places-of .ensures)) (x .0) (not-false _ (c .before .before .if1 .left))),
       r .vacant,
       look,
-      onward-on (p .0 .first) (p .2) (x .1) (c .before .led-on .ensures) (inv .5),
+      subst (Onward _ _ _ _) (sym (c .before .led-on .ensures)) (onward-on (p .0 .first) (p .2) (x .1) (inv .5)),
     )
 
 is-somewhere-dear-requires : tie.Need-is-somewhere-dear-requires Inv-loop μ-loop

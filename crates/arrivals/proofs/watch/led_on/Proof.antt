@@ -1,7 +1,9 @@
 -- `arrivals::watch::led_on` meets its contract.
 -- Assumes nothing.
+use mathlib.Core.Path.{refl}
 use native.Mathlib.Omega.{arith}
 use borrow.Author.Needs.{needs}
+use borrow.Author.Tests.{lt-ltb, le-ltb}
 use Rattle.arrivals.proofs.watch.led_on.Statement.{statement}
 use Rattle.arrivals.proofs.watch.led_on.Tie as tie
 
@@ -21,10 +23,10 @@ union-requires : tie.Need-union-requires
 union-requires c κs = search needs
 
 returns : tie.Need-returns
-returns c = record { kept = λ w h. c .union .ensures .left w h; own = λ l w h. c .union .ensures .right w h }
+returns c = rw (lt-ltb _ _ (c .before .before .before .if1 .taken)) (c .union .ensures)
 
 returns-2 : tie.Need-returns-2
-returns-2 c = record { kept = λ w h. h; own = λ l. absurd (omega arith) }
+returns-2 c = rw (le-ltb _ _ (c .if1 .left)) refl
 
 pub led-on-spec : {M : Type 1} → statement M
 led-on-spec =

@@ -1,6 +1,10 @@
 -- `arrivals::watch::step_set` meets its contract.
 -- Assumes nothing.
+use mathlib.Core.Path.{_∙_, ap}
+use Prim.Native.Nat.{ℕ}
+use lib.Bits.{bitOr}
 use borrow.Author.Needs.{needs}
+use Rattle.sheet.specs.Lists.{number}
 use Rattle.arrivals.proofs.watch.step_set.Statement.{statement}
 use Rattle.arrivals.proofs.watch.step_set.Tie as tie
 
@@ -23,7 +27,7 @@ union-requires-2 : tie.Need-union-requires-2
 union-requires-2 c κs = search needs
 
 returns : tie.Need-returns
-returns c = let a = c .before .union .ensures in let b = c .union2 .ensures in record { before = λ v h. b .left v (a .left v h); own = λ v h. b .left v (a .right v h); always = λ v h. b .right v h }
+returns c = c .union2 .ensures ∙ ap (λ (x : ℕ). bitOr x (number (c .before .before .before .before .before .before .args .sets .now) 322)) (c .before .union .ensures)
 
 pub step-set-spec : {M : Type 1} → statement M
 step-set-spec =

@@ -4,7 +4,7 @@ use mathlib.Core.Path.{ap, _∙_}
 use Prim.Native.Nat.{ℕ, _+_}
 use native.Mathlib.Omega.{arith}
 use borrow.Author.Needs.{needs}
-use Rattle.intervals.specs.Laws.Sets.{kept-none, added-as}
+use Rattle.intervals.specs.Laws.Sets.{kept-none, added}
 use Rattle.arrivals.proofs.watch.watch_closure.Statement.{statement}
 use Rattle.arrivals.proofs.watch.watch_closure.Tie as tie
 
@@ -27,7 +27,10 @@ same-length : tie.Need-same-length
 same-length c = search needs
 
 returns : tie.Need-returns
-returns c = let a = added-as (ap (λ (x : ℕ). x + 2) (c .before .before .before .before .before .before .wide .ensures ∙ c .before .before .before .before .before .before .before .closure-number .ensures)) (c .before .before .before .closure-number2 .ensures) (c .before .before .add .ensures) in record { kept = a .kept; own = λ l. a .own }
+returns c =
+    let s = c .before .before .before .before .before .before .wide .ensures ∙ c .before .before .before .before .before .before .before .closure-number .ensures in
+    let a = added (c .before .before .add .ensures) (ap (λ (x : ℕ). x + 2) s) (c .before .before .before .closure-number2 .ensures) (omega (arith, c .before .before .before .before .before .before .before .before .before .before .pre .3)) in
+    record { kept = a .kept; own = λ l. a .own }
 
 returns-2 : tie.Need-returns-2
 returns-2 c = record { kept = kept-none _; own = λ l. absurd (omega (arith, c .before .wide .ensures, c .before .before .closure-number .ensures)) }

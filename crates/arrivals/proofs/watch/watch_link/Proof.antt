@@ -5,7 +5,7 @@ use mathlib.Core.Logic.{inl, inr}
 use Prim.Native.Nat.{ℕ, _+_}
 use native.Mathlib.Omega.{arith}
 use borrow.Author.Needs.{needs}
-use Rattle.intervals.specs.Laws.Sets.{kept-on, added-as}
+use Rattle.intervals.specs.Laws.Sets.{kept-on, added}
 use Rattle.arrivals.proofs.watch.watch_link.Statement.{statement}
 use Rattle.arrivals.proofs.watch.watch_link.Tie as tie
 
@@ -33,15 +33,21 @@ link-end-requires-3 : tie.Need-link-end-requires-3
 link-end-requires-3 c κs = let p = c .before .before .before .before .before .before .before .before .before .before .before .before .pre in (omega (arith, p .1, p .0 .few), omega arith, p .0 .size)
 
 add-requires-2 : tie.Need-add-requires-2
-add-requires-2 c κs = let p = c .before .before .before .before .before .before .before .before .before .before .before .before .before .pre in (omega (arith, c .before .before .before .before .before .before .add .ensures .kept .size, p .2), omega (arith, c .link-end3 .ensures, p .0 .ends 1 _ (omega arith) (p .1)))
+add-requires-2 c κs =
+    let p = c .before .before .before .before .before .before .before .before .before .before .before .before .before .pre in
+    let from = c .before .before .before .before .before .before .before .before .before .before .link-end .ensures in
+    let a = added (c .before .before .before .before .before .before .add .ensures) refl refl (omega (arith, c .before .before .before .before .before .before .before .before .wide .ensures, from, p .0 .ends 0 _ (omega arith) (p .1), p .2)) in
+    (omega (arith, a .kept .size, p .2), omega (arith, c .link-end3 .ensures, p .0 .ends 1 _ (omega arith) (p .1)))
 
 same-length : tie.Need-same-length
 same-length c = search needs
 
 returns : tie.Need-returns
 returns c =
-    let a = added-as (ap (λ (x : ℕ). 258 + x) (c .before .before .before .before .before .before .before .before .before .before .before .wide .ensures ∙ c .before .before .before .before .before .before .before .before .before .before .before .before .before .link-end .ensures)) (c .before .before .before .before .before .before .before .before .before .before .link-end2 .ensures) (c .before .before .before .before .before .before .before .before .before .add .ensures) in
-    let b = added-as refl (c .before .before .before .link-end3 .ensures) (c .before .before .add2 .ensures) in
+    let p = c .before .before .before .before .before .before .before .before .before .before .before .before .before .before .before .before .pre in
+    let from = c .before .before .before .before .before .before .before .before .before .before .before .wide .ensures ∙ c .before .before .before .before .before .before .before .before .before .before .before .before .before .link-end .ensures in
+    let a = added (c .before .before .before .before .before .before .before .before .before .add .ensures) (ap (λ (x : ℕ). 258 + x) from) (c .before .before .before .before .before .before .before .before .before .before .link-end2 .ensures) (omega (arith, from, p .0 .ends 0 _ (omega arith) (p .1), p .2)) in
+    let b = added (c .before .before .add2 .ensures) refl (c .before .before .before .link-end3 .ensures) (omega (arith, a .kept .size, p .2)) in
     record { kept = kept-on (a .kept) (b .kept); onward = b .kept .more _ _ (a .own); dear = inr (b .own) }
 
 same-length-2 : tie.Need-same-length-2
@@ -49,7 +55,9 @@ same-length-2 c = search needs
 
 returns-2 : tie.Need-returns-2
 returns-2 c =
-    let a = added-as (ap (λ (x : ℕ). 258 + x) (c .before .before .before .before .before .before .wide .ensures ∙ c .before .before .before .before .before .before .before .before .link-end .ensures)) (c .before .before .before .before .before .link-end2 .ensures) (c .before .before .before .before .add .ensures) in
+    let p = c .before .before .before .before .before .before .before .before .before .before .before .pre in
+    let from = c .before .before .before .before .before .before .wide .ensures ∙ c .before .before .before .before .before .before .before .before .link-end .ensures in
+    let a = added (c .before .before .before .before .add .ensures) (ap (λ (x : ℕ). 258 + x) from) (c .before .before .before .before .before .link-end2 .ensures) (omega (arith, from, p .0 .ends 0 _ (omega arith) (p .1), p .2)) in
     record { kept = a .kept; onward = a .own; dear = inl (c .before .is-dear .ensures (c .if1 .left)) }
 
 pub watch-link-spec : {M : Type 1} → statement M

@@ -1,9 +1,20 @@
 -- `intervals::sets::add` meets its contract.
 -- Assumes nothing.
+use mathlib.Core.Path.{_≡_, ap, _∙_}
+use Prim.Native.Nat.{ℕ, _*_, _%_, _^_, _<_}
+use native.Mathlib.Omega.{arith}
+use lib.Bits.{bitOr}
+use lib.ListN.{set}
+use lib.Pow.{shl-exact}
 use borrow.Author.Needs.{needs}
-use Rattle.intervals.specs.Laws.Sets.{added-one}
+use Rattle.sheet.specs.Lists.{number}
+use Rattle.intervals.specs.Sets.{withPlace}
 use Rattle.intervals.proofs.sets.add.Statement.{statement}
 use Rattle.intervals.proofs.sets.add.Tie as tie
+
+-- the set of one place is no more than 64 digits long
+one-place : (v : ℕ) → v < 64 → (1 * 2 ^ v) % 18446744073709551616 ≡ 2 ^ v
+one-place v l = let e : 1 * 2 ^ v ≡ 2 ^ v = omega arith in shl-exact {a = 1} 1 v 64 (omega arith) (omega arith) ∙ e
 
 cast-own : tie.Need-cast-own
 cast-own c = search needs
@@ -27,7 +38,10 @@ same-length : tie.Need-same-length
 same-length c = search needs
 
 returns : tie.Need-returns
-returns c = added-one _ _ _ (c .before .before .pre .0) (c .before .before .pre .1)
+unfolding withPlace
+returns c =
+    let a = c .before .before .args in
+    ap (λ (x : ℕ). set (a .sets .now) (a .i) (bitOr (number (a .sets .now) (a .i)) x)) (one-place (a .v .0) (c .before .before .pre .1))
 
 pub add-spec : {M : Type 1} → statement M
 add-spec =

@@ -1,12 +1,13 @@
 -- `intervals::sets::add_ends` meets its contract. The loop's invariant: the places of the first k lines are added.
 -- The measure is what is left of the lines.
 -- Assumes nothing.
-use mathlib.Core.Path.{_≡_, subst}
+use mathlib.Core.Path.{_≡_, refl, subst}
 use Prim.Native.Nat.{ℕ, _-_, _/_, _≤_}
 use native.Mathlib.Omega.{arith}
 use lib.ListN.{length}
 use borrow.Author.Needs.{needs}
 use Rattle.intervals.specs.Inner.{Followed}
+use Rattle.intervals.specs.Laws.Sets.{added}
 use Rattle.intervals.proofs.Tables.{markable}
 use Rattle.intervals.proofs.Begins.{followed-none, followed-more}
 use Rattle.intervals.proofs.sets.add_ends.Statement.{statement}
@@ -65,7 +66,11 @@ loop-again : tie.Need-loop-again Inv-loop μ-loop
 loop-again c =
     let z = c .before .before .before .before .before .before .before .before .before .before in
     let w = c .before .before .before .before .before .before .before .loop in
-    (search needs, search needs, followed-more (z .args .occupancies .now) (w .k) _ (w .sets) _ (w .inv .2) (c .before .before .add .ensures))
+    let m = markable _ (w .k) (z .pre .0) (search needs) in (
+      search needs,
+      search needs,
+      followed-more (z .args .occupancies .now) (w .k) _ (w .sets) _ (w .inv .2) (added (c .before .before .add .ensures) refl refl (omega (arith, m .step, w .inv .1, z .pre .1))),
+    )
 
 same-length : tie.Need-same-length Inv-loop μ-loop
 same-length c = search needs
