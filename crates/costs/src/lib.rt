@@ -1,7 +1,7 @@
 // Costs: three figures, added and compared place by place as one value (document 01, "Lawful journeys"); the cost of a wait, and the corridors.
 ghost use mathlib.Core.Path.{_≡_};
 ghost use mathlib.Core.List.{[]};
-ghost use Prim.Native.Nat.{_+_, _≤_, _<_};
+ghost use Prim.Native.Nat.{_+_, _-_, _≤_, _<_};
 ghost use lib.ListN.{length, getD};
 ghost use Rattle.sheet.specs.Lists.{number, numbersFrom};
 ghost use Rattle.sheet.specs.Kinds.{kindC};
@@ -63,22 +63,23 @@ pub fn less(h: [u32; 3], c: [u32; 3]) -> [u32; 3]
     r
 }
 
-// 1 where x is greater than y, 0 otherwise: by arithmetic alone, since which of two figures is greater is no branch that can be foreseen.
-fn above(x: u32, y: u32) -> u64
-    ensures { λ r. ⌜ (x ≤ y → r ≡ 0) × (y < x → r ≡ 1) ⌝ }
+// 2^32 or more where x is greater than y, and less otherwise: by arithmetic alone, since which of two figures is greater is no branch that can be
+// foreseen.
+fn excess(x: u32, y: u32) -> u64
+    ensures { λ r. ⌜ r ≡ x + (4294967295 - y) ⌝ }
 {
-    (x as u64 + 4294967295 - y as u64) / 4294967296
+    x as u64 + (4294967295 - y as u64)
 }
 
 // Whether no figure of a is greater than b's.
 pub fn at_most(a: [u32; 3], b: [u32; 3]) -> bool
     ensures { λ r. ⌜ r ≡ atMostb a b ⌝ }
 {
-    let mut greater = 0;
+    let mut over = 0;
     for i in 0..3 {
-        greater += above(a[i], b[i]);
+        over = over | excess(a[i], b[i]);
     }
-    greater == 0
+    over < 4294967296
 }
 
 // Whether a stands before b: by first figure, then second, then third.
