@@ -1,7 +1,7 @@
 // Sets of places, each one number: place v is in a set where the binary digit v of the number is 1. So the places of a step that are to be looked at are
 // found without a look at the others.
 ghost use mathlib.Core.Path.{_≡_};
-ghost use Prim.Native.Nat.{_+_, _≤_, _<_};
+ghost use Prim.Native.Nat.{_+_, _^_, _≤_, _<_};
 ghost use lib.Bits.{bitOr};
 ghost use lib.ListN.{length};
 ghost use Rattle.sheet.specs.Store.{SomeStore};
@@ -27,6 +27,14 @@ pub fn union(a: u64, b: u64) -> u64
     ensures { λ r. ⌜ r ≡ bitOr a b ⌝ }
 {
     a | b
+}
+
+// The set with place v.
+pub fn with(set: u64, v: Place) -> u64
+    requires { ⌜ v .0 < 64 ⌝ }
+    ensures { λ r. ⌜ r ≡ bitOr set (2 ^ v .0) ⌝ }
+{
+    set | (1u64 << v.0)
 }
 
 // The first place from v on that is in a set; 64 or more where there is none.

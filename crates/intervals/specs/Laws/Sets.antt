@@ -9,7 +9,7 @@ use native.Mathlib.Decide.{ℕ-discrete}
 use lib.Bits.{bitOr, or-step, or-shr}
 use lib.Count.{trailingZeros, under}
 use lib.ListN.{length, set, length-set}
-use lib.Pow.{shl-shr, shr-shr, ones-split, high, ones-lt, pow-pos}
+use lib.Pow.{shl-exact, shl-shr, shr-shr, ones-split, high, ones-lt, pow-pos, pow-add, pow-lt}
 use lib.Seq.{getD-set-same, getD-set-other}
 use Rattle.sheet.specs.Lists.{number}
 use Rattle.sheet.specs.Laws.Decided.{lt-or-le}
@@ -31,12 +31,42 @@ has-left a b v h = record { digit = ap (λ (x : ℕ). x % 2) (or-shr a b v) ∙ 
 pub has-right : (a b v : ℕ) → Has b v → Has (bitOr a b) v
 has-right a b v h = record { digit = ap (λ (x : ℕ). x % 2) (or-shr a b v) ∙ odd-or (a / 2 ^ v) (b / 2 ^ v) (inr (h .digit)) }
 
--- the set of one place
-has-own : (v : ℕ) → Has (2 ^ v) v
+or-odd : (a b : ℕ) → bitOr a b % 2 ≡ 1 → (a % 2 ≡ 1) ⊎ (b % 2 ≡ 1)
+or-odd a b h = go (ℕ-discrete (a % 2) 1)
+  where
+    go : Dec (a % 2 ≡ 1) → (a % 2 ≡ 1) ⊎ (b % 2 ≡ 1)
+    go (yes e) = inl e
+    go (no e) = inr (omega (arith, or-step a b))
+
+pub has-or : (a b v : ℕ) → Has (bitOr a b) v → Has a v ⊎ Has b v
+has-or a b v h =
+    ⊎-elim (λ e. inl (record { digit = e })) (λ e. inr (record { digit = e })) (or-odd (a / 2 ^ v) (b / 2 ^ v) (sym (ap (λ (x : ℕ). x % 2) (or-shr a b v)) ∙ h .digit))
+
+-- the set of one place: it is no more than 64 digits long, and holds that place alone
+pub one-place : (v : ℕ) → v < 64 → (1 * 2 ^ v) % 18446744073709551616 ≡ 2 ^ v
+one-place v l = let e : 1 * 2 ^ v ≡ 2 ^ v = omega arith in shl-exact {a = 1} 1 v 64 (omega arith) (omega arith) ∙ e
+
+pub has-own : (v : ℕ) → Has (2 ^ v) v
 has-own v = record { digit = ap (λ (x : ℕ). x / 2 ^ v % 2) one ∙ ap (λ (x : ℕ). x % 2) (shl-shr 1 v) }
   where
     one : 2 ^ v ≡ 1 * 2 ^ v
     one = omega arith
+
+pub has-one : (v w : ℕ) → Has (2 ^ v) w → w ≡ v
+has-one v w h = ⊎-elim (λ l. absurd (before l)) (λ l. ⊎-elim (λ m. absurd (after m)) (λ m. omega arith) (lt-or-le v w)) (lt-or-le w v)
+  where
+    before : w < v → ⊥
+    before l =
+        let e : v ≡ suc (v - w - 1) + w = omega arith in
+        let whole : 2 ^ v ≡ 2 ^ suc (v - w - 1) * 2 ^ w = ap (λ (x : ℕ). 2 ^ x) e ∙ pow-add 2 (suc (v - w - 1)) w in
+        let part : 2 ^ v / 2 ^ w ≡ 2 ^ suc (v - w - 1) = ap (λ (x : ℕ). x / 2 ^ w) whole ∙ shl-shr (2 ^ suc (v - w - 1)) w in
+        omega (arith, h .digit, ap (λ (x : ℕ). x % 2) part, pow-suc 2 (v - w - 1))
+
+    after : v < w → ⊥
+    after l =
+        let whole : 2 ^ v ≡ 0 * 2 ^ w + 2 ^ v = omega arith in
+        let part : 2 ^ v / 2 ^ w ≡ 0 = ap (λ (x : ℕ). x / 2 ^ w) whole ∙ high 0 w (pow-lt l) in
+        omega (arith, h .digit, ap (λ (x : ℕ). x % 2) part)
 
 -- the set of all places
 pub has-all : (v : ℕ) → v < 64 → Has 18446744073709551615 v
