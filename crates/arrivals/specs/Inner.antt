@@ -11,7 +11,14 @@ pub mod Pruning
 pub mod Selecting
 pub mod Offering
 pub mod Index
+pub mod Renoting
 pub mod Due
+pub mod Lists
+pub mod Parts
+pub mod Keeping
+pub mod Turning
+pub mod Standing
+pub mod Settled
 pub mod Sweeps
 pub mod Leaders
 pub mod Gather

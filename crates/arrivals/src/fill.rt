@@ -1,10 +1,13 @@
 // All rows, place by place and step by step.
+use crate::by_lists::Halt;
+use crate::by_lists::search_lists;
 use crate::expand::from_links;
 use crate::index::INDEX;
 use crate::index::MIDDLE;
 use crate::index::SHORT;
 use crate::index::Span;
 use crate::index::note;
+use crate::index::note_step;
 use crate::live::settle;
 use crate::network::Here;
 use crate::network::places_of;
@@ -24,14 +27,17 @@ use sheet::Place;
 use sheet::Step;
 ghost use mathlib.Core.Path.{_≡_};
 ghost use mathlib.Core.Bool.{true, false};
-ghost use Prim.Native.Nat.{_+_, _≤_, _<_};
-ghost use lib.ListN.{length};
+ghost use Prim.Native.Nat.{ℕ, _+_, _*_, _-_, _≤_, _<_};
+ghost use lib.ListN.{length, replicate};
 ghost use Rattle.arrivals.specs.Inner.Network.{placesOf, caseOf, Vacant};
+ghost use Rattle.arrivals.specs.Rows.{rowAt};
 ghost use Rattle.arrivals.specs.Inner.Lent.{Given};
 ghost use Rattle.arrivals.specs.Inner.Filling.{Visiting, Visited, Grown, Result};
 ghost use Rattle.arrivals.specs.Inner.Index.{Indexed, roomOf};
-ghost use Rattle.arrivals.specs.Inner.Due.{IndexedShort, Stepping, Fast, Watching, Searchable, Onward, SteppedOn};
+ghost use Rattle.arrivals.specs.Inner.Due.{Covered, IndexedShort, Stepping, Fast, Watching, Searchable, Onward, SteppedOn};
 ghost use Rattle.arrivals.specs.Inner.Walking.{Walking, PassedTo};
+ghost use Rattle.arrivals.specs.Inner.Lists.{Halted};
+ghost use Rattle.arrivals.specs.Inner.Renoting.{Noteable};
 ghost use Rattle.arrivals.specs.Inner.Ending.{Ends};
 
 // Fills in place v at step t: every offer is judged once; where the room runs out on the way, as fill_place does.
@@ -115,8 +121,8 @@ pub fn visit(
     v: Place,
     t: Step,
 ) -> Outcome
-    requires { ⌜ (Walking (now runs) (now net) (now table) (now ix) n (v .0) (t .0)) × (v .0 < placesOf (now net))
-        × (Vacant (caseOf (now runs) (now net)) (v .0) (t .0)) ⌝ }
+    requires { ⌜ (Walking (now runs) (now net) (now table) n (v .0) (t .0)) × (v .0 < placesOf (now net))
+        × (Vacant (caseOf (now runs) (now net)) (v .0) (t .0)) × (IndexedShort (now table) n (now ix) (t .0) (t .0) (now net)) ⌝ }
     ensures { λ r. ⌜ (Stepping (now (runs .entry)) (now (net .entry)) (now (table .exit)) (now (ix .exit)) (t .0) (t .0) (v .0 + 1) r)
         × (Grown (now (table .entry)) (now (table .exit)) n (r .rows) (v .0) (t .0)) ⌝ }
 {
@@ -189,7 +195,7 @@ pub fn fill_step(
     }
 }
 
-// Fills in every step to the last. At step 1 every place is looked at.
+// Fills in every step from a step on to the last. At the first of them every place is looked at.
 pub fn fill_steps(
     table: &mut [u32],
     rows: usize,
@@ -198,13 +204,15 @@ pub fn fill_steps(
     net: &[u32],
     runs: &[u16],
     last: Step,
+    from: Step,
 ) -> Outcome
-    requires { ⌜ (Visiting (now runs) (now net) (now table) rows 0 1) × (IndexedShort (now table) rows (now ix) 0 1 (now net)) × (last .0 ≤ 255)
+    requires { ⌜ (Visiting (now runs) (now net) (now table) rows 0 (from .0)) × (IndexedShort (now table) rows (now ix) (from .0 - 1) (from .0) (now net))
+        × (last .0 ≤ 255) × (from .0 ≤ last .0 + 1)
         × (Watching (now runs) (now net) (now sets)) × (roomOf (last .0) ≤ length (now ix)) ⌝ }
     ensures { λ r. ⌜ Result (caseOf (now (runs .entry)) (now (net .entry))) (now (table .exit)) (last .0 + 1) 0 (r .ok) (r .rows) ⌝ }
 {
     let mut n = rows;
-    let mut t = 1;
+    let mut t = from.0;
     let mut next = 18446744073709551615u64;
     while t <= last.0 {
         let r = fill_step(table, n, ix, sets, net, runs, Step(t), next);
@@ -238,7 +246,7 @@ pub fn first_row(table: &mut [u32], ix: &mut [u32], net: &[u32], runs: &[u16]) -
 }
 
 // All the rows of the search, after which the table is as it was, or more of them than there is room for.
-pub fn search_by(
+pub fn search_anew(
     table: &mut [u32],
     ix: &mut [u32],
     sets: &[u64],
@@ -253,26 +261,173 @@ pub fn search_by(
     let ok = r.ok;
     let rows = r.rows;
     if ok {
-        return fill_steps(table, rows, ix, sets, net, runs, last);
+        return fill_steps(table, rows, ix, sets, net, runs, last, Step(1));
     }
     Outcome { ok: false, rows }
 }
 
+// Notes the rows below n, which stand in order, step by step, and leaves out those that a later row undercuts, as the search by the index does.
+pub fn note_rows(
+    table: &[u32],
+    n: usize,
+    ix: &mut [u32],
+    net: &[u32],
+    runs: &[u16],
+    t: Step,
+    dear: bool,
+)
+    requires { ⌜ (Given (now runs) (now net)) × (Noteable (now table) n) × (now ix ≡ replicate (length (now ix)) 0) × (roomOf (t .0) ≤ length (now ix)) × (t .0 ≤ 255)
+        × ((i : ℕ) → i < n → rowAt (now table) i .step ≤ t .0) ⌝ }
+    ensures { λ _. ⌜ (Indexed (now (table .entry)) n (now (ix .exit)) (t .0)) × (Covered (now (net .entry)) (now (table .entry)) n (now (ix .exit)) (t .0 + 1)) ⌝ }
+{
+    let mut k = 0;
+    while k < n {
+        let s = Step(table[k * 5 + 1]);
+        k = note_step(table, k, n, ix);
+        settle(table, ix, net, runs, s, dear);
+    }
+}
+
+// The same from where the search by lists gave up.
+pub fn search_on(
+    table: &mut [u32],
+    ix: &mut [u32],
+    sets: &[u64],
+    net: &[u32],
+    runs: &[u16],
+    last: Step,
+    halt: Halt,
+) -> Outcome
+    requires { ⌜ (Searchable (now runs) (now net) (now sets) (last .0)) × (now ix ≡ replicate (length (now ix)) 0) × (roomOf (last .0) ≤ length (now ix)) × (1 ≤ halt .step .0)
+        × (Halted (now runs) (now net) (now table) (last .0) (halt .rows) (halt .step .0)) ⌝ }
+    ensures { λ r. ⌜ Result (caseOf (now (runs .entry)) (now (net .entry))) (now (table .exit)) (last .0 + 1) 0 (r .ok) (r .rows) ⌝ }
+{
+    let rows = halt.rows;
+    let from = halt.step;
+    if table.len() <= 41943039 {
+        note_rows(
+            table,
+            rows,
+            ix,
+            net,
+            runs,
+            Step(from.0 - 1),
+            is_somewhere_dear(sets),
+        );
+    }
+    fill_steps(table, rows, ix, sets, net, runs, last, from)
+}
+
+// The same from there, or from the beginning.
+pub fn search_by(
+    table: &mut [u32],
+    ix: &mut [u32],
+    sets: &[u64],
+    net: &[u32],
+    runs: &[u16],
+    last: Step,
+    halt: Halt,
+) -> Outcome
+    requires { ⌜ (Searchable (now runs) (now net) (now sets) (last .0)) × (now ix ≡ replicate (length (now ix)) 0) × (roomOf (last .0) ≤ length (now ix))
+        × (1 ≤ halt .step .0 → Halted (now runs) (now net) (now table) (last .0) (halt .rows) (halt .step .0)) ⌝ }
+    ensures { λ r. ⌜ Result (caseOf (now (runs .entry)) (now (net .entry))) (now (table .exit)) (last .0 + 1) 0 (r .ok) (r .rows) ⌝ }
+{
+    let from = halt.step;
+    if from.0 == 0 {
+        return search_anew(table, ix, sets, net, runs, last);
+    }
+    search_on(table, ix, sets, net, runs, last, halt)
+}
+
 // The same, with no longer an index than the steps need: clearing it takes most of the time where there are few. The three take one place on the stack.
-pub fn search_all(table: &mut [u32], sets: &[u64], net: &[u32], runs: &[u16], last: Step) -> Outcome
-    requires { ⌜ Searchable (now runs) (now net) (now sets) (last .0) ⌝ }
+pub fn search_indexed(
+    table: &mut [u32],
+    sets: &[u64],
+    net: &[u32],
+    runs: &[u16],
+    last: Step,
+    halt: Halt,
+) -> Outcome
+    requires { ⌜ (Searchable (now runs) (now net) (now sets) (last .0))
+        × (1 ≤ halt .step .0 → Halted (now runs) (now net) (now table) (last .0) (halt .rows) (halt .step .0)) ⌝ }
     ensures { λ r. ⌜ Result (caseOf (now (runs .entry)) (now (net .entry))) (now (table .exit)) (last .0 + 1) 0 (r .ok) (r .rows) ⌝ }
 {
     if last.0 < 16 {
         let mut ix = [0; SHORT];
-        return search_by(table, &mut ix, sets, net, runs, last);
+        return search_by(table, &mut ix, sets, net, runs, last, halt);
     }
     if last.0 < 64 {
         let mut ix = [0; MIDDLE];
-        return search_by(table, &mut ix, sets, net, runs, last);
+        return search_by(table, &mut ix, sets, net, runs, last, halt);
     }
     let mut ix = [0; INDEX];
-    search_by(table, &mut ix, sets, net, runs, last)
+    search_by(table, &mut ix, sets, net, runs, last, halt)
+}
+
+// The same in the first k numbers of the table alone; nothing is said where they are not enough.
+pub fn search_part(
+    table: &mut [u32],
+    k: usize,
+    sets: &[u64],
+    net: &[u32],
+    runs: &[u16],
+    last: Step,
+    halt: Halt,
+) -> Outcome
+    requires { ⌜ (Searchable (now runs) (now net) (now sets) (last .0)) × (k ≤ length (now table)) × (halt .rows * 5 ≤ k)
+        × (1 ≤ halt .step .0 → Halted (now runs) (now net) (now table) (last .0) (halt .rows) (halt .step .0)) ⌝ }
+    ensures { λ r. ⌜ (r .ok ≡ true → Result (caseOf (now (runs .entry)) (now (net .entry))) (now (table .exit)) (last .0 + 1) 0 true (r .rows)) ⌝ }
+{
+    search_indexed(&mut table[..k], sets, net, runs, last, halt)
+}
+
+// The same by an index that numbers 8,388,607 rows: a table with room for more is searched as far as these first, and as a whole only where they are not
+// enough, without the index.
+pub fn search_far(
+    table: &mut [u32],
+    sets: &[u64],
+    net: &[u32],
+    runs: &[u16],
+    last: Step,
+    halt: Halt,
+) -> Outcome
+    requires { ⌜ (Searchable (now runs) (now net) (now sets) (last .0))
+        × (1 ≤ halt .step .0 → Halted (now runs) (now net) (now table) (last .0) (halt .rows) (halt .step .0)) ⌝ }
+    ensures { λ r. ⌜ Result (caseOf (now (runs .entry)) (now (net .entry))) (now (table .exit)) (last .0 + 1) 0 (r .ok) (r .rows) ⌝ }
+{
+    let begun = halt.rows;
+    if table.len() <= 41943039 {
+        return search_indexed(table, sets, net, runs, last, halt);
+    }
+    if 8388607 < begun {
+        return search_indexed(table, sets, net, runs, last, halt);
+    }
+    let r = search_part(table, 41943035, sets, net, runs, last, halt);
+    let ok = r.ok;
+    let rows = r.rows;
+    if ok {
+        return Outcome { ok: true, rows };
+    }
+    let anew = Halt {
+        ok: false,
+        rows: 0,
+        step: Step(0),
+    };
+    search_indexed(table, sets, net, runs, last, anew)
+}
+
+// The same by lists of live costs, and from the step on for which a list or the table has no room, by the index.
+pub fn search_all(table: &mut [u32], sets: &[u64], net: &[u32], runs: &[u16], last: Step) -> Outcome
+    requires { ⌜ Searchable (now runs) (now net) (now sets) (last .0) ⌝ }
+    ensures { λ r. ⌜ Result (caseOf (now (runs .entry)) (now (net .entry))) (now (table .exit)) (last .0 + 1) 0 (r .ok) (r .rows) ⌝ }
+{
+    let r = search_lists(table, sets, net, runs, last);
+    let ok = r.ok;
+    let rows = r.rows;
+    if ok {
+        return Outcome { ok: true, rows };
+    }
+    search_far(table, sets, net, runs, last, r)
 }
 
 // All the rows of the search, and zeros after them; or zeros alone where there is no room.

@@ -4,9 +4,11 @@ use sheet::Place;
 use sheet::Step;
 ghost use mathlib.Core.Path.{_≡_};
 ghost use mathlib.Core.Logic.{_⊎_};
-ghost use Prim.Native.Nat.{_<_, _≤_};
+ghost use Prim.Native.Nat.{_*_, _<_, _≤_};
 ghost use lib.ListN.{length};
-ghost use Rattle.arrivals.specs.Inner.Index.{roomOf, groupAt, lowOf, highOf, newestOf, Older, Regrouped, NotedAs};
+ghost use Rattle.arrivals.specs.Rows.{rowAt};
+ghost use Rattle.arrivals.specs.Inner.Index.{roomOf, groupAt, lowOf, highOf, newestOf, Indexed, Older, Regrouped, NotedAs};
+ghost use Rattle.arrivals.specs.Inner.Renoting.{GroupEnd, Noteable, First, StepNoted};
 
 // The index: from 0 the step past the rows of each place; then, for each step and place, the first row and the row past the last, with the step before. Its
 // length for steps below 16, below 64 and below 256.
@@ -95,4 +97,42 @@ pub fn note(ix: &mut [u32], span: Span, v: Place, s: Step)
     let back = latest(ix, v, s);
     ix[v.0 as usize] = s.0 + 1;
     regroup(ix, span, v, s, back);
+}
+
+// The first row from row k on that is of another place or step than row k, or n.
+pub fn group_end(table: &[u32], k: usize, n: usize) -> usize
+    requires { ⌜ (k < n) × (n * 5 ≤ length (now table)) ⌝ }
+    ensures { λ r. ⌜ GroupEnd (now (table .entry)) k n r ⌝ }
+{
+    let place = table[k * 5];
+    let step = table[k * 5 + 1];
+    let mut i = k + 1;
+    while i < n {
+        if table[i * 5] != place {
+            return i;
+        }
+        if table[i * 5 + 1] != step {
+            return i;
+        }
+        i += 1;
+    }
+    i
+}
+
+// Notes the rows of the step of row k, which is the first of its step, and hands back the row past them.
+pub fn note_step(table: &[u32], k: usize, n: usize, ix: &mut [u32]) -> usize
+    requires { ⌜ (k < n) × (Noteable (now table) n) × (First (now table) k) × (Indexed (now table) k (now ix) (rowAt (now table) k .step)) ⌝ }
+    ensures { λ r. ⌜ StepNoted (now (table .entry)) k n (now (ix .entry)) (now (ix .exit)) r ⌝ }
+{
+    let step = table[k * 5 + 1];
+    let mut i = k;
+    while i < n {
+        if table[i * 5 + 1] != step {
+            return i;
+        }
+        let m = group_end(table, i, n);
+        note(ix, Span { lo: i, hi: m }, Place(table[i * 5]), Step(step));
+        i = m;
+    }
+    i
 }

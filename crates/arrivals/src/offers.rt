@@ -20,7 +20,7 @@ ghost use Rattle.costs.specs.Costs.{add, AtMost};
 ghost use Rattle.arrivals.specs.Rows.{rowAt};
 ghost use Rattle.arrivals.specs.Inner.Rows.{rowsOf, tailOf};
 ghost use Rattle.arrivals.specs.Inner.Entering.{LedAt, Ready};
-ghost use Rattle.arrivals.specs.Inner.Offering.{Beaten, Thinned, ThinnedAll, Placed, Inserted};
+ghost use Rattle.arrivals.specs.Inner.Offering.{Beaten, Thinned, ThinnedAll, Placed, Inserted, Sorted};
 ghost use Rattle.arrivals.specs.Inner.Index.{Indexed, Covers};
 ghost use Rattle.arrivals.specs.Inner.Sweeps.{SweptAt, Sweepable};
 
@@ -141,17 +141,14 @@ pub fn led_walk(table: &[u32], n: usize, ix: &[u32], here: Here, g: [u32; 3]) ->
     false
 }
 
-// Offers the cost g to the d rows from row a on, which stand in order: only those before its place can be nowhere above g, and only those from there
-// on can be what g is nowhere above.
-pub fn offer(table: &mut [u32], a: usize, d: usize, ix: &[u32], here: Here, g: [u32; 3]) -> Outcome
-    requires { ⌜ Sweepable (now table) a d (now ix) here ⌝ }
+// Puts the cost g, which no older row leads, among the d rows from row a on, which stand in order, unless one of them leads it: only those before its place
+// can be nowhere above g, and only those from there on can be what g is nowhere above.
+pub fn put_in(table: &mut [u32], a: usize, d: usize, here: Here, g: [u32; 3]) -> Outcome
+    requires { ⌜ ((a + d) * 5 ≤ length (now table)) × (Sorted (tailOf (now table) a d)) × (LedAt (rowsOf (now table) a) here g → ⊥) ⌝ }
     ensures { λ r. ⌜ SweptAt (λ h. h ≡ g) here a (now (table .entry)) (now (table .exit)) d (r .ok) (r .rows) ⌝ }
 {
     let p = place_of(table, a, d, g);
     if beaten(table, a, p, g) {
-        return Outcome { ok: true, rows: d };
-    }
-    if led_walk(table, a, ix, here, g) {
         return Outcome { ok: true, rows: d };
     }
     let k = thin(table, a + p, d - p, g);
@@ -163,4 +160,15 @@ pub fn offer(table: &mut [u32], a: usize, d: usize, ix: &[u32], here: Here, g: [
         ok: true,
         rows: p + k + 1,
     }
+}
+
+// Offers the cost g to the d rows from row a on, which stand in order.
+pub fn offer(table: &mut [u32], a: usize, d: usize, ix: &[u32], here: Here, g: [u32; 3]) -> Outcome
+    requires { ⌜ Sweepable (now table) a d (now ix) here ⌝ }
+    ensures { λ r. ⌜ SweptAt (λ h. h ≡ g) here a (now (table .entry)) (now (table .exit)) d (r .ok) (r .rows) ⌝ }
+{
+    if led_walk(table, a, ix, here, g) {
+        return Outcome { ok: true, rows: d };
+    }
+    put_in(table, a, d, here, g)
 }

@@ -135,7 +135,7 @@ pub record Lookout (free net xs : List ℕ) (n t set : ℕ) : Type 0 where
   pub steady : (v : ℕ) → v < 64 → (Has set v → ⊥) → Steady (caseOf free net) v t
   pub onward : (j i : ℕ) → j < countOf net → i < n → rowAt xs i .place ≡ linkOf net 0 j → rowAt xs i .step + 1 ≡ t → Has set (linkOf net 1 j)
 
-pub onward-all : (net xs : List ℕ) (n : ℕ) → Linked net → Onward net xs n 1 18446744073709551615
+pub onward-all : (net xs : List ℕ) (n : ℕ) {t : ℕ} → Linked net → Onward net xs n t 18446744073709551615
 onward-all net xs n linked = record { of = λ j i l m p e. has-all (linkOf net 1 j) (linked .ends 1 j (omega arith) l); first = λ e v l. has-all v l }
 
 pub lookout : (free net xs sets : List ℕ) (n t next : ℕ) → Given free net → Watching free net sets → 1 ≤ t → t ≤ 255 → Onward net xs n t next → Lookout free net xs n t (stepSet sets next t)

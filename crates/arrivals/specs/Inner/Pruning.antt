@@ -31,7 +31,8 @@ pub record Spared (k : Case) (l : Link) (s t : ℕ) : Type 0 where
   pub within : since k (l .to) t ≤ departs + 1
   pub cheap : Cheap (k .wait) l
 
-parted : (a b n m : ℕ) → a ≡ b + n → a * m ≡ b * m + n * m
+-- a number of steps in two parts
+pub parted : (a b n m : ℕ) → a ≡ b + n → a * m ≡ b * m + n * m
 parted a b n m e = ap (λ (x : ℕ). x * m) e ∙ add-mul b n m
 
 module _ (k : Case) (legal : Legal k) (rs : List Row) (t W : ℕ) (complete : Complete k rs t W) (last : t ≤ 255) where
@@ -173,7 +174,7 @@ module _ (free net xs : List ℕ) (n : ℕ) (h : Here) (at : Reaching free net x
   mem : In (linkAt net j) (linksOf net (countOf net))
   mem = links-any (λ l. l ≡ linkAt net j) net (countOf net) j inside refl
 
-  led-over : (g : Cost) (r : Row) → In r (rowsOf xs n) → Joins (caseOf free net) (linkAt net j) (h .step .0) g r → r .step < f → LedAt (rowsOf xs n) h g
+  pub led-over : (g : Cost) (r : Row) → In r (rowsOf xs n) → Joins (caseOf free net) (linkAt net j) (h .step .0) g r → r .step < f → LedAt (rowsOf xs n) h g
   led-over g r m q l =
       lead-led h (at .stands) (subst (λ (u : ℕ). Lead (caseOf free net) (rowsOf xs n) u (h .step .0) g) into
       (spared-led (caseOf free net) (at .given .legal) (rowsOf xs n) (h .step .0) (h .place .0) (at .complete) (at .stands .last) (linkAt net j) r g mem m q (fresh .spared (r .step) l)))

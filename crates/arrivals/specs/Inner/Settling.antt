@@ -20,7 +20,7 @@ use Rattle.arrivals.specs.Inner.Rows.{rowsOf, all-at, tailOf, tail-find,
 use Rattle.arrivals.specs.Inner.Network.{waitIn}
 use Rattle.arrivals.specs.Inner.Offering.{Beaten}
 use Rattle.arrivals.specs.Inner.Index.{roomOf, Regrouped, lowOf, highOf, backOf, Listed, Indexed, Cover, Older, covers-step, row-low, low-row, older-past, lag-sum}
-use Rattle.arrivals.specs.Inner.Due.{Covered}
+use Rattle.arrivals.specs.Inner.Due.{Covered, IndexedShort}
 use Rattle.arrivals.specs.Inner.Walking.{Walking}
 use Rattle.arrivals.specs.declared.index.Span.{Span}
 
@@ -345,9 +345,9 @@ module _ {net xs : List ℕ} {n : ℕ} {ix iy : List ℕ} {v g t back : ℕ} {wa
         )
 
 -- at the end of a step
-pub walking-settling : {free net xs ix : List ℕ} {n v t : ℕ} → Walking free net xs ix n v t → length xs ≤ 41943039 → Settling net xs n ix t
-walking-settling {t = t} w short =
-    let y = w .index short in
+pub walking-settling : {free net xs ix : List ℕ} {n v t : ℕ} → Walking free net xs n v t → IndexedShort xs n ix t t net → length xs ≤ 41943039 → Settling net xs n ix t
+walking-settling {t = t} w index short =
+    let y = index short in
     record {
       room = w .room;
       short = omega (arith, w .room);

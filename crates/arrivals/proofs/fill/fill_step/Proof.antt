@@ -8,7 +8,7 @@ use lib.ListN.{length}
 use borrow.Author.Needs.{needs}
 use borrow.Author.Tests.{not-false, not-true}
 use Rattle.sheet.specs.Laws.Decided.{false-not-true}
-use Rattle.arrivals.specs.Inner.Due.{Lookout, Onward, SteppedOn, lookout, lookout-on, onward-none, onward-on}
+use Rattle.arrivals.specs.Inner.Due.{IndexedShort, Lookout, Onward, SteppedOn, lookout, lookout-on, onward-none, onward-on}
 use Rattle.arrivals.specs.Inner.Filling.{crowded-step, filled-end, result-done, result-full}
 use Rattle.arrivals.specs.Inner.Network.{caseOf, placesOf, Vacant}
 use Rattle.arrivals.specs.Inner.Settling.{walking-settling}
@@ -17,7 +17,7 @@ use Rattle.arrivals.proofs.fill.fill_step.Statement.{statement}
 use Rattle.arrivals.proofs.fill.fill_step.Tie as tie
 
 abbrev Inv-loop : tie.InvT-loop
-Inv-loop table₀ rows ix₀ sets net runs t next set places n₀ onward₀ v₀ table ix n onward v = (length table ≡ length table₀) × (length ix ≡ length ix₀) × Walking runs net table ix n v (t .0) × (v < placesOf net → Vacant (caseOf runs net) v (t .0)) × Lookout runs net table n (t .0) set × Onward net table n (t .0 + 1) onward
+Inv-loop table₀ rows ix₀ sets net runs t next set places n₀ onward₀ v₀ table ix n onward v = (length table ≡ length table₀) × (length ix ≡ length ix₀) × Walking runs net table n v (t .0) × IndexedShort table n ix (t .0) (t .0) net × (v < placesOf net → Vacant (caseOf runs net) v (t .0)) × Lookout runs net table n (t .0) set × Onward net table n (t .0 + 1) onward
 
 abbrev μ-loop : tie.MeasureT-loop
 μ-loop table₀ rows ix₀ sets net runs t next set places n₀ onward₀ v₀ table ix n onward v = placesOf net - v
@@ -36,13 +36,13 @@ loop-holds c =
     let p = c .before .before .before .before .before .before .before .before .pre in
     let r = c .next-place .ensures in
     let look = subst (Lookout _ _ _ _ _) (sym (c .before .before .step-set .ensures)) (lookout _ _ _ _ _ _ _ (p .0 .given) (p .2) (p .0 .first) (p .0 .last) (p .3)) in
-    (refl, refl, r .passed _ _ _ look (walking-first (p .0) (p .1)), r .vacant, look, onward-none _ _ _ _ _ (p .0 .first) (p .0 .filled))
+    (refl, refl, r .passed _ _ look (walking-first (p .0)), p .1, r .vacant, look, onward-none _ _ _ _ _ (p .0 .first) (p .0 .filled))
 
 visit-requires : tie.Need-visit-requires Inv-loop μ-loop
 visit-requires c κs =
     let inv = c .before .before .before .loop .inv in
     let e = c .before .before .before .before .before .places-of .ensures in
-    (inv .2, omega (arith, e), inv .3 (omega (arith, e)))
+    (inv .2, omega (arith, e), inv .4 (omega (arith, e)), inv .3)
 
 crowded-requires : tie.Need-crowded-requires Inv-loop μ-loop
 crowded-requires c κs = search needs
@@ -81,20 +81,21 @@ loop-again c =
     let p = c .before .before .before .before .before .before .before .before .before .before .before .before .before .before .before .before .before .before .before .before .pre in
     let inv = c .before .before .before .before .before .before .before .before .before .before .before .loop .inv in
     let x = c .before .before .before .before .before .before .before .visit .ensures in
-    let look = lookout-on (x .1) (inv .4) in (
+    let look = lookout-on (x .1) (inv .5) in (
       search needs,
       search needs,
-      r .passed _ _ _ look (walking-on (inv .2) (omega (arith, c .before .before .before .before .before .before .before .before .before .before .before .before .before .places-of .ensures)) (x .0) (not-false _ (c .before .before .if1 .left))),
+      r .passed _ _ look (walking-on (inv .2) (omega (arith, c .before .before .before .before .before .before .before .before .before .before .before .before .before .places-of .ensures)) (x .0 .result) (not-false _ (c .before .before .if1 .left))),
+      x .0 .index (not-false _ (c .before .before .if1 .left)),
       r .vacant,
       look,
-      subst (Onward _ _ _ _) (sym (c .before .led-on .ensures)) (onward-on (p .0 .first) (p .2) (x .1) (inv .5)),
+      subst (Onward _ _ _ _) (sym (c .before .led-on .ensures)) (onward-on (p .0 .first) (p .2) (x .1) (inv .6)),
     )
 
 is-somewhere-dear-requires : tie.Need-is-somewhere-dear-requires Inv-loop μ-loop
 is-somewhere-dear-requires c κs = c .before .before .before .before .before .before .before .before .before .before .before .before .pre .2 .size
 
 settle-requires : tie.Need-settle-requires Inv-loop μ-loop
-settle-requires c κs = let w = c .before .before .before .before .loop .inv .2 in (w .given, λ short. record { rows = _; settling = walking-settling w short })
+settle-requires c κs = let inv = c .before .before .before .before .loop .inv in (inv .2 .given, λ short. record { rows = _; settling = walking-settling (inv .2) (inv .3) short })
 
 same-length-3 : tie.Need-same-length-3 Inv-loop μ-loop
 same-length-3 c = c .before .before .before .before .before .before .before .loop .inv .0
@@ -108,8 +109,8 @@ returns-2 c =
     let w = inv .2 in
     record {
       result = result-done _ _ _ _ _ (w .room) (filled-end _ _ _ _ (w .upto) (omega (arith, c .before .before .before .before .before .before .before .before .before .places-of .ensures)) (w .filled));
-      index = λ e short. let a = c .before .before .settle .ensures short .of _ (walking-settling w short) in (a .indexed, a .covered);
-      onward = λ e. inv .5;
+      index = λ e short. let a = c .before .before .settle .ensures short .of _ (walking-settling w (inv .3) short) in (a .indexed, a .covered);
+      onward = λ e. inv .6;
     }
 
 pub fill-step-spec : {M : Type 1} → statement M

@@ -23,15 +23,15 @@ abbrev μ-loop : tie.MeasureT-loop
 μ-loop table₀ rows ix₀ sets net runs last n₀ t₀ next₀ table ix n t next = last .0 + 1 - t
 
 loop-holds : tie.Need-loop-holds Inv-loop μ-loop
-loop-holds c = let p = c .before .before .before .before .before .pre in (omega arith, omega arith, p .0 .room, refl, refl, p .0 .filled, p .1, onward-all _ _ _ (given-linked (p .0 .given)))
+loop-holds c = let p = c .before .before .before .before .before .pre in (p .0 .first, p .3, p .0 .room, refl, refl, p .0 .filled, p .1, onward-all _ _ _ (given-linked (p .0 .given)))
 
 fill-step-requires : tie.Need-fill-step-requires Inv-loop μ-loop
 fill-step-requires c κs =
     let inv = c .before .before .before .before .loop .inv in
     let p = c .before .before .before .before .before .before .before .before .before .before .pre in (
       record { given = p .0 .given; inside = p .0 .inside; first = inv .0; last = omega (arith, p .2); room = inv .2; filled = inv .5 },
-      λ b. (indexed-step _ (omega arith) (omega (arith, p .2)) (omega (arith, inv .4, p .4)) (inv .6 b .0), inv .6 b .1),
-      p .3,
+      λ b. (indexed-step _ (omega arith) (omega (arith, p .2)) (omega (arith, inv .4, p .5)) (inv .6 b .0), inv .6 b .1),
+      p .4,
       inv .7,
     )
 

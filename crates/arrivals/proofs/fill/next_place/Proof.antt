@@ -10,7 +10,7 @@ use Rattle.arrivals.proofs.fill.next_place.Statement.{statement}
 use Rattle.arrivals.proofs.fill.next_place.Tie as tie
 
 abbrev Inv-loop : tie.InvT-loop
-Inv-loop set net runs v t places u₀ u = (v ≤ u) × ((xs ix : List ℕ) (n : ℕ) → Lookout runs net xs n (t .0) set → Walking runs net xs ix n v (t .0) → Walking runs net xs ix n u (t .0))
+Inv-loop set net runs v t places u₀ u = (v ≤ u) × ((xs : List ℕ) (n : ℕ) → Lookout runs net xs n (t .0) set → Walking runs net xs n v (t .0) → Walking runs net xs n u (t .0))
 
 abbrev μ-loop : tie.MeasureT-loop
 μ-loop set net runs v t places u₀ u = placesOf net - u
@@ -19,7 +19,7 @@ places-of-requires : tie.Need-places-of-requires Inv-loop μ-loop
 places-of-requires c κs = c .before .before .pre .0 .size
 
 loop-holds : tie.Need-loop-holds Inv-loop μ-loop
-loop-holds c = (omega arith, λ xs ix n look w. w)
+loop-holds c = (omega arith, λ xs n look w. w)
 
 next-in-requires : tie.Need-next-in-requires Inv-loop μ-loop
 next-in-requires c κs = omega (arith, c .before .before .places-of .ensures, c .before .before .before .before .before .pre .0 .places)
@@ -31,7 +31,7 @@ returns c =
     record {
       on = omega (arith, inv .0);
       vacant = λ l. absurd (omega (arith, e));
-      passed = λ xs ix n look w. pass-to _ _ _ look (omega arith) (omega (arith, e)) (λ u a b. c .before .next-in .ensures .none u a (omega arith)) (inv .1 xs ix n look w);
+      passed = λ xs n look w. pass-to _ _ _ look (omega arith) (omega (arith, e)) (λ u a b. c .before .next-in .ensures .none u a (omega arith)) (inv .1 xs n look w);
     }
 
 first-step-requires : tie.Need-first-step-requires Inv-loop μ-loop
@@ -47,7 +47,7 @@ returns-2 c =
     record {
       on = omega (arith, inv .0, z .on);
       vacant = λ l. omega (arith, c .before .before .before .first-step .ensures);
-      passed = λ xs ix n look w. pass-to _ _ _ look (z .on) (omega (arith, e)) (z .none) (inv .1 xs ix n look w);
+      passed = λ xs n look w. pass-to _ _ _ look (z .on) (omega (arith, e)) (z .none) (inv .1 xs n look w);
     }
 
 add-u : tie.Need-add-u Inv-loop μ-loop
@@ -63,7 +63,7 @@ loop-again c =
     let e = c .before .before .before .before .before .before .before .before .places-of .ensures in
     let z = c .before .before .before .before .before .next-in .ensures in (
       omega (arith, inv .0, z .on),
-      λ xs ix n look w. pass-occupied (omega (arith, e)) (omega (arith, c .before .before .before .first-step .ensures)) (pass-to _ _ _ look (z .on) (omega (arith, e)) (z .none) (inv .1 xs ix n look w)),
+      λ xs n look w. pass-occupied (omega (arith, e)) (omega (arith, c .before .before .before .first-step .ensures)) (pass-to _ _ _ look (z .on) (omega (arith, e)) (z .none) (inv .1 xs n look w)),
     )
 
 returns-3 : tie.Need-returns-3 Inv-loop μ-loop

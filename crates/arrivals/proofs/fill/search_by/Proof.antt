@@ -1,24 +1,14 @@
--- `arrivals::fill::search_by` meets its contract: the row of the start, then every step.
+-- `arrivals::fill::search_by` meets its contract: before step 1 there is nothing to go on from.
 -- Assumes nothing.
+use Prim.Native.Nat.{_≤_}
 use native.Mathlib.Omega.{arith}
 use borrow.Author.Needs.{needs}
-use Rattle.arrivals.specs.Inner.Filling.{crowded-last, result-full}
+use Rattle.arrivals.specs.Inner.Renoting.{indexed-zeros}
 use Rattle.arrivals.proofs.fill.search_by.Statement.{statement}
 use Rattle.arrivals.proofs.fill.search_by.Tie as tie
 
-first-row-requires : tie.Need-first-row-requires
-first-row-requires c κs = let p = c .before .before .before .before .before .before .before .pre in (p .0 .given, p .1)
-
-fill-steps-requires : tie.Need-fill-steps-requires
-fill-steps-requires c κs =
-    let r = c .before .before .before .before .before .before .before .first-row .ensures in
-    let p = c .before .before .before .before .before .before .before .before .before .before .before .before .before .before .before .pre in (
-      record { given = p .0 .given; inside = omega (arith, p .0 .given .start); first = omega arith; last = omega arith; room = r .result .room; filled = r .result .done (c .before .before .if1 .taken) },
-      r .index (c .before .before .if1 .taken),
-      p .0 .day,
-      p .0 .watching,
-      omega (arith, p .2, c .before .before .before .before .before .before .table .given, c .before .before .before .before .ix .given),
-    )
+search-anew-requires : tie.Need-search-anew-requires
+search-anew-requires c κs = let p = c .before .before .before .before .before .before .before .before .before .before .pre in (p .0, indexed-zeros (p .1) (omega (arith, p .2)) (omega arith), p .2)
 
 same-length : tie.Need-same-length
 same-length c = search needs
@@ -27,7 +17,13 @@ same-length-2 : tie.Need-same-length-2
 same-length-2 c = search needs
 
 returns : tie.Need-returns
-returns c = c .before .before .before .before .fill-steps .ensures
+returns c = c .before .before .before .before .search-anew .ensures
+
+search-on-requires : tie.Need-search-on-requires
+search-on-requires c κs =
+    let p = c .before .before .before .before .before .before .before .before .before .before .pre in
+    let one : 1 ≤ c .before .before .before .before .before .before .before .before .before .before .args .halt .step .0 = omega (arith, c .before .before .if1 .left) in
+    (p .0, p .1, p .2, one, p .3 one)
 
 same-length-3 : tie.Need-same-length-3
 same-length-3 c = search needs
@@ -36,17 +32,17 @@ same-length-4 : tie.Need-same-length-4
 same-length-4 c = search needs
 
 returns-2 : tie.Need-returns-2
-returns-2 c = let r = c .before .before .before .before .before .first-row .ensures in result-full _ _ _ _ _ (r .result .room) (crowded-last _ (omega arith) (r .result .full (c .if1 .left)))
+returns-2 c = c .before .before .before .before .search-on .ensures
 
 pub search-by-spec : {M : Type 1} → statement M
 search-by-spec =
     tie.close
     (tie.spec
-    first-row-requires
-    fill-steps-requires
+    search-anew-requires
     same-length
     same-length-2
     returns
+    search-on-requires
     same-length-3
     same-length-4
     returns-2)

@@ -20,13 +20,13 @@ returns c = (record { result = c .before .before .fill-slow .ensures .result; in
 fill-fast-requires : tie.Need-fill-fast-requires
 fill-fast-requires c κs =
     let p = c .before .before .before .before .before .before .before .pre in
-    let w = p .0 .index (c .before .before .if1 .left) in
+    let w = p .3 (c .before .before .if1 .left) in
     record { visiting = walking-visiting (p .0) (p .1); vacant = p .2; indexed = w .0; covered = w .1 }
 
 note-requires : tie.Need-note-requires
 note-requires c κs =
     let p = c .before .before .before .before .before .before .before .before .before .before .before .before .pre in
-    let w = p .0 .index (c .before .before .before .before .before .before .before .if1 .left) in
+    let w = p .3 (c .before .before .before .before .before .before .before .if1 .left) in
     (omega (arith, p .1, p .0 .given .places), p .0 .last, w .0 .size, omega arith, omega (arith, c .before .before .before .before .fill-fast .ensures .result .room))
 
 same-length-2 : tie.Need-same-length-2
@@ -38,7 +38,7 @@ same-length-3 c = search needs
 returns-2 : tie.Need-returns-2
 returns-2 c =
     let p = c .before .before .before .before .before .before .before .before .before .before .before .before .before .before .before .pre in
-    let w = p .0 .index (c .before .before .before .before .before .before .before .before .before .before .if1 .left) in
+    let w = p .3 (c .before .before .before .before .before .before .before .before .before .before .if1 .left) in
     let f = c .before .before .before .before .before .before .before .fill-fast .ensures in
     let n = c .before .before .note .ensures in
     let low : c .before .before .before .before .before .before .before .before .before .before .before .before .before .before .before .args .v .0 < 64 = omega (arith, p .1, p .0 .given .places) in (
@@ -58,7 +58,7 @@ same-length-5 c = search needs
 returns-3 : tie.Need-returns-3
 returns-3 c =
     let p = c .before .before .before .before .before .before .before .before .before .before .before .pre in
-    let w = p .0 .index (c .before .before .before .before .before .before .if1 .left) in
+    let w = p .3 (c .before .before .before .before .before .before .if1 .left) in
     let f = c .before .before .before .fill-fast .ensures in (
       record { result = f .result; index = λ e b. (noted-none _ _ _ _ _ _ _ (c .if2 .left) (w .0) (f .grown), λ v l. covers-none _ _ _ _ _ _ _ (c .if2 .left) (f .grown) (w .1 v l)) },
       f .grown,

@@ -1,104 +1,38 @@
--- `arrivals::offers::offer` meets its contract: a cost that a row of the group or an older row leads changes nothing; any other is put in at its
--- place, and what it leads, which stands from there on, is dropped.
+-- `arrivals::offers::offer` meets its contract: a cost that an older row leads changes nothing; any other is put in.
 -- Assumes nothing.
-use mathlib.Core.Logic.{inl, inr}
-use mathlib.Core.Path.{_∙_, refl}
-use native.Mathlib.Omega.{arith}
+use mathlib.Core.Logic.{inr}
+use mathlib.Core.Path.{refl}
 use borrow.Author.Needs.{needs}
 use Rattle.sheet.specs.Laws.Decided.{no-of, yes-of}
-use Rattle.arrivals.specs.Inner.Offering.{beaten-more, offered-at, offered-not, swept-full, swept-one}
+use Rattle.arrivals.specs.Inner.Offering.{offered-not, swept-one}
 use Rattle.arrivals.proofs.offers.offer.Statement.{statement}
 use Rattle.arrivals.proofs.offers.offer.Tie as tie
 
-place-of-requires : tie.Need-place-of-requires
-place-of-requires c κs = omega (arith, c .before .before .before .pre .room)
-
-beaten-requires : tie.Need-beaten-requires
-beaten-requires c κs = omega (arith, c .before .before .before .before .before .pre .room, c .before .place-of .ensures .most)
+led-walk-requires : tie.Need-led-walk-requires
+led-walk-requires c κs = let p = c .before .before .before .pre in (p .ready, p .indexed, p .covers)
 
 same-length : tie.Need-same-length
 same-length c = search needs
 
 returns : tie.Need-returns
-returns c = let a = c .before .before .before .before .before .before .before .args in swept-one (λ j l. refl) (c .before .before .before .before .before .before .before .pre .room) (offered-not (inl (beaten-more (a .table .now) (a .a) (a .d) (c .before .before .before .place-of .result) (c .before .before .before .place-of .ensures .most) (yes-of (c .before .beaten .ensures) (c .if1 .taken)))))
+returns c = swept-one (λ j l. refl) (c .before .before .before .before .before .pre .room) (offered-not (inr (yes-of (c .before .led-walk .ensures) (c .if1 .taken))))
 
-led-walk-requires : tie.Need-led-walk-requires
-led-walk-requires c κs = let p = c .before .before .before .before .before .before .before .before .pre in (p .ready, p .indexed, p .covers)
+put-in-requires : tie.Need-put-in-requires
+put-in-requires c κs = (c .before .before .before .before .before .before .pre .room, c .before .before .before .before .before .before .pre .sorted, no-of (c .before .before .led-walk .ensures) (c .before .if1 .left))
 
 same-length-2 : tie.Need-same-length-2
 same-length-2 c = search needs
 
 returns-2 : tie.Need-returns-2
-returns-2 c = swept-one (λ j l. refl) (c .before .before .before .before .before .before .before .before .before .before .pre .room) (offered-not (inr (yes-of (c .before .led-walk .ensures) (c .if2 .taken))))
-
-add-thin : tie.Need-add-thin
-add-thin c = search needs
-
-sub-thin : tie.Need-sub-thin
-sub-thin c = omega (arith, c .before .before .before .before .before .before .before .place-of .ensures .most)
-
-thin-requires : tie.Need-thin-requires
-thin-requires c κs = omega (arith, c .before .before .before .before .before .before .before .before .before .before .before .pre .room, c .before .before .before .before .before .before .before .place-of .ensures .most)
-
-add-if3 : tie.Need-add-if3
-add-if3 c = search needs
-
-add-if3-2 : tie.Need-add-if3-2
-add-if3-2 c = search needs
-
-same-length-3 : tie.Need-same-length-3
-same-length-3 c = search needs
-
-returns-3 : tie.Need-returns-3
-returns-3 c = swept-full (λ j l. c .before .before .before .thin .ensures .below j (omega arith)) (omega (arith, c .before .before .before .before .before .before .before .before .before .before .before .before .before .before .before .pre .ready .room))
-
-add-insert : tie.Need-add-insert
-add-insert c = search needs
-
-insert-requires : tie.Need-insert-requires
-insert-requires c κs = search needs
-
-add-t20 : tie.Need-add-t20
-add-t20 c = search needs
-
-add-t19 : tie.Need-add-t19
-add-t19 c = search needs
-
-same-length-4 : tie.Need-same-length-4
-same-length-4 c = search needs
-
-returns-4 : tie.Need-returns-4
-returns-4 c =
-    let a = c .before .before .before .before .before .before .before .before .before .before .before .before .before .before .before .before .before .before .before .args in
-    let t = c .before .before .before .before .before .before .before .thin .ensures in
-    let i = c .before .before .insert .ensures in
-    swept-one
-    (λ j l. i .below j (omega arith) ∙ t .below j (omega arith))
-    (omega arith)
-    (offered-at (a .here .place .0) (a .here .step .0) (a .g) (a .table .now) (a .a) (a .d) (c .before .before .before .before .before .before .before .before .before .before .before .before .before .before .before .place-of .result) (search (needs, c .before .before .before .before .before .before .before .before .before .before .before .before .before .before .before .before .before .before .before .good)) (c .before .before .before .before .before .before .before .before .before .before .before .before .before .before .before .place-of .ensures) _ _ _ (c .before .before .before .before .before .before .before .before .before .before .before .before .before .before .before .before .before .before .before .pre .sorted)
-    (no-of (c .before .before .before .before .before .before .before .before .before .before .before .before .before .beaten .ensures) (c .before .before .before .before .before .before .before .before .before .before .before .before .if1 .left)) (no-of (c .before .before .before .before .before .before .before .before .before .before .led-walk .ensures) (c .before .before .before .before .before .before .before .before .before .if2 .left)) t i)
+returns-2 c = c .before .before .put-in .ensures
 
 pub offer-spec : {M : Type 1} → statement M
 offer-spec =
     tie.close
     (tie.spec
-    place-of-requires
-    beaten-requires
+    led-walk-requires
     same-length
     returns
-    led-walk-requires
+    put-in-requires
     same-length-2
-    returns-2
-    add-thin
-    sub-thin
-    thin-requires
-    add-if3
-    add-if3-2
-    same-length-3
-    returns-3
-    add-insert
-    insert-requires
-    add-t20
-    add-t19
-    same-length-4
-    returns-4)
+    returns-2)
