@@ -55,7 +55,6 @@ extern "C" {
 #define PLANNER_MOST_PLACES 64      /* of a sheet */
 #define PLANNER_MOST_LINES 256      /* of corridors, of closures, and of occupancies */
 #define PLANNER_MOST_PATH 256       /* places of a journey: steps 0 to 255 */
-#define PLANNER_MOST_TABLE 41943039 /* numbers of an arrivals table; past them the search is hundreds of times slower */
 #define PLANNER_MOST_STACK 200000   /* bytes of stack of any call */
 #define PLANNER_FIGURES 3           /* of a cost: charge, noise, doors */
 #define PLANNER_HEAD_WIDTH 5        /* places, steps, start, goal, u */
