@@ -3,7 +3,6 @@ use crate::expand::fresh;
 use crate::fill::Stepped;
 use crate::fill::next_place;
 use crate::lists::FOR_ALL;
-use crate::lists::FOR_FOUR;
 use crate::lists::FOR_SIXTEEN;
 use crate::lists::NEW;
 use crate::lists::Part;
@@ -324,6 +323,17 @@ pub struct Halt {
     pub step: Step,
 }
 
+// Nothing to go on from.
+pub fn nothing() -> Halt
+    ensures { λ r. ⌜ (r .ok ≡ false) × (r .rows ≡ 0) × (r .step .0 ≡ 0) ⌝ }
+{
+    Halt {
+        ok: false,
+        rows: 0,
+        step: Step(0),
+    }
+}
+
 // Fills in every step to the last, or gives up. At step 1 every place is looked at.
 pub fn live_steps(
     table: &mut [u32],
@@ -400,11 +410,7 @@ pub fn search_live(
     if ok {
         return live_steps(table, rows, live, sets, net, runs, last);
     }
-    Halt {
-        ok: false,
-        rows: 0,
-        step: Step(0),
-    }
+    nothing()
 }
 
 // The same, with no more room for lists than the places need: clearing it takes most of the time where there are few.
@@ -412,10 +418,6 @@ pub fn search_lists(table: &mut [u32], sets: &[u64], net: &[u32], runs: &[u16], 
     requires { ⌜ Searchable (now runs) (now net) (now sets) (last .0) ⌝ }
     ensures { λ r. ⌜ Found (now (runs .entry)) (now (net .entry)) (now (table .exit)) (last .0) r ⌝ }
 {
-    if places_of(net) <= 4 {
-        let mut live = [0; FOR_FOUR];
-        return search_live(table, &mut live, sets, net, runs, last);
-    }
     if places_of(net) <= 16 {
         let mut live = [0; FOR_SIXTEEN];
         return search_live(table, &mut live, sets, net, runs, last);

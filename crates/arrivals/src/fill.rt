@@ -1,5 +1,6 @@
 // All rows, place by place and step by step.
 use crate::by_lists::Halt;
+use crate::by_lists::nothing;
 use crate::by_lists::search_lists;
 use crate::expand::from_links;
 use crate::index::INDEX;
@@ -276,9 +277,10 @@ pub fn note_rows(
     t: Step,
     dear: bool,
 )
-    requires { ⌜ (Given (now runs) (now net)) × (Noteable (now table) n) × (now ix ≡ replicate (length (now ix)) 0) × (roomOf (t .0) ≤ length (now ix)) × (t .0 ≤ 255)
-        × ((i : ℕ) → i < n → rowAt (now table) i .step ≤ t .0) ⌝ }
-    ensures { λ _. ⌜ (Indexed (now (table .entry)) n (now (ix .exit)) (t .0)) × (Covered (now (net .entry)) (now (table .entry)) n (now (ix .exit)) (t .0 + 1)) ⌝ }
+    requires { ⌜ (Given (now runs) (now net)) × (Noteable (now table) n) × (now ix ≡ replicate (length (now ix)) 0) × (roomOf (t .0) ≤ length (now ix))
+        × (t .0 ≤ 255) × ((i : ℕ) → i < n → rowAt (now table) i .step ≤ t .0) ⌝ }
+    ensures { λ _. ⌜ (Indexed (now (table .entry)) n (now (ix .exit)) (t .0))
+        × (Covered (now (net .entry)) (now (table .entry)) n (now (ix .exit)) (t .0 + 1)) ⌝ }
 {
     let mut k = 0;
     while k < n {
@@ -298,8 +300,8 @@ pub fn search_on(
     last: Step,
     halt: Halt,
 ) -> Outcome
-    requires { ⌜ (Searchable (now runs) (now net) (now sets) (last .0)) × (now ix ≡ replicate (length (now ix)) 0) × (roomOf (last .0) ≤ length (now ix)) × (1 ≤ halt .step .0)
-        × (Halted (now runs) (now net) (now table) (last .0) (halt .rows) (halt .step .0)) ⌝ }
+    requires { ⌜ (Searchable (now runs) (now net) (now sets) (last .0)) × (now ix ≡ replicate (length (now ix)) 0) × (roomOf (last .0) ≤ length (now ix))
+        × (1 ≤ halt .step .0) × (Halted (now runs) (now net) (now table) (last .0) (halt .rows) (halt .step .0)) ⌝ }
     ensures { λ r. ⌜ Result (caseOf (now (runs .entry)) (now (net .entry))) (now (table .exit)) (last .0 + 1) 0 (r .ok) (r .rows) ⌝ }
 {
     let rows = halt.rows;
@@ -408,19 +410,17 @@ pub fn search_far(
     if ok {
         return Outcome { ok: true, rows };
     }
-    let anew = Halt {
-        ok: false,
-        rows: 0,
-        step: Step(0),
-    };
-    search_indexed(table, sets, net, runs, last, anew)
+    search_indexed(table, sets, net, runs, last, nothing())
 }
 
-// The same by lists of live costs, and from the step on for which a list or the table has no room, by the index.
+// The same by lists of live costs, and from the step on for which a list or the table has no room, by the index. For few steps the lists do not pay.
 pub fn search_all(table: &mut [u32], sets: &[u64], net: &[u32], runs: &[u16], last: Step) -> Outcome
     requires { ⌜ Searchable (now runs) (now net) (now sets) (last .0) ⌝ }
     ensures { λ r. ⌜ Result (caseOf (now (runs .entry)) (now (net .entry))) (now (table .exit)) (last .0 + 1) 0 (r .ok) (r .rows) ⌝ }
 {
+    if last.0 < 16 {
+        return search_far(table, sets, net, runs, last, nothing());
+    }
     let r = search_lists(table, sets, net, runs, last);
     let ok = r.ok;
     let rows = r.rows;

@@ -12,17 +12,16 @@ use intervals::sets::next_in;
 use sheet::Place;
 use sheet::Step;
 ghost use mathlib.Core.Path.{_≡_};
-ghost use mathlib.Core.Bool.{true, false};
-ghost use Prim.Native.Nat.{_+_, _*_, _-_, _<_, _≤_};
+ghost use Prim.Native.Nat.{_+_, _*_, _<_, _≤_};
 ghost use lib.ListN.{length};
 ghost use Rattle.sheet.specs.Laws.Decided.{Decided};
 ghost use Rattle.costs.specs.Priced.{Within};
 ghost use Rattle.arrivals.specs.Inner.Network.{sinceIn};
-ghost use Rattle.arrivals.specs.Inner.Lists.{sizeOf, freshOf, listAt, listsRoom, LedIn, OwnIs, FreshIn, Modest, Appended};
+ghost use Rattle.arrivals.specs.Inner.Lists.{listAt, listsRoom, LedIn, OwnIs, PartIs, FreshIn, Modest, Appended};
 ghost use Rattle.arrivals.specs.Inner.Lists.{Retained, RetainedOne, Shifted, Headed, Settleable, SettledOne, AllSettleable, SettledTo};
 
 // The parts of the array: from 0, by place, the step past the newest rows; the number of costs; how many of them come before those of the newest rows; the
-// number with those that are added at this step; the lists, and how long each is; and the length for 4, 16 and 64 places.
+// number with those that are added at this step; the lists, and how long each is; and the length for 16 and 64 places.
 pub const SIZE: usize = 64;
 
 pub const FRESH: usize = 128;
@@ -32,8 +31,6 @@ pub const NEW: usize = 192;
 pub const LISTS: usize = 256;
 
 pub const LIST: usize = 510;
-
-pub const FOR_FOUR: usize = 2296;
 
 pub const FOR_SIXTEEN: usize = 8416;
 
@@ -93,8 +90,7 @@ pub fn own_of(live: &[u32], here: Here) -> Part
 // The costs of place v: those of its newest rows, or all.
 pub fn part_of(live: &[u32], v: Place, newest: bool) -> Part
     requires { ⌜ (v .0 < 64) × (256 ≤ length (now live)) × (FreshIn (now live) (v .0)) ⌝ }
-    ensures { λ r. ⌜ (newest ≡ true → (r .at ≡ listAt (v .0) + freshOf (now (live .entry)) (v .0) * 3) × (r .n ≡ sizeOf (now (live .entry)) (v .0) - freshOf (now (live .entry)) (v .0)))
-        × (newest ≡ false → (r .at ≡ listAt (v .0)) × (r .n ≡ sizeOf (now (live .entry)) (v .0))) ⌝ }
+    ensures { λ r. ⌜ PartIs (now (live .entry)) (v .0) newest r ⌝ }
 {
     let at = list_at(v);
     let n = wide(live[SIZE + v.0 as usize]);

@@ -142,6 +142,11 @@ pub record OwnIs (live : List ℕ) (h : Here) (p : Part) : Type 0 where
   pub at : p .at ≡ listAt (h .place .0)
   pub n : ((pastOf live (h .place .0) ≤ h .since .0) × (p .n ≡ 0)) ⊎ ((h .since .0 < pastOf live (h .place .0)) × (p .n ≡ sizeOf live (h .place .0)))
 
+-- the costs of the newest rows of place v, or all of its costs
+abbrev pub PartIs : List ℕ → ℕ → Bool → Part → Type 0
+PartIs live v newest p =
+    (newest ≡ true → (p .at ≡ listAt v + freshOf live v * 3) × (p .n ≡ sizeOf live v - freshOf live v)) × (newest ≡ false → (p .at ≡ listAt v) × (p .n ≡ sizeOf live v))
+
 -- all numbers but those of place v that a visit may write are the same
 pub record Aside (live after : List ℕ) (v : ℕ) : Type 0 where
   pub size : length after ≡ length live
@@ -241,7 +246,8 @@ pub record Settled (live after : List ℕ) (v s t : ℕ) : Type 0 where
   pub fresh : freshOf after v ≤ sizeOf after v
   pub origin : (i : ℕ) → i < sizeOf after v → Origin live after v s i
   pub new : (j : ℕ) → sizeOf live v ≤ j → j < newOf live v → Kept live after v (freshOf after v) (sizeOf after v) j
-  pub old : s < pastOf live v → (j : ℕ) → j < sizeOf live v → Kept live after v 0 (sizeOf after v) j ⊎ Under live v (sizeOf live v) (newOf live v) (entry live v j)
+  pub old : s < pastOf live v → (j : ℕ) → j < sizeOf live v
+      → Kept live after v 0 (sizeOf after v) j ⊎ Under live v (sizeOf live v) (newOf live v) (entry live v j)
 
 -- the numbers of place v are the same
 pub record SameAt (live after : List ℕ) (v : ℕ) : Type 0 where

@@ -68,11 +68,13 @@ module _ (wait c g : Cost) (s t : ℕ) (early : s ≤ t) (last : t ≤ 255) wher
       }
 
 -- the safe interval of v goes on from step t - 1
-goes-on : {free net : List ℕ} → Given free net → (v t p : ℕ) → v < placesOf net → t ≤ 255 → p ≤ t → sinceIn free v t < p → sinceIn free v (t - 1) ≡ sinceIn free v t
+goes-on : {free net : List ℕ} → Given free net → (v t p : ℕ) → v < placesOf net → t ≤ 255 → p ≤ t → sinceIn free v t < p
+    → sinceIn free v (t - 1) ≡ sinceIn free v t
 goes-on given v t p inside last soon l = given .legal .runs v (t - 1) t inside last (omega arith) (omega arith)
 
 -- the costs of a place that count at h show what its rows lead
-pub shows-own : {free net xs : List ℕ} {m n : ℕ} {live : List ℕ} (h : Here) (p : Part) → Given free net → Stands (caseOf free net) h → Sourcing free net xs m n live (h .step .0)
+pub shows-own : {free net xs : List ℕ} {m n : ℕ} {live : List ℕ} (h : Here) (p : Part) → Given free net → Stands (caseOf free net) h
+    → Sourcing free net xs m n live (h .step .0)
     → ((k : ℕ) → k < n → rowAt xs k .place ≡ h .place .0 → rowAt xs k .step < h .step .0) → OwnIs live h p → Shows live p xs n h
 shows-own {free} {net} {xs} {m} {n} {live} h p given st s early own =
     record {
@@ -141,7 +143,8 @@ pub record ListSame (live after : List ℕ) (v : ℕ) : Type 0 where
   pub fresh : freshOf after v ≡ freshOf live v
   pub entries : (i : ℕ) → i < sizeOf live v → entry after v i ≡ entry live v i
 
-pub entry-same : (live after : List ℕ) (v i : ℕ) → ((j : ℕ) → i * 3 ≤ j → j < i * 3 + 3 → getD after (listAt v + j) 0 ≡ getD live (listAt v + j) 0) → entry after v i ≡ entry live v i
+pub entry-same : (live after : List ℕ) (v i : ℕ) → ((j : ℕ) → i * 3 ≤ j → j < i * 3 + 3 → getD after (listAt v + j) 0 ≡ getD live (listAt v + j) 0)
+    → entry after v i ≡ entry live v i
 entry-same live after v i h =
     from-same figures (listAt v + i * 3) (listAt v + i * 3) after live (λ q l. let e : listAt v + i * 3 + q ≡ listAt v + (i * 3 + q) = omega arith in
     ap (λ (j : ℕ). getD after j 0) e ∙ h (i * 3 + q) (omega arith) (omega arith) ∙ sym (ap (λ (j : ℕ). getD live j 0) e))
@@ -149,7 +152,8 @@ entry-same live after v i h =
 pub list-self : (live : List ℕ) (v : ℕ) → ListSame live live v
 list-self live v = record { past = refl; size = refl; fresh = refl; entries = λ i l. refl }
 
-pub listing-kept : {free net xs ys : List ℕ} {m : ℕ} {live after : List ℕ} {t v : ℕ} → ((k : ℕ) → k < m → rowAt ys k ≡ rowAt xs k) → ListSame live after v → Listing free net xs m live t v
+pub listing-kept : {free net xs ys : List ℕ} {m : ℕ} {live after : List ℕ} {t v : ℕ} → ((k : ℕ) → k < m → rowAt ys k ≡ rowAt xs k) → ListSame live after v
+    → Listing free net xs m live t v
     → Listing free net ys m after t v
 listing-kept {free} {net} {xs} {ys} {m} {live} {after} {t} {v} rows e w =
     record {
@@ -179,7 +183,8 @@ listing-kept {free} {net} {xs} {ys} {m} {live} {after} {t} {v} rows e w =
     step : (k : ℕ) → k < m → rowAt ys k .step ≡ rowAt xs k .step
     step k l = ap (λ (x : Row). x .step) (rows k l)
 
-    up : (f k : ℕ) → k < m → Under live v f (sizeOf live v) (stoodRow (waitIn net v) (rowAt xs k)) → Under after v f (sizeOf after v) (stoodRow (waitIn net v) (rowAt ys k))
+    up : (f k : ℕ) → k < m → Under live v f (sizeOf live v) (stoodRow (waitIn net v) (rowAt xs k))
+        → Under after v f (sizeOf after v) (stoodRow (waitIn net v) (rowAt ys k))
     up f k l u =
         record {
           at = u .at;
@@ -190,7 +195,8 @@ listing-kept {free} {net} {xs} {ys} {m} {live} {after} {t} {v} rows e w =
         }
 
 -- the list of a place that has no rows of step t, at the next step
-listing-on : {free net xs : List ℕ} {m n : ℕ} {live : List ℕ} {t v : ℕ} → Given free net → v < placesOf net → t ≤ 255 → m ≤ n → ((k : ℕ) → m ≤ k → k < n → rowAt xs k .place ≡ v → ⊥)
+listing-on : {free net xs : List ℕ} {m n : ℕ} {live : List ℕ} {t v : ℕ} → Given free net → v < placesOf net → t ≤ 255 → m ≤ n
+    → ((k : ℕ) → m ≤ k → k < n → rowAt xs k .place ≡ v → ⊥)
     → Listing free net xs m live t v → Listing free net xs n live (t + 1) v
 listing-on {free} {net} {xs} {m} {n} {live} {t} {v} given inside last upto none w =
     record {
@@ -227,7 +233,8 @@ pub record Group (free net xs : List ℕ) (m n : ℕ) (live : List ℕ) (t w : �
   pub pending : Pending net xs live w lo hi
 
 -- the list of a place that has rows of step t, after it is settled
-listing-settled : {free net xs : List ℕ} {m n : ℕ} {live after : List ℕ} {t v : ℕ} → Given free net → v < placesOf net → t ≤ 255 → m ≤ n → Group free net xs m n live t v
+listing-settled : {free net xs : List ℕ} {m n : ℕ} {live after : List ℕ} {t v : ℕ} → Given free net → v < placesOf net → t ≤ 255 → m ≤ n
+    → Group free net xs m n live t v
     → Settled live after v (sinceIn free v t) t → Listing free net xs m live t v → Listing free net xs n after (t + 1) v
 listing-settled {free} {net} {xs} {m} {n} {live} {after} {t} {v} given inside last upto g d w =
     record {
@@ -283,7 +290,8 @@ listing-settled {free} {net} {xs} {m} {n} {live} {after} {t} {v} given inside la
         let s = g .pending .each (k - g .lo) (omega arith) ∙ ap (λ (x : ℕ). stoodRow (waitIn net v) (rowAt xs x)) e in
         lower z (added (sizeOf live v + (k - g .lo)) _ (omega arith) (omega (arith, g .pending .size)) (subst (AtMost (entry live v (sizeOf live v + (k - g .lo)))) s (at-most-refl _)))
 
-    old : (k : ℕ) → k < m → rowAt xs k .place ≡ v → sinceIn free v t ≤ rowAt xs k .step → Under after v 0 (sizeOf after v) (stoodRow (waitIn net v) (rowAt xs k))
+    old : (k : ℕ) → k < m → rowAt xs k .place ≡ v → sinceIn free v t ≤ rowAt xs k .step
+        → Under after v 0 (sizeOf after v) (stoodRow (waitIn net v) (rowAt xs k))
     old k lt p late =
         let after-since : sinceIn free v t < pastOf live v = omega (arith, w .newest k lt p) in
         let b = same after-since in
@@ -306,7 +314,8 @@ has-zero v h = let e : 0 * 2 ^ v ≡ 0 = omega arith in omega (arith, h .digit, 
 pub gathering-first : {free net xs : List ℕ} {n : ℕ} {live : List ℕ} {t : ℕ} (v : ℕ) → Sourcing free net xs n n live t → Gathering free net xs n n live t v 0
 gathering-first v s = record { sourcing = s; groups = λ w l h. absurd (has-zero w h); none = λ w l h k a b p. omega arith; below = λ w l h. absurd (has-zero w h) }
 
-pub gathering-past : {free net xs : List ℕ} {m n : ℕ} {live : List ℕ} {t v set : ℕ} (u : ℕ) → v ≤ u → Gathering free net xs m n live t v set → Gathering free net xs m n live t u set
+pub gathering-past : {free net xs : List ℕ} {m n : ℕ} {live : List ℕ} {t v set : ℕ} (u : ℕ) → v ≤ u → Gathering free net xs m n live t v set
+    → Gathering free net xs m n live t u set
 gathering-past u l g = record { sourcing = g .sourcing; groups = g .groups; none = g .none; below = λ w i h. omega (arith, g .below w i h) }
 
 -- the numbers of other places after a visit of place v
@@ -326,7 +335,8 @@ aside-same {live} {after} {v} {w} a l m few =
         (λ ge. ⊎-elim (λ gt. inr (omega arith)) (λ le. let e : w ≡ v = omega arith in inl (omega (arith, ap (sizeOf live) e))) (lt-or-le v w))
         (lt-or-le w v)
 
-pending-kept : {net xs ys live after : List ℕ} {v w lo hi : ℕ} → Aside live after v → w < 64 → v < 64 → (w ≡ v → ⊥) → ((k : ℕ) → k < hi → rowAt ys k ≡ rowAt xs k) → Pending net xs live w lo hi
+pending-kept : {net xs ys live after : List ℕ} {v w lo hi : ℕ} → Aside live after v → w < 64 → v < 64 → (w ≡ v → ⊥)
+    → ((k : ℕ) → k < hi → rowAt ys k ≡ rowAt xs k) → Pending net xs live w lo hi
     → Pending net ys after w lo hi
 pending-kept {net} {xs} {ys} {live} {after} {v} {w} {lo} {hi} a l m other rows p =
     record {
@@ -424,7 +434,8 @@ module _ {free net xs ys : List ℕ} {m n r : ℕ} {live after : List ℕ} {t v 
           (record { sourcing = sources; groups = old-group; none = λ w l out. old-none w l out (λ z b. omega arith); below = λ w l h. omega (arith, g .below w l h) })
 
 -- at the end of step t
-pub all-settleable : {free net xs : List ℕ} {m n : ℕ} {live : List ℕ} {t v set : ℕ} → Gathering free net xs m n live t v set → AllSettleable live set (placesOf net)
+pub all-settleable : {free net xs : List ℕ} {m n : ℕ} {live : List ℕ} {t v set : ℕ} → Gathering free net xs m n live t v set
+    → AllSettleable live set (placesOf net)
 all-settleable g =
     record {
       each = λ v l h.
@@ -435,7 +446,8 @@ all-settleable g =
 same-list : {live after : List ℕ} {v : ℕ} → sizeOf live v ≤ 170 → SameAt live after v → ListSame live after v
 same-list {live} {after} {v} few s = record { past = s .past; size = s .size; fresh = s .fresh; entries = λ i l. entry-same live after v i (λ j a b. s .list j (omega arith)) }
 
-pub gathering-end : {free net xs : List ℕ} {m n : ℕ} {live after : List ℕ} {t v set p : ℕ} → Given free net → t ≤ 255 → p ≡ placesOf net → Gathering free net xs m n live t v set
+pub gathering-end : {free net xs : List ℕ} {m n : ℕ} {live after : List ℕ} {t v set p : ℕ} → Given free net → t ≤ 255 → p ≡ placesOf net
+    → Gathering free net xs m n live t v set
     → SettledTo free live after set p t → Sourcing free net xs n n after (t + 1)
 gathering-end {free} {net} {xs} {m} {n} {live} {after} {t} {v} {set} {p} given last all g d =
     record { size = omega (arith, g .sourcing .size, d .size); upto = omega arith; later = λ k a b. absurd (omega arith); lists = λ w l. list w l (ℕ-discrete (set / 2 ^ w % 2) 1) }
@@ -461,8 +473,10 @@ new-none xs n d live h =
       each = λ e. absurd (false-not-true refl e);
     }
 
-pub new-in : (xs : List ℕ) (n d : ℕ) (live mid : List ℕ) (h : Here) (at s : ℕ) (rest : Cost) → h .place .0 < 64 → at ≡ listAt (h .place .0) + sizeOf live (h .place .0) * 3
-    → s ≡ sizeOf live (h .place .0) + d → rest ≡ times (255 - h .step .0) (h .wait) → sizeOf live (h .place .0) + d ≤ 170 → 256 ≤ length live → Appended xs n d live mid at rest
+pub new-in : (xs : List ℕ) (n d : ℕ) (live mid : List ℕ) (h : Here) (at s : ℕ) (rest : Cost) → h .place .0 < 64
+    → at ≡ listAt (h .place .0) + sizeOf live (h .place .0) * 3
+    → s ≡ sizeOf live (h .place .0) + d → rest ≡ times (255 - h .step .0) (h .wait) → sizeOf live (h .place .0) + d ≤ 170 → 256 ≤ length live
+    → Appended xs n d live mid at rest
     → NewIn xs n d live (set mid (192 + h .place .0) s) h true
 new-in xs n d live mid h at s rest inside from is stays few room a =
     record {
@@ -531,7 +545,8 @@ visited-modest {k} {xs} {ys} {n} {d} {v} {t} last w =
     }
 
 -- at step 1, before and after the row of the start
-pub sourcing-none : {free net xs : List ℕ} (live : List ℕ) → listsRoom (placesOf net) ≤ length live → live ≡ replicate (length live) 0 → Sourcing free net xs 0 0 live 1
+pub sourcing-none : {free net xs : List ℕ} (live : List ℕ) → listsRoom (placesOf net) ≤ length live → live ≡ replicate (length live) 0
+    → Sourcing free net xs 0 0 live 1
 sourcing-none {free} {net} {xs} live room zero =
     record {
       size = room;
@@ -554,8 +569,10 @@ sourcing-none {free} {net} {xs} live room zero =
 pub figures-at : {at p : ℕ} {c : Cost} {a b : List ℕ} → at ≡ p → FiguresPut at c a b → FiguresPut p c a b
 figures-at {c = c} {a} {b} e f = subst (λ (n : ℕ). FiguresPut n c a b) e f
 
-pub sourcing-first : {free net xs ys : List ℕ} (start : ℕ) (live mid after : List ℕ) (c : Cost) → placesOf net ≤ 64 → start < placesOf net → listsRoom (placesOf net) ≤ length live
-    → live ≡ replicate (length live) 0 → Put xs ys 0 (record { place = start; step = 0; cost = zeroCost }) → c ≡ times 255 (waitIn net start) → length c ≡ figures
+pub sourcing-first : {free net xs ys : List ℕ} (start : ℕ) (live mid after : List ℕ) (c : Cost) → placesOf net ≤ 64 → start < placesOf net
+    → listsRoom (placesOf net) ≤ length live
+    → live ≡ replicate (length live) 0 → Put xs ys 0 (record { place = start; step = 0; cost = zeroCost }) → c ≡ times 255 (waitIn net start)
+    → length c ≡ figures
     → FiguresPut (listAt start) c live mid → Headed mid after start 1 1 0 → Sourcing free net ys 1 1 after 1
 sourcing-first {free} {net} {xs} {ys} start live mid after c few inside room zero put is three figs head =
     record {

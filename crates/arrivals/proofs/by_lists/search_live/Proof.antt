@@ -31,6 +31,9 @@ same-length-2 c = search needs
 returns : tie.Need-returns
 returns c = c .before .before .before .before .live-steps .ensures
 
+nothing-requires : tie.Need-nothing-requires
+nothing-requires c κs = search needs
+
 same-length-3 : tie.Need-same-length-3
 same-length-3 c = search needs
 
@@ -38,7 +41,9 @@ same-length-4 : tie.Need-same-length-4
 same-length-4 c = search needs
 
 returns-2 : tie.Need-returns-2
-returns-2 c = record { result = λ e. absurd (false-not-true refl e); halted = λ e l. absurd (omega arith) }
+returns-2 c =
+    let z = c .nothing .ensures in
+    record { result = λ e. absurd (false-not-true (z .0) e); halted = λ e l. absurd (omega (arith, z .2)) }
 
 pub search-live-spec : {M : Type 1} → statement M
 search-live-spec =
@@ -49,6 +54,7 @@ search-live-spec =
     same-length
     same-length-2
     returns
+    nothing-requires
     same-length-3
     same-length-4
     returns-2)

@@ -32,8 +32,11 @@ same-length-3 c = search needs
 returns-3 : tie.Need-returns-3
 returns-3 c = c .before .before .before .search-part .ensures (c .if3 .taken)
 
+nothing-requires : tie.Need-nothing-requires
+nothing-requires c κs = search needs
+
 search-indexed-requires-3 : tie.Need-search-indexed-requires-3
-search-indexed-requires-3 c κs = (c .before .before .before .before .before .before .before .before .before .before .before .before .pre .0, λ l. absurd (omega (arith, l)))
+search-indexed-requires-3 c κs = (c .before .before .before .before .before .before .before .before .before .before .before .before .before .pre .0, λ l. absurd (omega (arith, l, c .nothing .ensures .2)))
 
 same-length-4 : tie.Need-same-length-4
 same-length-4 c = search needs
@@ -54,6 +57,7 @@ search-far-spec =
     search-part-requires
     same-length-3
     returns-3
+    nothing-requires
     search-indexed-requires-3
     same-length-4
     returns-4)
