@@ -3,6 +3,7 @@ use crate::expand::fresh;
 use crate::fill::Stepped;
 use crate::fill::next_place;
 use crate::lists::FOR_ALL;
+use crate::lists::FOR_SIX;
 use crate::lists::FOR_SIXTEEN;
 use crate::lists::NEW;
 use crate::lists::Part;
@@ -418,6 +419,10 @@ pub fn search_lists(table: &mut [u32], sets: &[u64], net: &[u32], runs: &[u16], 
     requires { ⌜ Searchable (now runs) (now net) (now sets) (last .0) ⌝ }
     ensures { λ r. ⌜ Found (now (runs .entry)) (now (net .entry)) (now (table .exit)) (last .0) r ⌝ }
 {
+    if places_of(net) <= 6 {
+        let mut live = [0; FOR_SIX];
+        return search_live(table, &mut live, sets, net, runs, last);
+    }
     if places_of(net) <= 16 {
         let mut live = [0; FOR_SIXTEEN];
         return search_live(table, &mut live, sets, net, runs, last);

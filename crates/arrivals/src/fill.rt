@@ -413,14 +413,11 @@ pub fn search_far(
     search_indexed(table, sets, net, runs, last, nothing())
 }
 
-// The same by lists of live costs, and from the step on for which a list or the table has no room, by the index. For few steps the lists do not pay.
+// The same by lists of live costs, and from the step on for which a list or the table has no room, by the index.
 pub fn search_all(table: &mut [u32], sets: &[u64], net: &[u32], runs: &[u16], last: Step) -> Outcome
     requires { ⌜ Searchable (now runs) (now net) (now sets) (last .0) ⌝ }
     ensures { λ r. ⌜ Result (caseOf (now (runs .entry)) (now (net .entry))) (now (table .exit)) (last .0 + 1) 0 (r .ok) (r .rows) ⌝ }
 {
-    if last.0 < 16 {
-        return search_far(table, sets, net, runs, last, nothing());
-    }
     let r = search_lists(table, sets, net, runs, last);
     let ok = r.ok;
     let rows = r.rows;

@@ -21,7 +21,7 @@ ghost use Rattle.arrivals.specs.Inner.Lists.{listAt, listsRoom, LedIn, O
 ghost use Rattle.arrivals.specs.Inner.Lists.{Retained, RetainedOne, Shifted, Headed, Settleable, SettledOne, AllSettleable, SettledTo};
 
 // The parts of the array: from 0, by place, the step past the newest rows; the number of costs; how many of them come before those of the newest rows; the
-// number with those that are added at this step; the lists, and how long each is; and the length for 16 and 64 places.
+// number with those that are added at this step; the lists, and how long each is; and the length for 6, 16 and 64 places.
 pub const SIZE: usize = 64;
 
 pub const FRESH: usize = 128;
@@ -31,6 +31,8 @@ pub const NEW: usize = 192;
 pub const LISTS: usize = 256;
 
 pub const LIST: usize = 510;
+
+pub const FOR_SIX: usize = 3316;
 
 pub const FOR_SIXTEEN: usize = 8416;
 

@@ -21,17 +21,32 @@ same-length c = search needs
 returns : tie.Need-returns
 returns c = c .before .before .before .search-live .ensures
 
+places-of-requires-2 : tie.Need-places-of-requires-2
+places-of-requires-2 c κs = c .before .before .before .before .before .before .pre .given .size
+
 slice-aggregate-search-live-2 : tie.Need-slice-aggregate-search-live-2
 slice-aggregate-search-live-2 c = search needs
 
 search-live-requires-2 : tie.Need-search-live-requires-2
-search-live-requires-2 c κs = (c .before .before .before .before .before .before .before .before .pre, omega (arith, c .before .before .before .before .before .before .before .before .pre .given .places), refl)
+search-live-requires-2 c κs = (c .before .before .before .before .before .before .before .before .before .before .pre, omega (arith, c .before .before .before .places-of2 .ensures, c .before .before .if2 .taken), refl)
 
 same-length-2 : tie.Need-same-length-2
 same-length-2 c = search needs
 
 returns-2 : tie.Need-returns-2
 returns-2 c = c .before .before .before .search-live2 .ensures
+
+slice-aggregate-search-live-3 : tie.Need-slice-aggregate-search-live-3
+slice-aggregate-search-live-3 c = search needs
+
+search-live-requires-3 : tie.Need-search-live-requires-3
+search-live-requires-3 c κs = (c .before .before .before .before .before .before .before .before .before .before .pre, omega (arith, c .before .before .before .before .before .before .before .before .before .before .pre .given .places), refl)
+
+same-length-3 : tie.Need-same-length-3
+same-length-3 c = search needs
+
+returns-3 : tie.Need-returns-3
+returns-3 c = c .before .before .before .search-live3 .ensures
 
 pub search-lists-spec : {M : Type 1} → statement M
 search-lists-spec =
@@ -42,7 +57,12 @@ search-lists-spec =
     search-live-requires
     same-length
     returns
+    places-of-requires-2
     slice-aggregate-search-live-2
     search-live-requires-2
     same-length-2
-    returns-2)
+    returns-2
+    slice-aggregate-search-live-3
+    search-live-requires-3
+    same-length-3
+    returns-3)
