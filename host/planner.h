@@ -39,7 +39,7 @@
  *   archive has no data that is written and at most 64 bytes of constants beside its code. Calls may run on several
  *   threads at once, each with buffers of its own; they may share a sheet that none of them writes.
  * - A call's own memory is the stack, at most PLANNER_MOST_STACK bytes. That and the figure at each call are measured
- *   (tests/stack, on a sheet with all places and steps; docs/DECISIONS.md, "Stack"), not proved.
+ *   (tests/stack, on sheets that take each way of the search; docs/DECISIONS.md, "Stack"), not proved.
  */
 #ifndef PLANNER_H
 #define PLANNER_H
@@ -55,6 +55,7 @@ extern "C" {
 #define PLANNER_MOST_PLACES 64      /* of a sheet */
 #define PLANNER_MOST_LINES 256      /* of corridors, of closures, and of occupancies */
 #define PLANNER_MOST_PATH 256       /* places of a journey: steps 0 to 255 */
+#define PLANNER_MOST_TABLE 41943039 /* numbers of an arrivals table; past them a search with a large front is hundreds of times slower */
 #define PLANNER_MOST_STACK 200000   /* bytes of stack of any call */
 #define PLANNER_FIGURES 3           /* of a cost: charge, noise, doors */
 #define PLANNER_HEAD_WIDTH 5        /* places, steps, start, goal, u */

@@ -1,5 +1,7 @@
-/* Measures how many bytes of stack each call of the planner uses, on a sheet with all places and steps: the call runs on a thread whose stack was
- * filled with a pattern, and what it wrote over is counted. Prints a Markdown table; fails when a call uses more than LIMIT bytes. */
+/* Measures how many bytes of stack each call of the planner uses, the most on sheets that take each way of the search: a sheet with all places and
+ * steps, and one with more live costs at a place than a list has room for, with ample room for arrivals and with room that just fits. The call runs on
+ * a thread whose stack was filled with a pattern, and what it wrote over is counted. Prints a Markdown table; fails when a call uses more than LIMIT
+ * bytes. */
 #include "../host/planner.h"
 
 #include <pthread.h>
@@ -9,13 +11,14 @@
 #include <string.h>
 #include <sys/mman.h>
 
-enum { LIMIT = PLANNER_MOST_STACK, STACK = 4 << 20, PATTERN = 0xA5, ARRIVALS = 2000000, COSTS = 4000, BYTES = PLANNER_MOST_BYTES };
+enum { LIMIT = PLANNER_MOST_STACK, STACK = 4 << 20, PATTERN = 0xA5, ARRIVALS = 2000000, COSTS = 4000, BYTES = PLANNER_MOST_BYTES, DIAMONDS = 8 };
 
 static uint8_t sheet[BYTES], written[BYTES];
-static size_t sheet_len;
+static size_t sheet_len, room = ARRIVALS;
 static uint32_t arrivals[ARRIVALS], list[COSTS];
 static PlannerSheetRead answer;
 static uint32_t refusal;
+static uint64_t rows;
 
 /* The sheet: a grid of 8 by 8 places, waiting dearer at each fifth, each occupied for three steps, a closure of each corridor to the right, and 255
  * steps. */
@@ -31,6 +34,20 @@ static void write_sheet(void)
     for (int v = 0; v < 64; v++)
         if (v % 8 < 7) at += sprintf(at, "X,%d,%d,%d\n", v, v + 1, 4 + v);
     for (int v = 0; v < 64; v++) at += sprintf(at, "O,%d,%d,%d\n", v, 20 + v, 22 + v);
+    sheet_len = (size_t)(at - (char *)sheet);
+}
+
+/* A row of diamonds: two ways from each place to the next, one at a charge and one at a noise, so that each diamond doubles the front. */
+static void write_diamonds(void)
+{
+    char *at = (char *)sheet;
+    int last = 3 * DIAMONDS;
+    at += sprintf(at, "S,%d,255,0,%d,0\n", last + 1, last);
+    for (int v = 0; v <= last; v++) at += sprintf(at, "W,%d,1,1,1\n", v);
+    for (int v = 0; v < last; v += 3) {
+        at += sprintf(at, "C,%d,%d,%d,0,0\nC,%d,%d,0,%d,0\n", v, v + 1, 1 << v / 3, v, v + 2, 1 << v / 3);
+        at += sprintf(at, "C,%d,%d,0,0,0\nC,%d,%d,0,0,0\n", v + 1, v + 3, v + 2, v + 3);
+    }
     sheet_len = (size_t)(at - (char *)sheet);
 }
 
@@ -54,13 +71,15 @@ static void *run_write(void *unused)
 
 static void *run_front(void *unused)
 {
-    refusal = planner_front(sheet, sheet_len, arrivals, ARRIVALS, list, COSTS).refusal;
+    PlannerFrontAnswer front = planner_front(sheet, sheet_len, arrivals, room, list, COSTS);
+    refusal = front.refusal;
+    rows = front.arrivals;
     return unused;
 }
 
 static void *run_journey(void *unused)
 {
-    refusal = planner_journey(sheet, sheet_len, 0, arrivals, ARRIVALS, list, COSTS).refusal;
+    refusal = planner_journey(sheet, sheet_len, 0, arrivals, room, list, COSTS).refusal;
     return unused;
 }
 
@@ -86,6 +105,26 @@ static size_t touched(void *(*run)(void *))
     return STACK - kept;
 }
 
+/* The most that a call takes on the sheets, if none of them is refused. */
+static size_t most(void *(*run)(void *), size_t empty)
+{
+    size_t use[3];
+    uint32_t refusals = 0;
+    for (int way = 0; way < 3; way++) {
+        if (way == 0) write_sheet(); else write_diamonds();
+        room = ARRIVALS;
+        if (way == 2) {
+            run_front(NULL);
+            room = rows * PLANNER_ARRIVAL_WIDTH;
+        }
+        if (run == run_write) run_read(NULL);
+        use[way] = touched(run) - empty;
+        refusals |= refusal;
+    }
+    refusal = refusals;
+    return use[0] > use[1] ? (use[0] > use[2] ? use[0] : use[2]) : (use[1] > use[2] ? use[1] : use[2]);
+}
+
 int main(void)
 {
     struct { const char *name; void *(*run)(void *); } calls[] = {
@@ -93,10 +132,9 @@ int main(void)
         {"planner_kind", run_kind}};
     size_t empty = touched(idle);
     int status = 0;
-    write_sheet();
     printf("| call | bytes of stack |\n|---|---:|\n");
     for (size_t i = 0; i < sizeof calls / sizeof *calls; i++) {
-        size_t use = touched(calls[i].run) - empty;
+        size_t use = most(calls[i].run, empty);
         printf("| `%s` | %zu |\n", calls[i].name, use);
         if (refusal != 0 || use > LIMIT) {
             printf("FAILED: %s, refusal %u, at most %d bytes\n", calls[i].name, refusal, LIMIT);

@@ -14,7 +14,6 @@ pub mod Index
 pub mod Renoting
 pub mod Due
 pub mod Lists
-pub mod Parts
 pub mod Keeping
 pub mod Turning
 pub mod Standing

@@ -414,7 +414,7 @@ pub fn search_live(
     nothing()
 }
 
-// The same, with no more room for lists than the places need: clearing it takes most of the time where there are few.
+// The same, with the least of three rooms for lists that the places fit in: clearing it takes most of the time where there are few.
 pub fn search_lists(table: &mut [u32], sets: &[u64], net: &[u32], runs: &[u16], last: Step) -> Halt
     requires { ⌜ Searchable (now runs) (now net) (now sets) (last .0) ⌝ }
     ensures { λ r. ⌜ Found (now (runs .entry)) (now (net .entry)) (now (table .exit)) (last .0) r ⌝ }

@@ -1,6 +1,5 @@
 // All rows, place by place and step by step.
 use crate::by_lists::Halt;
-use crate::by_lists::nothing;
 use crate::by_lists::search_lists;
 use crate::expand::from_links;
 use crate::index::INDEX;
@@ -246,7 +245,7 @@ pub fn first_row(table: &mut [u32], ix: &mut [u32], net: &[u32], runs: &[u16]) -
     Outcome { ok: true, rows: 1 }
 }
 
-// All the rows of the search, after which the table is as it was, or more of them than there is room for.
+// All the rows of the search, or more of them than there is room for. Of what stands past the rows nothing is said.
 pub fn search_anew(
     table: &mut [u32],
     ix: &mut [u32],
@@ -267,7 +266,7 @@ pub fn search_anew(
     Outcome { ok: false, rows }
 }
 
-// Notes the rows below n, which stand in order, step by step, and leaves out those that a later row undercuts, as the search by the index does.
+// Notes the rows below n, which stand in order, step by step, each step settled as in the search by the index (live.rt).
 pub fn note_rows(
     table: &[u32],
     n: usize,
@@ -341,7 +340,7 @@ pub fn search_by(
     search_on(table, ix, sets, net, runs, last, halt)
 }
 
-// The same, with no longer an index than the steps need: clearing it takes most of the time where there are few. The three take one place on the stack.
+// The same, with the shortest of three indexes that the steps fit in: clearing it takes most of the time where there are few. The three take one place on the stack.
 pub fn search_indexed(
     table: &mut [u32],
     sets: &[u64],
@@ -366,53 +365,6 @@ pub fn search_indexed(
     search_by(table, &mut ix, sets, net, runs, last, halt)
 }
 
-// The same in the first k numbers of the table alone; nothing is said where they are not enough.
-pub fn search_part(
-    table: &mut [u32],
-    k: usize,
-    sets: &[u64],
-    net: &[u32],
-    runs: &[u16],
-    last: Step,
-    halt: Halt,
-) -> Outcome
-    requires { ⌜ (Searchable (now runs) (now net) (now sets) (last .0)) × (k ≤ length (now table)) × (halt .rows * 5 ≤ k)
-        × (1 ≤ halt .step .0 → Halted (now runs) (now net) (now table) (last .0) (halt .rows) (halt .step .0)) ⌝ }
-    ensures { λ r. ⌜ (r .ok ≡ true → Result (caseOf (now (runs .entry)) (now (net .entry))) (now (table .exit)) (last .0 + 1) 0 true (r .rows)) ⌝ }
-{
-    search_indexed(&mut table[..k], sets, net, runs, last, halt)
-}
-
-// The same by an index that numbers 8,388,607 rows: a table with room for more is searched as far as these first, and as a whole only where they are not
-// enough, without the index.
-pub fn search_far(
-    table: &mut [u32],
-    sets: &[u64],
-    net: &[u32],
-    runs: &[u16],
-    last: Step,
-    halt: Halt,
-) -> Outcome
-    requires { ⌜ (Searchable (now runs) (now net) (now sets) (last .0))
-        × (1 ≤ halt .step .0 → Halted (now runs) (now net) (now table) (last .0) (halt .rows) (halt .step .0)) ⌝ }
-    ensures { λ r. ⌜ Result (caseOf (now (runs .entry)) (now (net .entry))) (now (table .exit)) (last .0 + 1) 0 (r .ok) (r .rows) ⌝ }
-{
-    let begun = halt.rows;
-    if table.len() <= 41943039 {
-        return search_indexed(table, sets, net, runs, last, halt);
-    }
-    if 8388607 < begun {
-        return search_indexed(table, sets, net, runs, last, halt);
-    }
-    let r = search_part(table, 41943035, sets, net, runs, last, halt);
-    let ok = r.ok;
-    let rows = r.rows;
-    if ok {
-        return Outcome { ok: true, rows };
-    }
-    search_indexed(table, sets, net, runs, last, nothing())
-}
-
 // The same by lists of live costs, and from the step on for which a list or the table has no room, by the index.
 pub fn search_all(table: &mut [u32], sets: &[u64], net: &[u32], runs: &[u16], last: Step) -> Outcome
     requires { ⌜ Searchable (now runs) (now net) (now sets) (last .0) ⌝ }
@@ -424,7 +376,7 @@ pub fn search_all(table: &mut [u32], sets: &[u64], net: &[u32], runs: &[u16], la
     if ok {
         return Outcome { ok: true, rows };
     }
-    search_far(table, sets, net, runs, last, r)
+    search_indexed(table, sets, net, runs, last, r)
 }
 
 // All the rows of the search, and zeros after them; or zeros alone where there is no room.

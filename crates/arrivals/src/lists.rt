@@ -1,5 +1,6 @@
 // The live costs of each place, in lists: what its rows come to by waiting until step 255, so that rows of different steps are compared as they stand. Each
-// place has room for 170 of them; where there are more, the search goes on without the lists (fill.rt).
+// place has room for 170 of them, those that are added at a step counted before any is dropped; where that is not enough, the search goes on without the
+// lists (fill.rt).
 use crate::network::Here;
 use crate::network::wide;
 use crate::rows::put_figures;
@@ -20,8 +21,8 @@ ghost use Rattle.arrivals.specs.Inner.Network.{sinceIn};
 ghost use Rattle.arrivals.specs.Inner.Lists.{listAt, listsRoom, LedIn, OwnIs, PartIs, FreshIn, Modest, Appended};
 ghost use Rattle.arrivals.specs.Inner.Lists.{Retained, RetainedOne, Shifted, Headed, Settleable, SettledOne, AllSettleable, SettledTo};
 
-// The parts of the array: from 0, by place, the step past the newest rows; the number of costs; how many of them come before those of the newest rows; the
-// number with those that are added at this step; the lists, and how long each is; and the length for 6, 16 and 64 places.
+// The parts of the array: from 0, by place, the step past the newest rows; the number of costs; how many of them come before those of the newest rows; where
+// costs are added at this step, the number with them; the lists, and how long each is; and the length for 6, 16 and 64 places.
 pub const SIZE: usize = 64;
 
 pub const FRESH: usize = 128;

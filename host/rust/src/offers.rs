@@ -9,7 +9,7 @@ const MOST_PATH: usize = 256;
 /// Room lent to a call. The memory for it is taken for the length of the call: 20 bytes for an arrival, 16 for a cost.
 #[derive(Clone, Copy, Debug, PartialEq, Eq)]
 pub struct Room {
-    /// Leading arrivals that the call may keep. With more than 8,388,607 the search is hundreds of times slower.
+    /// Leading arrivals that the call may keep. With more than 8,388,607 the search of a large front is hundreds of times slower.
     pub arrivals: usize,
     /// Front costs that a call of the front may list.
     pub costs: usize,

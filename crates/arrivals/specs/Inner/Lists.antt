@@ -295,7 +295,7 @@ pub record StartLive (free net xs live : List ℕ) (o : Outcome) : Type 0 where
   pub result : o .ok ≡ true → Result (caseOf free net) xs 1 0 true (o .rows)
   pub sourcing : o .ok ≡ true → Sourcing free net xs (o .rows) (o .rows) live 1
 
--- all is filled in before step t, after which the search may go on
+-- all is filled in before step t, from which the search can go on
 pub record Halted (free net xs : List ℕ) (last n t : ℕ) : Type 0 where
   pub upto : t ≤ last
   pub room : n * 5 ≤ length xs

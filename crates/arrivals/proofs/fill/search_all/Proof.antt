@@ -13,14 +13,14 @@ same-length c = search needs
 returns : tie.Need-returns
 returns c = c .before .before .before .search-lists .ensures .result (c .if1 .taken)
 
-search-far-requires : tie.Need-search-far-requires
-search-far-requires c κs = (c .before .before .before .before .before .before .before .before .before .before .pre, λ l. c .before .before .before .before .search-lists .ensures .halted (c .before .if1 .left) l)
+search-indexed-requires : tie.Need-search-indexed-requires
+search-indexed-requires c κs = (c .before .before .before .before .before .before .before .before .before .before .pre, λ l. c .before .before .before .before .search-lists .ensures .halted (c .before .if1 .left) l)
 
 same-length-2 : tie.Need-same-length-2
 same-length-2 c = search needs
 
 returns-2 : tie.Need-returns-2
-returns-2 c = c .before .before .search-far .ensures
+returns-2 c = c .before .before .search-indexed .ensures
 
 pub search-all-spec : {M : Type 1} → statement M
 search-all-spec =
@@ -29,6 +29,6 @@ search-all-spec =
     search-lists-requires
     same-length
     returns
-    search-far-requires
+    search-indexed-requires
     same-length-2
     returns-2)
