@@ -138,7 +138,7 @@ pub fn visit(
     Outcome { ok, rows }
 }
 
-// How a step ends: with its rows and the places that corridors lead to from them, or with more rows than there is room for.
+// How a step ends: with its rows and the places that corridors lead to from them, or given up for want of room.
 pub struct Stepped {
     pub ok: bool,
     pub rows: usize,

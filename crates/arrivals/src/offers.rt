@@ -24,7 +24,7 @@ ghost use Rattle.arrivals.specs.Inner.Offering.{Beaten, Thinned, Thinned
 ghost use Rattle.arrivals.specs.Inner.Index.{Indexed, Covers};
 ghost use Rattle.arrivals.specs.Inner.Sweeps.{SweptAt, Sweepable};
 
-// How a search ends: with all rows, or with more rows than there is room for.
+// How a search ends: with all rows, or given up for want of room.
 pub struct Outcome {
     pub ok: bool,
     pub rows: usize,
@@ -142,7 +142,7 @@ pub fn led_walk(table: &[u32], n: usize, ix: &[u32], here: Here, g: [u32; 3]) ->
 }
 
 // Puts the cost g, which no older row leads, among the d rows from row a on, which stand in order, unless one of them leads it: only those before its place
-// can be nowhere above g, and only those from there on can be what g is nowhere above.
+// can be nowhere above g, and only those from there on can be what g is nowhere above. Given up where there is no room for it, be it a row or not.
 pub fn put_in(table: &mut [u32], a: usize, d: usize, here: Here, g: [u32; 3]) -> Outcome
     requires { ⌜ ((a + d) * 5 ≤ length (now table)) × (Sorted (tailOf (now table) a d)) × (LedAt (rowsOf (now table) a) here g → ⊥) ⌝ }
     ensures { λ r. ⌜ SweptAt (λ h. h ≡ g) here a (now (table .entry)) (now (table .exit)) d (r .ok) (r .rows) ⌝ }

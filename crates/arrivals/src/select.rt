@@ -1,5 +1,6 @@
 // The rows of a place and step one after another, each by a scan of all rows: no cost is held that is not a row. This runs where the room ran out
-// while costs were offered, since a cost that is held for a moment may not be a row, and for tables whose rows 23 bits do not number.
+// while costs were offered, since a cost that is held for a moment may not be a row, and, where the lists have no room,
+// for tables whose rows 23 bits do not number.
 use crate::expand::fresh;
 use crate::expand::reach_cost;
 use crate::expand::source_of;

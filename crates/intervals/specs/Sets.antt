@@ -1,5 +1,5 @@
--- Sets of places, each as one number of 64 bits: place v is in the set where the binary digit v is 1. Of the sets that the search keeps it is said what
--- they hold, and nothing of what they do not: a place that is looked at in vain adds no row.
+-- Sets of places, each as one number of 64 bits: place v is in the set where the binary digit v is 1. Of a set of places to
+-- look at it is said what it holds, and nothing of what it does not: a place that is looked at in vain adds no row.
 use mathlib.Core.Path.{_≡_}
 use mathlib.Core.List.{List}
 use mathlib.Core.Logic.{_⊎_}

@@ -1,5 +1,5 @@
 -- The live costs of the places, as one list of numbers. For each place v: at v the step past its newest rows, at 64 + v the number of costs in its list, at
--- 128 + v how many of them come before those of the newest rows, at 192 + v the number of costs with those that are added at this step; and its list, from
+-- 128 + v how many of them come before those of the newest rows, at 192 + v, where costs are added at this step, the number with them; and its list, from
 -- 256 + v * 510 on, three figures for each. A cost in a list is what a row of the place comes to by waiting until step 255, so that rows of different steps
 -- are compared without a look at their steps. Costs that a later row undercuts are left out.
 use mathlib.Core.Path.{_≡_}

@@ -25,7 +25,7 @@ pub record GroupEnd (xs : List ℕ) (k n r : ℕ) : Type 0 where
   pub own : (i : ℕ) → k ≤ i → i < r → (rowAt xs i .place ≡ rowAt xs k .place) × (rowAt xs i .step ≡ rowAt xs k .step)
   pub other : r < n → rowAt xs r .place ≡ rowAt xs k .place → rowAt xs r .step ≡ rowAt xs k .step → ⊥
 
--- the rows below n can be noted: they stand in order
+-- the rows below n can be noted: they stand in order, within the bounds of a search, in a table whose rows 23 bits number
 pub record Noteable (xs : List ℕ) (n : ℕ) : Type 0 where
   pub room : n * 5 ≤ length xs
   pub short : length xs ≤ 41943039
