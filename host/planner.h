@@ -177,7 +177,7 @@ PlannerSheetWritten planner_write(const uint32_t *head, size_t head_len, const u
  * arrival step is the earliest at which a lawful journey with that cost arrives. Refused: kept.
  * Time: where the table has little more room than needed, or less, the last rows are found by scans of all rows, which
  * can take a hundred times as long. Twice the room needed is enough to be spared that.
- * Stack: 198,688 bytes measured. */
+ * Stack: 199,200 bytes measured. */
 PlannerFrontAnswer planner_front(const uint8_t *sheet, size_t sheet_len, uint32_t *arrivals, size_t arrivals_len,
                                  uint32_t *list, size_t list_len);
 
@@ -192,7 +192,7 @@ PlannerFrontAnswer planner_front(const uint8_t *sheet, size_t sheet_len, uint32_
  * arrivals: as planner_front leaves it. Refused with one of the sheet: kept. Refused with 8, 10 or 11: zeros from its
  * first element to its last.
  * path: a place for each step from 0 to the arrival step, then zeros to its end. Refused: kept.
- * Stack: 198,912 bytes measured. */
+ * Stack: 199,424 bytes measured. */
 PlannerJourneyAnswer planner_journey(const uint8_t *sheet, size_t sheet_len, uint32_t number, uint32_t *arrivals,
                                      size_t arrivals_len, uint32_t *path, size_t path_len);
 
