@@ -74,7 +74,7 @@ pub const ORDERED: u8 = 2;
 
 // A kind of line: its letter, the count of its numbers and their limits, the most lines, what the numbers at two positions must be, by how many first
 // numbers its lines ascend, and where its group begins in the array of all groups.
-#[derive(Drop)]
+#[derive(Clone, Copy)]
 pub struct Row {
     pub letter: u8,
     pub width: usize,

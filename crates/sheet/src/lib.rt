@@ -1,5 +1,7 @@
 // The corridor sheet: places and steps, the reader and the writer (document 01, "The sheet", "What is handed back").
 
+#![tactic(auto)]
+
 pub mod bytes; // bytes.rt: the kinds of bytes
 pub mod kinds; // kinds.rt: the kinds of lines, by their numbers
 pub mod lines; // lines.rt: what the bytes of a line stand for
@@ -14,11 +16,11 @@ pub mod writer; // writer.rt: from the groups to bytes
 use crate::kinds::{CLOSURES, CORRIDORS, HEAD, KINDS, OCCUPANCIES, WAITS};
 
 // A place of the sheet, numbered from 0: the source's node (001).
-#[derive(Drop)]
+#[derive(Clone, Copy)]
 pub struct Place(pub u32);
 
 // A step from 0 to the horizon: the source's time (001).
-#[derive(Drop)]
+#[derive(Clone, Copy)]
 pub struct Step(pub u32);
 
 // What a read sheet hands back: the count of lines of each group, and the groups at full length, zeros past the last line.

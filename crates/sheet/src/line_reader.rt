@@ -5,7 +5,7 @@ ghost use Rattle.sheet.specs.LineEnds.{EndIs, EndsAt, opened, gone_on};
 
 use crate::bytes::feed_from;
 
-#[derive(Drop)]
+#[derive(Clone, Copy)]
 pub struct LineReader<'a> {
     pub src: &'a [u8],
     pub at: usize,

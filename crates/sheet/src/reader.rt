@@ -26,7 +26,7 @@ pub struct Verdict {
 }
 
 // The letters of the kinds and the counts of their numbers.
-#[derive(Drop)]
+#[derive(Clone, Copy)]
 pub struct FormsOfLines {
     pub letters: [u8; KINDS],
     pub widths: [usize; KINDS],

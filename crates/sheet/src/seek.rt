@@ -6,7 +6,7 @@ ghost use Rattle.sheet.specs.Laws.Decided.{Decided};
 
 // The lines of a group in the array of all groups: where they begin, the count of numbers of each, how many there are, and by how many first numbers
 // they are sought.
-#[derive(Drop)]
+#[derive(Clone, Copy)]
 pub struct Group {
     pub base: usize,
     pub width: usize,
