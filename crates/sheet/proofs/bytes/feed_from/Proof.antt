@@ -37,7 +37,7 @@ sub-loop : tie.Need-overflow-sub-loop invariant-loop decreases-loop
 sub-loop c = omega arith
 
 -- the turn in which the bytes are looked at
-abbrev turn-1 : tie.After-kind-of invariant-loop decreases-loop → tie.In-loop invariant-loop decreases-loop
+abbrev turn-1 : tie.After-kind_of invariant-loop decreases-loop → tie.In-loop invariant-loop decreases-loop
 turn-1 c = c.before.before
 
 abbrev turn-2 : tie.After-kind-of2 invariant-loop decreases-loop → tie.In-loop invariant-loop decreases-loop
@@ -79,7 +79,7 @@ passed-4 c =
 shared-slice-read-kind-of : tie.Need-shared-slice-read-kind-of invariant-loop decreases-loop
 shared-slice-read-kind-of c = omega (arith, c.before)
 
-kind-of-requires : tie.Need-kind-of-requires invariant-loop decreases-loop
+kind-of-requires : tie.Need-kind_of-requires invariant-loop decreases-loop
 kind-of-requires c κs = search rules
 
 returns : tie.Need-returns invariant-loop decreases-loop
@@ -94,7 +94,7 @@ shared-slice-read-kind-of-2 c = omega (arith, turn-1 c.before.before)
 kind-of-requires-2 : tie.Need-kind-of-requires-2 invariant-loop decreases-loop
 kind-of-requires-2 c κs = search rules
 
-add-result : tie.Need-overflow-add-result invariant-loop decreases-loop
+add-result : tie.Need-overflow_add-result invariant-loop decreases-loop
 add-result c = omega (arith, turn-2 c.before)
 
 returns-2 : tie.Need-returns-2 invariant-loop decreases-loop
@@ -136,7 +136,7 @@ returns-4 c =
     let t = turn-4 c.before in
     here _ _ _ (omega (arith, t)) (passed-3 c.before.before.before) (sym c.before.kind-of4.ensures ∙ c.if4.true)
 
-add-i : tie.Need-overflow-add-i invariant-loop decreases-loop
+add-i : tie.Need-overflow_add-i invariant-loop decreases-loop
 add-i c = omega (arith, turn-4 c.before)
 
 loop-less : tie.Need-loop-smaller invariant-loop decreases-loop
@@ -145,7 +145,7 @@ loop-less c = omega (arith, turn-4 c.before)
 loop-again : tie.Need-loop-preserved invariant-loop decreases-loop
 loop-again c = (omega (arith, turn-4 c.before), passed-4 c)
 
-near-feed-requires : tie.Need-near-feed-requires invariant-loop decreases-loop
+near-feed-requires : tie.Need-near_feed-requires invariant-loop decreases-loop
 near-feed-requires c κs = omega arith
 
 returns-5 : tie.Need-returns-5 invariant-loop decreases-loop

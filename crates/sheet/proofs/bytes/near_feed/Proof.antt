@@ -24,7 +24,7 @@ loop-holds c = (c.before.requires, refl)
 shared-slice-read-kind-of : tie.Need-shared-slice-read-kind-of invariant-loop decreases-loop
 shared-slice-read-kind-of c = omega arith
 
-kind-of-requires : tie.Need-kind-of-requires invariant-loop decreases-loop
+kind-of-requires : tie.Need-kind_of-requires invariant-loop decreases-loop
 kind-of-requires c κs = search rules
 
 returns : tie.Need-returns invariant-loop decreases-loop
@@ -36,7 +36,7 @@ returns c =
           (sym c.before.kind-of.ensures ∙ c.if1.true),
     )
 
-add-i : tie.Need-overflow-add-i invariant-loop decreases-loop
+add-i : tie.Need-overflow_add-i invariant-loop decreases-loop
 add-i c = omega arith
 
 loop-less : tie.Need-loop-smaller invariant-loop decreases-loop

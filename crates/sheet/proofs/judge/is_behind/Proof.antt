@@ -36,7 +36,7 @@ returns-2 c =
     let a = c.before.before.before.args in
     rw (ne_eqb a.kind 0 c.before.before.if1.false, eq-eqb (get_or a.lines.now 0 0) 0 c.if2.true)
 
-add-j : tie.Need-overflow-add-j invariant-loop decreases-loop
+add-j : tie.Need-overflow_add-j invariant-loop decreases-loop
 add-j c = omega arith
 
 loop-holds : tie.Need-loop-init invariant-loop decreases-loop

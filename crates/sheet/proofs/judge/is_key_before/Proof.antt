@@ -70,7 +70,7 @@ returns-2 c = let s = c.before.before.before in at_first _ _ _ _ (inside s).0 (i
 returns-3 : tie.Need-returns-3
 returns-3 c = let s = start-1 c.before in sym (lex-none _ _ _ _ (inside s).0 (inside s).1 1 (omega (arith, c.if3.true))) ∙ order-1 c.before
 
-add-b : tie.Need-overflow-add-b
+add-b : tie.Need-overflow_add-b
 add-b c = search rules
 
 mul-b : tie.Need-overflow-mul-b
@@ -95,7 +95,7 @@ returns-4 c =
 returns-5 : tie.Need-returns-5
 returns-5 c = let s = start-2 c.before in sym (lex-none _ _ _ _ (inside s).0 (inside s).1 2 (omega (arith, c.if5.true))) ∙ order-2 c.before
 
-add-result : tie.Need-overflow-add-result
+add-result : tie.Need-overflow_add-result
 add-result c = search rules
 
 mul-result : tie.Need-overflow-mul-result

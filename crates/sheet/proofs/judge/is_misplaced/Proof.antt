@@ -5,13 +5,13 @@ use borrow.Author.Rules.{rules}
 use Rattle.sheet.proofs.judge.is_misplaced.Statement.{statement}
 use Rattle.sheet.proofs.judge.is_misplaced.Tie as tie
 
-is-behind-requires : tie.Need-is-behind-requires
+is-behind-requires : tie.Need-is_behind-requires
 is-behind-requires c κs = search rules
 
 returns : tie.Need-returns
-returns c = rw (sym c.before.is-behind.ensures ∙ c.if1.true)
+returns c = rw (sym c.before.is_behind.ensures ∙ c.if1.true)
 
-is-out-of-turn-requires : tie.Need-is-out-of-turn-requires
+is-out-of-turn-requires : tie.Need-is_out_of_turn-requires
 is-out-of-turn-requires c κs = search rules
 
 returns-2 : tie.Need-returns-2

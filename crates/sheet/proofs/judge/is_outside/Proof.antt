@@ -32,7 +32,7 @@ mul-is-beyond c = omega arith
 array-read-is-beyond-2 : tie.Need-array-read-is-beyond-2 invariant-loop decreases-loop
 array-read-is-beyond-2 c = omega arith
 
-is-beyond-requires : tie.Need-is-beyond-requires invariant-loop decreases-loop
+is-beyond-requires : tie.Need-is_beyond-requires invariant-loop decreases-loop
 is-beyond-requires c κs = search rules
 
 returns : tie.Need-returns invariant-loop decreases-loop
@@ -42,7 +42,7 @@ returns c =
     let b = sym c.before.is-beyond.ensures ∙ c.if1.true in
     sym (outside-here a.places a.t2 a.w a.t4 (omega arith) (omega arith) x.loop.i (omega arith) b) ∙ x.loop.invariant.3
 
-add-i : tie.Need-overflow-add-i invariant-loop decreases-loop
+add-i : tie.Need-overflow_add-i invariant-loop decreases-loop
 add-i c = omega arith
 
 loop-less : tie.Need-loop-smaller invariant-loop decreases-loop

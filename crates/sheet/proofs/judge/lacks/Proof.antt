@@ -14,7 +14,7 @@ shared-slice-read-if1 c = search rules
 returns : tie.Need-returns
 returns c = record { of = λ before S. sym (lacks-count S ∙ rw (eq-eqb _ 0 c.if1.true)) }
 
-is-waiting-requires : tie.Need-is-waiting-requires
+is-waiting-requires : tie.Need-is_waiting-requires
 is-waiting-requires c κs = search rules
 
 returns-2 : tie.Need-returns-2

@@ -82,7 +82,7 @@ module _ {M : Type 1} {𝓤 : Ura M} (𝓛 : Logic 𝓤) (mem : Memory → SProp
   Post = (walk_of 𝓛 this.ended stayed (this.clauses 𝓛 mem run)).post (((κ, tt), (q, tt), tt, (d, (n, tt)), at), tt)
 
   abbrev Own : Fml
-  Own = (B (κ, tt)).own d (mach ∷ [])
+  Own = (B (κ, tt)).Own d (mach ∷ [])
 
   -- what the callee is passed
   abbrev passed : Vals callee.signature tt

@@ -95,7 +95,7 @@ module _ {M : Type 1} {𝓤 : Ura M} (𝓛 : Logic 𝓤) (mem : Memory → SProp
   Post = (walk_of 𝓛 this.ended stayed (this.clauses 𝓛 mem run)).post ((κs, (q, tt), tt, (d, tt), at), tt)
 
   abbrev Own : Fml
-  Own = (B κs).own d (mach ∷ [])
+  Own = (B κs).Own d (mach ∷ [])
 
   -- what the callee is passed
   abbrev passed : Vals callee.signature κs

@@ -36,7 +36,7 @@ loop-holds c =
 sub-if1 : tie.Need-overflow-sub-if1 invariant-loop decreases-loop
 sub-if1 c = c.before.loop.invariant.0
 
-bad-field-requires : tie.Need-bad-field-requires invariant-loop decreases-loop
+bad-field-requires : tie.Need-bad_field-requires invariant-loop decreases-loop
 bad-field-requires c κs = search rules
 
 returns : tie.Need-returns invariant-loop decreases-loop
@@ -72,19 +72,19 @@ low c =
     let x = c.before.before.before in
     lt_of_lt_of_le x.before.before.loop.invariant.2 (pow-le-pow_right (lit< tt) {j = 8} (omega (arith, x.if1.false, x.before.before.before.before.requires)))
 
-mul-value : tie.Need-overflow-mul-value invariant-loop decreases-loop
+mul-value : tie.Need-overflow_mul-value invariant-loop decreases-loop
 mul-value c = omega (arith, low c)
 
-sub-value : tie.Need-overflow-sub-value invariant-loop decreases-loop
+sub-value : tie.Need-overflow_sub-value invariant-loop decreases-loop
 sub-value c = omega (arith, range c)
 
-cast-value : tie.Need-overflow-cast-value invariant-loop decreases-loop
+cast-value : tie.Need-overflow_cast-value invariant-loop decreases-loop
 cast-value c = omega (arith, range c)
 
-add-value : tie.Need-overflow-add-value invariant-loop decreases-loop
+add-value : tie.Need-overflow_add-value invariant-loop decreases-loop
 add-value c = omega (arith, range c, low c)
 
-add-i : tie.Need-overflow-add-i invariant-loop decreases-loop
+add-i : tie.Need-overflow_add-i invariant-loop decreases-loop
 add-i c = omega (arith, c.before.before.before.before)
 
 loop-less : tie.Need-loop-smaller invariant-loop decreases-loop

@@ -20,10 +20,10 @@ returns c =
 read : (c : tie.Else1) → c.before.before.digits_from.result.ok ≡ true
 read c = not-false c.before.before.digits_from.result.ok c.if1.false
 
-sub-n : tie.Need-overflow-sub-n
+sub-n : tie.Need-overflow_sub-n
 sub-n c = field-ahead _ _ _ _ c.before.before.before.digits_from.ensures (read c.before)
 
-bad-field-requires : tie.Need-bad-field-requires
+bad-field-requires : tie.Need-bad_field-requires
 bad-field-requires c κs = search rules
 
 returns-2 : tie.Need-returns-2

@@ -30,7 +30,7 @@ returns c = let l = c.before.before.args.l.now in sym (ne_eqb (span_of comma l) 
 shared-slice-read-kind-of : tie.Need-shared-slice-read-kind-of
 shared-slice-read-kind-of c = search rules
 
-kind-of-requires : tie.Need-kind-of-requires
+kind-of-requires : tie.Need-kind_of-requires
 kind-of-requires c κs = search rules
 
 returns-2 : tie.Need-returns-2
@@ -46,7 +46,7 @@ returns-3 c = let k = c.before.before in alone _ (omega arith) (λ e. c.before.i
 shared-slice-read-kind-of-2 : tie.Need-shared-slice-read-kind-of-2
 shared-slice-read-kind-of-2 c = search rules
 
-kind-of-requires-2 : tie.Need-kind-of-requires-2
+kind-of-requires-2 : tie.Need-kind_of-requires-2
 kind-of-requires-2 c κs = search rules
 
 returns-4 : tie.Need-returns-4

@@ -13,10 +13,10 @@ use Rattle.sheet.proofs.LineLaws.{forms-widths, line-not-one, line-unknown, lett
 use Rattle.sheet.proofs.lines.line_in.Statement.{statement}
 use Rattle.sheet.proofs.lines.line_in.Tie as tie
 
-is-letter-first-requires : tie.Need-is-letter-first-requires
+is-letter-first-requires : tie.Need-is_letter_first-requires
 is-letter-first-requires c κs = search rules
 
-bad-line-requires : tie.Need-bad-line-requires
+bad-line-requires : tie.Need-bad_line-requires
 bad-line-requires c κs = search rules
 
 returns : tie.Need-returns
@@ -54,7 +54,7 @@ mul-numbers-in c = let h = below c in search rules
 shared-slice-read-numbers-in : tie.Need-shared-slice-read-numbers-in
 shared-slice-read-numbers-in c = below c.before
 
-numbers-in-requires : tie.Need-numbers-in-requires
+numbers-in-requires : tie.Need-numbers_in-requires
 numbers-in-requires c κs =
     let p = c.before.before.before.before.before.before.before.before.before.requires in
     (p.0.forms.narrow c.before.before.position.result, p.1)

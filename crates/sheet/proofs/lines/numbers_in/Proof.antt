@@ -54,7 +54,7 @@ mul-r c = omega arith
 element-write-r : tie.Need-element-write-r invariant-loop decreases-loop
 element-write-r c = omega arith
 
-add_at : tie.Need-overflow-add-at invariant-loop decreases-loop
+add_at : tie.Need-overflow_add-at invariant-loop decreases-loop
 add_at c =
     let f = c.before.before.before.field_at in
     let l = c.before.before.before.before.before.before.before.before.args.line.now in
@@ -62,7 +62,7 @@ add_at c =
     let t = c.before.before.before.before.if1.false in
     omega (arith, f.ensures.ends (not-false f.result.ok c.before.if2.false), span-le comma (drop a l), length-drop a l, t)
 
-add-k : tie.Need-overflow-add-k invariant-loop decreases-loop
+add-k : tie.Need-overflow_add-k invariant-loop decreases-loop
 add-k c = omega arith
 
 loop-less : tie.Need-loop-smaller invariant-loop decreases-loop

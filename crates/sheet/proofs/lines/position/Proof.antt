@@ -37,7 +37,7 @@ decreases-loop letters c found₀ k₀ found k = k
 loop-holds : tie.Need-loop-init invariant-loop decreases-loop
 loop-holds c = let l = c.args.letters.now in (omega arith, omega (arith, none_left c.args.c l (length l) (omega arith)))
 
-sub-k : tie.Need-overflow-sub-k invariant-loop decreases-loop
+sub-k : tie.Need-overflow_sub-k invariant-loop decreases-loop
 sub-k c = search rules
 
 shared-slice-read-if1 : tie.Need-shared-slice-read-if1 invariant-loop decreases-loop

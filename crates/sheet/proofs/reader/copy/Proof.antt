@@ -31,7 +31,7 @@ mul-to-2 c = search rules
 slice-write-to : tie.Need-slice-write-to invariant-loop decreases-loop
 slice-write-to c = search rules
 
-add-i : tie.Need-overflow-add-i invariant-loop decreases-loop
+add-i : tie.Need-overflow_add-i invariant-loop decreases-loop
 add-i c = search rules
 
 loop-less : tie.Need-loop-smaller invariant-loop decreases-loop

@@ -30,10 +30,10 @@ copy-requires c κs = length-take-le (room kind_s) c.before.before.before.args.a
 sub-copy : tie.Need-overflow-sub-copy
 sub-copy c = search rules
 
-part-copy-start : tie.Need-slice-bounds-copy-start
+part-copy-start : tie.Need-slice_bounds-copy-start
 part-copy-start c = search rules
 
-part-copy-end : tie.Need-slice-bounds-copy-end
+part-copy-end : tie.Need-slice_bounds-copy-end
 part-copy-end c = omega (arith, long c.before.before.before.before.before.requires)
 
 slice-aggregate-copy-3 : tie.Need-slice-aggregate-copy-3
@@ -45,10 +45,10 @@ copy-requires-2 c κs = search rules
 sub-copy-2 : tie.Need-overflow-sub-copy-2
 sub-copy-2 c = omega arith
 
-part-copy-start-2 : tie.Need-slice-bounds-copy-start-2
+part-copy-start-2 : tie.Need-slice_bounds-copy-start-2
 part-copy-start-2 c = omega arith
 
-part-copy-end-2 : tie.Need-slice-bounds-copy-end-2
+part-copy-end-2 : tie.Need-slice_bounds-copy-end-2
 part-copy-end-2 c = omega (arith, long c.before.before.before.before.before.before.before.before.before.requires)
 
 slice-aggregate-copy-4 : tie.Need-slice-aggregate-copy-4
@@ -60,10 +60,10 @@ copy-requires-3 c κs = search rules
 sub-copy-3 : tie.Need-overflow-sub-copy-3
 sub-copy-3 c = omega arith
 
-part-copy-start-3 : tie.Need-slice-bounds-copy-start-3
+part-copy-start-3 : tie.Need-slice_bounds-copy-start-3
 part-copy-start-3 c = omega arith
 
-part-copy-end-3 : tie.Need-slice-bounds-copy-end-3
+part-copy-end-3 : tie.Need-slice_bounds-copy-end-3
 part-copy-end-3 c = omega (arith, long c.before.before.before.before.before.before.before.before.before.before.before.before.before.requires)
 
 slice-aggregate-copy-5 : tie.Need-slice-aggregate-copy-5
@@ -75,10 +75,10 @@ copy-requires-4 c κs = search rules
 sub-copy-4 : tie.Need-overflow-sub-copy-4
 sub-copy-4 c = omega arith
 
-part-copy-start-4 : tie.Need-slice-bounds-copy-start-4
+part-copy-start-4 : tie.Need-slice_bounds-copy-start-4
 part-copy-start-4 c = omega arith
 
-part-copy-end-4 : tie.Need-slice-bounds-copy-end-4
+part-copy-end-4 : tie.Need-slice_bounds-copy-end-4
 part-copy-end-4 c = omega (arith, long c.before.before.before.before.before.before.before.before.before.before.before.before.before.before.before.before.before.requires)
 
 slice-aggregate-copy-6 : tie.Need-slice-aggregate-copy-6

@@ -27,7 +27,7 @@ returns c =
 slice-aggregate-handed-back : tie.Need-slice-aggregate-handed-back
 slice-aggregate-handed-back c = sym c.before.before.before.before.before.read-into.auto.1.1.0
 
-handed-back-requires : tie.Need-handed-back-requires
+handed-back-requires : tie.Need-handed_back-requires
 handed-back-requires c κs =
     let h = c.before.before.before.before.before.read-into.ensures.holds c.before.if1.false in
     record { sheet = h.0; store = h.2 }

@@ -37,16 +37,16 @@ enum-told-2 c = search rules
 stop-requires-2 : tie.Need-stop-requires-2
 stop-requires-2 c κs = search rules
 
-enum-known-e : tie.Need-enum-known-e
+enum-known-e : tie.Need-enum_known-e
 enum-known-e c = search rules
 
 sub-line-in : tie.Need-overflow-sub-line-in
 sub-line-in c = (ends-inside c.before.before.before).0
 
-part-line-in-start : tie.Need-slice-bounds-line-in-start
+part-line-in-start : tie.Need-slice_bounds-line_in-start
 part-line-in-start c = (ends-inside c.before.before.before).0
 
-part-line-in-end : tie.Need-slice-bounds-line-in-end
+part-line-in-end : tie.Need-slice_bounds-line_in-end
 part-line-in-end c = omega (arith, (ends-inside c.before.before.before).1)
 
 slice-aggregate-line-in : tie.Need-slice-aggregate-line-in

@@ -28,7 +28,7 @@ mul-is-same c = omega (arith, found c.before)
 add-is-same : tie.Need-overflow-add-is-same
 add-is-same c = omega (arith, found c.before.before)
 
-is-same-requires : tie.Need-is-same-requires
+is-same-requires : tie.Need-is_same-requires
 is-same-requires c κs =
     let p = c.before.before.before.before.before.before.requires in
     (omega (arith, p.narrow, p.key-inside), omega (arith, p.key-inside, found c.before.before))

@@ -62,7 +62,7 @@ returns-2 c =
     let a = x.before.args in
     sym (lex-above a.n a.a.now a.at a.t3 (omega arith) (omega arith) x.loop.i (omega arith) c.if2.true) ∙ x.loop.invariant.2
 
-add-i : tie.Need-overflow-add-i invariant-loop decreases-loop
+add-i : tie.Need-overflow_add-i invariant-loop decreases-loop
 add-i c = omega arith
 
 loop-less : tie.Need-loop-smaller invariant-loop decreases-loop

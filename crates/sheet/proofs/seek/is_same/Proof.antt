@@ -40,7 +40,7 @@ returns c =
     let a = x.before.args in
     fails (same_not a.a.now a.at a.t3 x.loop.i a.n (omega arith) c.if1.true)
 
-add-i : tie.Need-overflow-add-i invariant-loop decreases-loop
+add-i : tie.Need-overflow_add-i invariant-loop decreases-loop
 add-i c = omega arith
 
 loop-less : tie.Need-loop-smaller invariant-loop decreases-loop

@@ -31,10 +31,10 @@ inside c =
 loop-holds : tie.Need-loop-init invariant-loop decreases-loop
 loop-holds c = parted-none
 
-sub-k : tie.Need-overflow-sub-k invariant-loop decreases-loop
+sub-k : tie.Need-overflow_sub-k invariant-loop decreases-loop
 sub-k c = omega (arith, c.before.loop.invariant.order)
 
-add-k : tie.Need-overflow-add-k invariant-loop decreases-loop
+add-k : tie.Need-overflow_add-k invariant-loop decreases-loop
 add-k c = omega (arith, c.before.loop.invariant.most)
 
 mul-is-before : tie.Need-overflow-mul-is-before invariant-loop decreases-loop
@@ -43,12 +43,12 @@ mul-is-before c = omega (arith, inside c.before)
 add-is-before : tie.Need-overflow-add-is-before invariant-loop decreases-loop
 add-is-before c = omega (arith, inside c.before.before)
 
-is-before-requires : tie.Need-is-before-requires invariant-loop decreases-loop
+is-before-requires : tie.Need-is_before-requires invariant-loop decreases-loop
 is-before-requires c κs =
     let p = c.before.before.before.before.before.requires in
     (omega (arith, p.narrow, p.key-inside), omega (arith, p.key-inside, inside c.before.before))
 
-add_low : tie.Need-overflow-add-low invariant-loop decreases-loop
+add_low : tie.Need-overflow_add-low invariant-loop decreases-loop
 add_low c = omega (arith, c.before.before.before.before.before.loop.invariant.most)
 
 loop-less : tie.Need-loop-smaller invariant-loop decreases-loop

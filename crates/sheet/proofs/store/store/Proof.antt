@@ -40,7 +40,7 @@ decreases-loop all₀ at v w i₀ all i = 8 - i
 loop-holds : tie.Need-loop-init invariant-loop decreases-loop
 loop-holds c = (omega arith, search rules, refl, refl)
 
-store-one-requires : tie.Need-store-one-requires invariant-loop decreases-loop
+store-one-requires : tie.Need-store_one-requires invariant-loop decreases-loop
 store-one-requires c κs = (c.before.before.before.before.requires.0, omega (arith, c.before.before.loop.invariant.2, c.before.before.before.before.requires.1))
 
 add-i : tie.Need-overflow-add-i invariant-loop decreases-loop

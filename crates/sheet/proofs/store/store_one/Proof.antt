@@ -15,7 +15,7 @@ mul-all c = search rules
 array-read-all : tie.Need-array-read-all
 array-read-all c = search rules
 
-add-all : tie.Need-overflow-add-all
+add-all : tie.Need-overflow_add-all
 add-all c = search rules
 
 mul-all-2 : tie.Need-overflow-mul-all-2

@@ -62,13 +62,13 @@ mul-n c = search rules
 slice-read-n : tie.Need-slice-read-n
 slice-read-n c = omega (arith, lines-length (start c.before).requires.1.stored)
 
-cast-at : tie.Need-overflow-cast-at
+cast-at : tie.Need-overflow_cast-at
 cast-at c = omega (arith, few c.before)
 
-mul_at : tie.Need-overflow-mul-at
+mul_at : tie.Need-overflow_mul-at
 mul_at c = omega (arith, inside c.before.before)
 
-add_at : tie.Need-overflow-add-at
+add_at : tie.Need-overflow_add-at
 add_at c = omega (arith, inside c.before.before.before)
 
 store-requires : tie.Need-store-requires
@@ -76,7 +76,7 @@ store-requires c κs =
     let x = c.before.before.before.before in
     (omega (arith, (row x).row_of.ensures.width_is, width_small (start x).args.kind (start x).requires.0), omega (arith, inside x))
 
-add-lines : tie.Need-overflow-add-lines
+add-lines : tie.Need-overflow_add-lines
 add-lines c = omega (arith, few c.before.before.before.before.before.before.before)
 
 mul-lines : tie.Need-overflow-mul-lines

@@ -38,10 +38,10 @@ returns-2 t c =
 sub-digits-in : Each lts.Need-overflow-sub-digits-in
 sub-digits-in t c = omega arith
 
-digits-in-requires : Each lts.Need-digits-in-requires
+digits-in-requires : Each lts.Need-digits_in-requires
 digits-in-requires t c κs = omega arith
 
-add-result : Each lts.Need-overflow-add-result
+add-result : Each lts.Need-overflow_add-result
 add-result t c = omega arith
 
 returns-3 : Each lts.Need-returns-3

@@ -30,16 +30,16 @@ Each need = (t : ℕ) → need (below t, reads.Post) (at t) reads.Post
 returns : Each lts.Need-returns
 returns t c = rw (digits-none _ _ c.if1.true) (puts_none _ _)
 
-cast-out : Each lts.Need-overflow-cast-out
+cast-out : Each lts.Need-overflow_cast-out
 cast-out t c = omega arith
 
-add-out : Each lts.Need-overflow-add-out
+add-out : Each lts.Need-overflow_add-out
 add-out t c = omega arith
 
 slice-write-out : Each lts.Need-slice-write-out
 slice-write-out t c = omega (arith, ap length (digits-one _ _ c.before.if1.false c.if2.true))
 
-add-result : Each lts.Need-overflow-add-result
+add-result : Each lts.Need-overflow_add-result
 add-result t c = omega (arith, ap length (digits-one _ _ c.before.if1.false c.if2.true))
 
 same_length : Each lts.Need-same-length
@@ -54,10 +54,10 @@ sub-put-digits t c = omega arith
 put-digits-requires : Each lts.Need-put-digits-requires
 put-digits-requires t c κs = (omega arith, omega (arith, digits-big-length _ _ c.before.before.if1.false c.before.if2.false))
 
-cast-out-2 : Each lts.Need-overflow-cast-out-2
+cast-out-2 : Each lts.Need-overflow_cast-out-2
 cast-out-2 t c = omega arith
 
-add-out-2 : Each lts.Need-overflow-add-out-2
+add-out-2 : Each lts.Need-overflow_add-out-2
 add-out-2 t c = omega arith
 
 slice-write-out-2 : Each lts.Need-slice-write-out-2
@@ -65,7 +65,7 @@ slice-write-out-2 t c =
     let x = c.before.before in
     omega (arith, digits-big-length _ _ x.before.before.before.if1.false x.before.before.if2.false, x.put-digits.ensures.next-is, puts-length x.put-digits.ensures)
 
-add-result-2 : Each lts.Need-overflow-add-result-2
+add-result-2 : Each lts.Need-overflow_add-result-2
 add-result-2 t c =
     let x = c.before.before in
     omega (arith, digits-big-length _ _ x.before.before.before.if1.false x.before.before.if2.false, x.put-digits.ensures.next-is, puts-length x.put-digits.ensures)

@@ -37,10 +37,10 @@ few c =
     let e = ap (λ (w : ℕ). z.args.n * w) c.before.row_of.ensures.width_is in
     (e, omega (arith, few-numbers z.args.k z.args.n z.requires.0 z.requires.1.few))
 
-mul-m : tie.Need-overflow-mul-m invariant-loop decreases-loop
+mul-m : tie.Need-overflow_mul-m invariant-loop decreases-loop
 mul-m c = omega (arith, few c)
 
-mul-bytes : tie.Need-overflow-mul-bytes invariant-loop decreases-loop
+mul-bytes : tie.Need-overflow_mul-bytes invariant-loop decreases-loop
 mul-bytes c = omega (arith, c.before.before.before.requires.1.few)
 
 loop-holds : tie.Need-loop-init invariant-loop decreases-loop
@@ -62,16 +62,16 @@ shared-slice-read-digits-in c = omega arith
 cast-digits-in : tie.Need-overflow-cast-digits-in invariant-loop decreases-loop
 cast-digits-in c = omega (arith, c.shared-slice-known2.given (c.before.before.before.before.row_of.result.base + c.before.before.loop.i))
 
-digits-in-requires : tie.Need-digits-in-requires invariant-loop decreases-loop
+digits-in-requires : tie.Need-digits_in-requires invariant-loop decreases-loop
 digits-in-requires c κs = search rules
 
-add-bytes : tie.Need-overflow-add-bytes invariant-loop decreases-loop
+add-bytes : tie.Need-overflow_add-bytes invariant-loop decreases-loop
 add-bytes c = omega (arith, c.digits_in.ensures)
 
 add-bytes-2 : tie.Need-overflow-add-bytes-2 invariant-loop decreases-loop
 add-bytes-2 c = omega (arith, c.digits_in.ensures)
 
-add-i : tie.Need-overflow-add-i invariant-loop decreases-loop
+add-i : tie.Need-overflow_add-i invariant-loop decreases-loop
 add-i c = omega arith
 
 loop-less : tie.Need-loop-smaller invariant-loop decreases-loop

@@ -47,13 +47,13 @@ inside c =
     let r = h.before.row_of.result in
     row_inside r.base r.width h.before.before.before.before.args.n h.loop.i _ c.loop-test.true h.loop.invariant.2
 
-mul-from : tie.Need-overflow-mul-from invariant-loop decreases-loop
+mul-from : tie.Need-overflow_mul-from invariant-loop decreases-loop
 mul-from c = omega (arith, inside c)
 
-add-from : tie.Need-overflow-add-from invariant-loop decreases-loop
+add-from : tie.Need-overflow_add-from invariant-loop decreases-loop
 add-from c = omega (arith, inside c)
 
-add-to : tie.Need-overflow-add-to invariant-loop decreases-loop
+add-to : tie.Need-overflow_add-to invariant-loop decreases-loop
 add-to c = omega (arith, inside c)
 
 mul-widen : tie.Need-overflow-mul-widen invariant-loop decreases-loop
@@ -62,10 +62,10 @@ mul-widen c = omega (arith, inside c)
 sub-widen : tie.Need-overflow-sub-widen invariant-loop decreases-loop
 sub-widen c = omega (arith, inside c)
 
-part-widen-start : tie.Need-slice-bounds-widen-start invariant-loop decreases-loop
+part-widen-start : tie.Need-slice_bounds-widen-start invariant-loop decreases-loop
 part-widen-start c = omega (arith, inside c)
 
-part-widen-end : tie.Need-slice-bounds-widen-end invariant-loop decreases-loop
+part-widen-end : tie.Need-slice_bounds-widen-end invariant-loop decreases-loop
 part-widen-end c = omega (arith, inside c)
 
 slice-aggregate-widen : tie.Need-slice-aggregate-widen invariant-loop decreases-loop
@@ -108,7 +108,7 @@ put-line-requires c κs =
     let f = puts-fits (line_text most_digits) (line (kind_at a.k) []) (group_of a.k a.n a.all.now) h.i l h.invariant.4 in
     omega (arith, ap length (text c.before.before.before), f, puts-length h.invariant.4, c.before.before.before.before.before.before.before.before.before.before.before.requires.2)
 
-add-i : tie.Need-overflow-add-i invariant-loop decreases-loop
+add-i : tie.Need-overflow_add-i invariant-loop decreases-loop
 add-i c = omega arith
 
 loop-less : tie.Need-loop-smaller invariant-loop decreases-loop

@@ -26,7 +26,7 @@ size z = printed-length z.args.most z.args.letter z.args.numbers.now
 slice-write-out : tie.Need-slice-write-out invariant-loop decreases-loop
 slice-write-out c = let z = c.before.before in omega (arith, z.requires, size z)
 
-add-next : tie.Need-overflow-add-next invariant-loop decreases-loop
+add-next : tie.Need-overflow_add-next invariant-loop decreases-loop
 add-next c = let z = c.before.before in omega (arith, z.requires, size z)
 
 loop-holds : tie.Need-loop-init invariant-loop decreases-loop
@@ -46,7 +46,7 @@ put-number-requires c κs =
     let l : h.loop.i < length ns = search rules in
     omega (arith, puts-fits (number_text z.args.most) 0 ns h.loop.i l h.loop.invariant.1, puts-length h.loop.invariant.1, length-set z.args.out.now z.args.at z.args.letter, z.requires, size z)
 
-add-i : tie.Need-overflow-add-i invariant-loop decreases-loop
+add-i : tie.Need-overflow_add-i invariant-loop decreases-loop
 add-i c = search rules
 
 loop-less : tie.Need-loop-smaller invariant-loop decreases-loop
@@ -71,7 +71,7 @@ slice-write-out-2 c =
     let e = all c in
     omega (arith, e.next-is, puts-length e, length-set z.args.out.now z.args.at z.args.letter, z.requires, size z)
 
-add-result : tie.Need-overflow-add-result invariant-loop decreases-loop
+add-result : tie.Need-overflow_add-result invariant-loop decreases-loop
 add-result c =
     let h = c.before in
     let z = h.before.before.before in

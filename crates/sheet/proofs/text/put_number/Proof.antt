@@ -17,7 +17,7 @@ add-put-digits : tie.Need-overflow-add-put-digits
 unfolding number_text
 add-put-digits c = search rules
 
-put-digits-requires : tie.Need-put-digits-requires
+put-digits-requires : tie.Need-put_digits-requires
 unfolding number_text
 put-digits-requires c κs = simp length-set (omega arith)
 
@@ -26,7 +26,7 @@ same_length c = c.before.before.put-digits.auto.0 ∙ simp length-set
 
 returns : tie.Need-returns
 unfolding number_text
-returns c = puts-append (puts-byte 44 _ _) c.before.before.put-digits.ensures
+returns c = puts-append (puts-byte 44 _ _) c.before.before.put_digits.ensures
 
 pub put-number-spec : {M : Type 1} → statement M
 put-number-spec =

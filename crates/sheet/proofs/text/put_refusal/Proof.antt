@@ -11,14 +11,14 @@ use Rattle.sheet.proofs.text.put_refusal.Tie as tie
 slice-aggregate-put-line : tie.Need-slice-aggregate-put-line
 slice-aggregate-put-line c = search rules
 
-put-line-requires : tie.Need-put-line-requires
+put-line-requires : tie.Need-put_line-requires
 put-line-requires c κs = omega (arith, c.before.before.before.requires, printed-most most_printed 82 (c.before.before.before.args.number ∷ c.before.before.before.args.line ∷ []))
 
 same_length : tie.Need-same-length
 same_length c = search rules
 
 returns : tie.Need-returns
-returns c = refusal-puts _ _ c.before.before.put-line.ensures
+returns c = refusal-puts _ _ c.before.before.put_line.ensures
 
 pub put-refusal-spec : {M : Type 1} → statement M
 put-refusal-spec =

@@ -30,7 +30,7 @@ mul-n c = omega arith
 shared-slice-read-n : tie.Need-shared-slice-read-n invariant-loop decreases-loop
 shared-slice-read-n c = omega (arith, store-lines c.before.before.before.before.before.before.requires.store)
 
-cast-n : tie.Need-overflow-cast-n invariant-loop decreases-loop
+cast-n : tie.Need-overflow_cast-n invariant-loop decreases-loop
 cast-n c = omega (arith, c.shared-slice-known3.given c.before.before.loop.k)
 
 put-group-requires : tie.Need-put-group-requires invariant-loop decreases-loop

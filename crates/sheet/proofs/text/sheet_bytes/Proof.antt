@@ -33,13 +33,13 @@ mul-n c = omega arith
 shared-slice-read-n : tie.Need-shared-slice-read-n invariant-loop decreases-loop
 shared-slice-read-n c = omega (arith, store-lines c.before.before.before.before.before.requires.store)
 
-cast-n : tie.Need-overflow-cast-n invariant-loop decreases-loop
+cast-n : tie.Need-overflow_cast-n invariant-loop decreases-loop
 cast-n c = omega (arith, c.shared-slice-known3.given c.before.before.loop.k)
 
 group-bytes-requires : tie.Need-group-bytes-requires invariant-loop decreases-loop
 group-bytes-requires c κs = (omega arith, store-fits c.before.before.before.before.before.requires.store c.before.before.loop.k (omega arith))
 
-add-bytes : tie.Need-overflow-add-bytes invariant-loop decreases-loop
+add-bytes : tie.Need-overflow_add-bytes invariant-loop decreases-loop
 add-bytes c = omega (arith, c.group-bytes.ensures.1)
 
 add-k : tie.Need-overflow-add-k invariant-loop decreases-loop

@@ -29,7 +29,7 @@ mul-to c = omega arith
 shared-slice-read-to : tie.Need-shared-slice-read-to invariant-loop decreases-loop
 shared-slice-read-to c = omega arith
 
-cast-to : tie.Need-overflow-cast-to invariant-loop decreases-loop
+cast-to : tie.Need-overflow_cast-to invariant-loop decreases-loop
 cast-to c = omega (arith, c.shared-slice-known.given c.before.before.loop.i)
 
 mul-to-2 : tie.Need-overflow-mul-to-2 invariant-loop decreases-loop
@@ -38,7 +38,7 @@ mul-to-2 c = omega arith
 slice-write-to : tie.Need-slice-write-to invariant-loop decreases-loop
 slice-write-to c = omega (arith, len c.before.before)
 
-add-i : tie.Need-overflow-add-i invariant-loop decreases-loop
+add-i : tie.Need-overflow_add-i invariant-loop decreases-loop
 add-i c = omega arith
 
 loop-less : tie.Need-loop-smaller invariant-loop decreases-loop

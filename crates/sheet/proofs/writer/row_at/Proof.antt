@@ -20,7 +20,7 @@ decreases-loop g from w v₀ i₀ v i = w - i
 loop-holds : tie.Need-loop-init invariant-loop decreases-loop
 loop-holds c = (omega arith, search rules, refl)
 
-add-v : tie.Need-overflow-add-v invariant-loop decreases-loop
+add-v : tie.Need-overflow_add-v invariant-loop decreases-loop
 add-v c = omega arith
 
 mul-v : tie.Need-overflow-mul-v invariant-loop decreases-loop
@@ -35,7 +35,7 @@ mul-v-2 c = omega arith
 array-write-v : tie.Need-array-write-v invariant-loop decreases-loop
 array-write-v c = omega arith
 
-add-i : tie.Need-overflow-add-i invariant-loop decreases-loop
+add-i : tie.Need-overflow_add-i invariant-loop decreases-loop
 add-i c = omega arith
 
 loop-less : tie.Need-loop-smaller invariant-loop decreases-loop

@@ -53,7 +53,7 @@ returns c = taken_refused c.before.before.before.before.before.requires.1 c.if1.
 row-of-requires : tie.Need-row-of-requires invariant-loop decreases-loop
 row-of-requires c κs = c.before.before.before.before.before.requires.0
 
-div-count : tie.Need-nonzero-div-count invariant-loop decreases-loop
+div-count : tie.Need-nonzero_div-count invariant-loop decreases-loop
 div-count c = omega (arith, c.row_of.ensures.width_is, width_some c.before.before.before.before.before.before.args.k c.before.before.before.before.before.before.requires.0)
 
 loop-holds : tie.Need-loop-init invariant-loop decreases-loop
@@ -90,10 +90,10 @@ returns-2 c =
     let z = h.before.before.before.before.before.before.before in
     taken-fault z.args.k z.args.g.now i.3 i.0 (below t) t.before.before.before.row_at.result (row t) {u = z.args.judged} (h.before.before.if1.false, refl) t.take-line.ensures c.if2.true
 
-add-next : tie.Need-overflow-add-next invariant-loop decreases-loop
+add-next : tie.Need-overflow_add-next invariant-loop decreases-loop
 add-next c = omega (arith, group-few c.before.before.before.before.before.before.before.before.before.before.loop.invariant.1)
 
-add-i : tie.Need-overflow-add-i invariant-loop decreases-loop
+add-i : tie.Need-overflow_add-i invariant-loop decreases-loop
 add-i c =
     let i = c.before.before.before.before.before.before.before.before.before.before.loop.invariant in
     omega (arith, i.8, group-few i.1)

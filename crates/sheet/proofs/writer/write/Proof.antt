@@ -47,7 +47,7 @@ slice-aggregate-write-stored c = search rules
 slice-aggregate-write-stored-2 : tie.Need-slice-aggregate-write-stored-2
 slice-aggregate-write-stored-2 c = search rules
 
-write-stored-requires : tie.Need-write-stored-requires
+write-stored-requires : tie.Need-write_stored-requires
 write-stored-requires c κs =
     let h = c.before.before.before.before.before.before.before.take-groups.ensures.holds c.before.before.before.if2.false in
     record { sheet = h.0; store = h.2 }

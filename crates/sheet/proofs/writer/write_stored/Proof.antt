@@ -20,7 +20,7 @@ returns c =
     let b = c.before.before in
     record { of = λ s S. written-short c.refuse.result c.before.before.before.before.before.before.args.out.now s c.refuse.ensures (omega (arith, c.before.if1.true, b.sheet-bytes.ensures.of s S)) }
 
-put-sheet-requires : tie.Need-put-sheet-requires
+put-sheet-requires : tie.Need-put_sheet-requires
 put-sheet-requires c κs =
     let z = c.before.before.before.before.before.before in
     let s = z.requires in
