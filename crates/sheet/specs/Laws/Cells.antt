@@ -62,6 +62,8 @@ cells-length : (ks : List Kind) (gs : List (List (List ℕ))) → Roomy ks gs �
 cells-length [] [] r = refl
 cells-length (j ∷ ks) (g ∷ gs) r =
     length-append (filled (room j) (flat g)) (spread ks gs) ∙ ap₂ (λ (m n : ℕ). m + n) (length-filled (room j) (flat g) r.0) (cells-length ks gs r.1)
+cells-length [] (g ∷ gs) r = elim r [ ]
+cells-length (j ∷ ks) [] r = elim r [ ]
 
 -- where the group of the kind at position k begins
 cells-part : (ks : List Kind) (gs : List (List (List ℕ))) → Roomy ks gs → (k : ℕ) → k < length ks
@@ -71,6 +73,8 @@ cells-part (j ∷ ks) (g ∷ gs) r zero h = (spread ks gs, refl)
 cells-part (j ∷ ks) (g ∷ gs) r (suc k) h =
     let q = cells-part ks gs r.1 k (omega arith) in
     (q.0, drop-part j g (spread ks gs) r.0 (base_in ks k) ∙ q.1)
+cells-part [] (g ∷ gs) r k h = elim r [ ]
+cells-part (j ∷ ks) [] r k h = elim r [ ]
 
 -- a run of stores into that group
 pub cells_store : (ks : List Kind) (gs : List (List (List ℕ))) → Roomy ks gs → (k at : ℕ) (v : List ℕ) (g : List (List ℕ)) → k < length ks
@@ -86,6 +90,8 @@ cells_store (j ∷ ks) (f ∷ gs) r (suc k) at v g h w e =
     rw z
     (sets-after j f (spread ks gs) r.0 (base_in ks k + at) v
     ∙ ap (λ (l : List ℕ). filled (room j) (flat f) ++ l) (cells_store ks gs r.1 k at v g (omega arith) w e))
+cells_store [] (f ∷ gs) r k at v g h w e = elim r [ ]
+cells_store (j ∷ ks) [] r k at v g h w e = elim r [ ]
 
 -- runs have room; the run at a position
 run_room : {s : Sheet} {k : Kind} {g : List (List ℕ)} → Run s k g → length (flat g) ≤ room k

@@ -159,6 +159,7 @@ whole_wide g w = (head, (rows-wide (width kind_w) g.waits, (rows-wide (width kin
   where
     head : Wide (width kind_s) (g.head ∷ [])
     head n (inl e) = ap length e ∙ w.head-whole
+    head n (inr nowhere) = elim nowhere [ ]
 
 wide-whole : (s : Sheet) → AllWide kinds (groups_of s) → Whole (numbers_of_sheet s)
 wide-whole s (h, (w, (c, (x, (o, u))))) =

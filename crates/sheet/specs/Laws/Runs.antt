@@ -134,6 +134,7 @@ ready-next s before k n ns r a =
     order : (m : Line) → m ∈ before ⊎ m ∈ (line k n ∷ []) → m.kind.order ≤ k.order
     order m (inl i) = r.orders m i
     order m (inr (inl e)) = omega (arith, ap (λ (l : Line). l.kind.order) e)
+    order m (inr (inr nowhere)) = elim nowhere [ ]
 
     room : length (group k (before ++ (line k n ∷ []))) + length ns ≤ k.most
     room = omega (arith, one_more k before n, r.room)

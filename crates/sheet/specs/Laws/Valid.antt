@@ -133,6 +133,7 @@ lines-turned (l ∷ ls) f p =
   where
     head_apart : (m : Line) → m ∈ (l ∷ []) → l.kind ≡ kind_s → m.kind.order ≡ kind_w.order → ⊥
     head_apart m (inl i) k e = omega (arith, e, ap (λ (x : Line). x.kind.order) i, ap (λ (x : Kind). x.order) k)
+    head_apart m (inr nowhere) k e = elim nowhere [ ]
 
 waits-each : (ls : List Line) → AllShaped ls → Passes [] ls → lacking ls ≡ false → EachWait (sheet_of ls)
 waits-each [] f p h = absurd (omega (arith, some-line [] h))
@@ -209,6 +210,7 @@ head-run s g =
     -- the one line of a group
     sole : {h k : List ℕ} (P : List ℕ → Type 0) → h ∈ (k ∷ []) → P k → P h
     sole P (inl e) p = subst P (sym e) p
+    sole {h = h} {k = k} P (inr nowhere) p = elim nowhere [ ]
 
 waits-run : (s : Sheet) → Valid s → Run s kind_w s.waits
 waits-run s g =
@@ -275,6 +277,7 @@ module _ (s : Sheet) (g : Valid s) where
   head-before : (m : Line) → m ∈ (h ∷ []) → (k : Kind) → k ∈ (kind_w ∷ kind_c ∷ kind_x ∷ kind_o ∷ []) → m.kind.order < k.order
   head-before m (inl e) k j =
       subst (λ (l : Line). l.kind.order < k.order) (sym e) (later-kinds kind_s (kind_w ∷ kind_c ∷ kind_x ∷ kind_o ∷ []) kinds-ascend k j)
+  head-before m (inr nowhere) k j = elim nowhere [ ]
 
   waits-before : (m : Line) → m ∈ (h ∷ ws) → (k : Kind) → k ∈ (kind_c ∷ kind_x ∷ kind_o ∷ []) → m.kind.order < k.order
   waits-before m (inl e) k j = head-before m (inl e) k (inr j)
