@@ -193,6 +193,7 @@ steps-mem (suc n) t h = go (leb t n) refl (steps-mem n t)
 
 mem-steps : (n t : ℕ) → t ∈ steps_to n → t ≤ n
 mem-steps zero t (inl e) = omega arith
+mem-steps zero t (inr nowhere) = elim nowhere [ ]
 mem-steps (suc n) t m = go (mem-steps n t) (mem-append t (steps_to n) (suc n ∷ []) m)
   where
     go : (t ∈ steps_to n → t ≤ n) → t ∈ steps_to n ⊎ t ∈ (suc n ∷ []) → t ≤ suc n
