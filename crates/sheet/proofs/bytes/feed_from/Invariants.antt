@@ -1,0 +1,23 @@
+-- `sheet::bytes::feed_from` meets its contract. Invariant, as for `near_feed`: i and the bytes that stand before the first line feed from there on make the
+-- position sought. Each of the four bytes of a turn is that line feed, or is passed.
+-- Assumes nothing.
+use mathlib.Core.Path.{◌≡◌, refl, sym, ◌∙◌, subst}
+use mathlib.Core.List.{List}
+use Prim.Native.Nat.{ℕ, ◌≤◌, ◌<◌, ◌-◌, ◌+◌}
+use native.Mathlib.Omega.{arith}
+use lib.ListN.{length, get_or, drop}
+use borrow.Author.Rules.{rules}
+use Rattle.sheet.specs.Bytes.{kind_of, line_feed}
+use Rattle.sheet.specs.Inner.{span_of}
+use Rattle.sheet.specs.Laws.Parts.{span-stop, span_more}
+use Rattle.sheet.proofs.bytes.feed_from.Given as goal
+
+-- the first line feed from `at` on is the first from i on
+abbrev pub Ahead : List ℕ → ℕ → ℕ → Type 0
+Ahead s at i = i + span_of line_feed (drop i s) ≡ at + span_of line_feed (drop at s)
+
+abbrev pub invariant-loop-i : goal.invariant-loop-i
+invariant-loop-i l = (l.i ≤ length l.s) × Ahead l.s l.at l.i
+
+abbrev pub decreases-loop-i : goal.decreases-loop-i
+decreases-loop-i l = length l.s - l.i

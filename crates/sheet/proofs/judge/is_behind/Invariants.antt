@@ -1,0 +1,22 @@
+-- `sheet::judge::is_behind` meets its contract. The loop's invariant: the counts from j on decide the same as all the later ones.
+-- The measure is what is left of the kinds.
+-- Assumes nothing.
+use mathlib.Core.Path.{◌≡◌, sym, ◌∙◌, ap}
+use mathlib.Core.Bool.{Bool, true, false, not}
+use Prim.Native.Nat.{suc, ◌-◌, ◌≤◌}
+use native.Mathlib.Omega.{arith}
+use native.Mathlib.Numerals.{add-one}
+use lib.ListN.{get_or, drop}
+use borrow.Author.Tests.{eq-eqb, ne_eqb}
+use borrow.Author.Rules.{rules}
+use Rattle.sheet.specs.Lists.{any}
+use Rattle.sheet.specs.Store.{kind_count}
+use Rattle.sheet.specs.Inner.{behind_by}
+use Rattle.sheet.proofs.Passing.{counted, any_here, any-later, any_none}
+use Rattle.sheet.proofs.judge.is_behind.Given as goal
+
+abbrev pub invariant-loop-j : goal.invariant-loop-j
+invariant-loop-j l = (l.j ≤ kind_count) × (any counted (drop l.j l.lines) ≡ any counted (drop (suc l.kind) l.lines))
+
+abbrev pub decreases-loop-j : goal.decreases-loop-j
+decreases-loop-j l = kind_count - l.j

@@ -1,0 +1,52 @@
+-- `sheet::judge::is_outside` meets its contract. The loop's invariant: the first i numbers are within their limits, so what is left is outside
+-- exactly where the whole is. The measure is what is left of w.
+-- Assumes nothing.
+use mathlib.Core.Path.{◌≡◌, refl, sym, ◌∙◌}
+use mathlib.Core.List.{map}
+use Prim.Native.Nat.{◌-◌, ◌≤◌}
+use native.Mathlib.Omega.{arith}
+use lib.ListN.{length, take}
+use borrow.Author.Rules.{rules}
+use Rattle.sheet.specs.Sheet.{outside}
+use Rattle.sheet.specs.Inner.{limit_at}
+use Rattle.sheet.proofs.Passing.{outside_from, outside-here, outside-later, outside-none}
+use Rattle.sheet.proofs.judge.is_outside.Goals as goal
+
+pub loop-i-init : goal.loop-i-init
+loop-i-init c = (omega arith, search rules, search rules, refl)
+
+pub bounds-limits-i : goal.bounds-limits-i
+bounds-limits-i c = omega arith
+
+pub offset_bounds-values-i : goal.offset_bounds-values-i
+offset_bounds-values-i c = omega arith
+
+pub bounds-values-i : goal.bounds-values-i
+bounds-values-i c = omega arith
+
+pub returns-then-is_beyond : goal.returns-then-is_beyond
+returns-then-is_beyond c =
+    let x = c.before.before.before in
+    let a = x.args in
+    let b = sym c.is_beyond.ensures ∙ c.if-is_beyond.true in
+    sym (outside-here a.places a.t2 a.w a.t4 (omega arith) (omega arith) x.loop-i.i (omega arith) b) ∙ x.loop-i.invariant.3
+
+pub overflow_add-i : goal.overflow_add-i
+overflow_add-i c = omega arith
+
+pub loop-i-smaller : goal.loop-i-smaller
+loop-i-smaller c = omega arith
+
+pub loop-i-preserved : goal.loop-i-preserved
+loop-i-preserved c =
+    let x = c.before.before.before in
+    let a = x.args in
+    let b = sym c.is_beyond.ensures ∙ c.if-is_beyond.false in
+    let e = outside-later a.places a.t2 a.w a.t4 (omega arith) (omega arith) x.loop-i.i (omega arith) b in
+    (omega arith, x.loop-i.invariant.1, x.loop-i.invariant.2, sym e ∙ x.loop-i.invariant.3)
+
+pub returns : goal.returns
+returns c =
+    let x = c.before in
+    let a = x.args in
+    sym (outside-none a.places a.t2 a.w a.t4 (omega arith) (omega arith) x.loop-i.i (omega arith)) ∙ x.loop-i.invariant.3

@@ -1,0 +1,54 @@
+-- `sheet::lines::line_in` meets its contract: the first field is the letter of a kind, and the fields after it are that kind's numbers.
+-- Assumes nothing.
+use mathlib.Core.Path.{◌≡◌, sym, ◌∙◌}
+use native.Mathlib.Omega.{arith}
+use Prim.Native.Nat.{◌<◌}
+use lib.ListN.{length}
+use borrow.Author.Rules.{rules}
+use borrow.Author.Tests.{eqb-true, eqb-false, not-true, not-false}
+use Rattle.sheet.specs.Bytes.{comma}
+use Rattle.sheet.specs.Inner.{span_of}
+use Rattle.sheet.specs.Laws.Parts.{span-le}
+use Rattle.sheet.proofs.LineLaws.{forms-widths, line-not-one, line-unknown, letter-below, line_known}
+use Rattle.sheet.proofs.lines.line_in.Goals as goal
+
+pub returns-then-not-is_letter_first : goal.returns-then-not-is_letter_first
+returns-then-not-is_letter_first c =
+    line-not-one _ _ _ _ _ c.bad_line.ensures (eqb-false _ 1 (sym c.is_letter_first.ensures ∙ not-true _ c.if-not-is_letter_first.true))
+
+-- the first field is one byte
+one : (c : goal.Else-not-is_letter_first) → span_of comma c.args.l.now ≡ 1
+one c = eqb-true _ 1 (sym c.is_letter_first.ensures ∙ not-false _ c.if-not-is_letter_first.false)
+
+pub bounds-l-0 : goal.bounds-l-0
+bounds-l-0 c = omega (arith, one c.before, span-le comma c.args.l.now)
+
+pub returns-then-k-letters : goal.returns-then-k-letters
+returns-then-k-letters c =
+    let k = c.before.before in
+    line-unknown _ _ _ _ (one k.before.before) _ k.position-k.ensures _ c.bad_line-then-k-letters.ensures c.if-k-letters.true
+
+-- the letter is one of them
+below : (c : goal.Else-k-letters) → c.position-k.result < length c.args.widths.now
+below c =
+    let k = c.before in
+    let f = k.requires.0 in
+    omega (arith, letter-below _ _ _ _ k.position-k.ensures f c.if-k-letters.false, forms-widths _ _ f)
+
+pub offset_bounds-widths-k : goal.offset_bounds-widths-k
+offset_bounds-widths-k c = let h = below c in search rules
+
+pub bounds-widths-k : goal.bounds-widths-k
+bounds-widths-k c = below c.before
+
+pub numbers_in-requires : goal.numbers_in-requires
+numbers_in-requires c =
+    let p = c.requires in
+    (p.0.forms.narrow c.position-k.result, p.1)
+
+pub returns : goal.returns
+returns c =
+    let x = c.before.before in
+    let k = x.before in
+    line_known _ _ _ _ (one k.before.before) _ k.position-k.ensures k.requires.0 x.if-k-letters.false
+    _ c.numbers_in.ensures.0 c.numbers_in.ensures.1

@@ -1,0 +1,16 @@
+-- `sheet::seek::is_same` meets its contract. The loop's invariant: the first i numbers of both are the same. The measure is what is left of n.
+-- Assumes nothing.
+use mathlib.Core.Path.{◌≡◌, refl, subst}
+use Prim.Native.Nat.{ℕ, ◌-◌, ◌≤◌}
+use native.Mathlib.Omega.{arith}
+use lib.ListN.{length, take, drop}
+use borrow.Author.Rules.{rules}
+use Rattle.sheet.specs.Laws.Decided.{holds, fails}
+use Rattle.sheet.proofs.Passing.{same_more, same_not}
+use Rattle.sheet.proofs.seek.is_same.Given as goal
+
+abbrev pub invariant-loop-i : goal.invariant-loop-i
+invariant-loop-i l = (l.i ≤ l.n) × (length l.b ≡ 8) × (take l.i (drop l.at l.a) ≡ take l.i l.b)
+
+abbrev pub decreases-loop-i : goal.decreases-loop-i
+decreases-loop-i l = l.n - l.i

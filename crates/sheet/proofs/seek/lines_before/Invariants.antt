@@ -1,0 +1,16 @@
+-- `sheet::seek::lines_before` meets its contract. The loop's invariant: the lines below `low` come before v, and those from `high` on do not. The measure
+-- is what lies between.
+-- Assumes nothing.
+use Prim.Native.Nat.{ℕ, ◌+◌, ◌*◌, ◌/◌, ◌-◌, ◌≤◌, ◌<◌}
+use native.Mathlib.Omega.{arith}
+use lib.ListN.{length, take}
+use Rattle.sheet.specs.Seek.{Parted, key_in}
+use Rattle.sheet.specs.Laws.Seek.{parted-none, parted-low, parted-high, parted-all}
+use Rattle.sheet.proofs.PutText.{row_inside}
+use Rattle.sheet.proofs.seek.lines_before.Given as goal
+
+abbrev pub invariant-loop-low : goal.invariant-loop-low
+invariant-loop-low l = Parted l.g.count (key_in l.all l.g) (take l.g.key l.v) l.low l.high
+
+abbrev pub decreases-loop-low : goal.decreases-loop-low
+decreases-loop-low l = l.high - l.low

@@ -1,0 +1,57 @@
+-- `sheet::text::put_sheet` meets its contract. Invariant: the texts of the first k kinds' groups are written.
+-- Assumes nothing.
+use mathlib.Core.Path.{sym, ◌∙◌, ap}
+use mathlib.Core.List.{[]}
+use Prim.Native.Nat.{◌≤◌, ◌-◌}
+use native.Mathlib.Omega.{arith}
+use lib.ListN.{length, take}
+use lib.Seq.{sets}
+use Rattle.sheet.specs.Lists.{flat}
+use Rattle.sheet.specs.Sheet.{Sheet}
+use Rattle.sheet.specs.Store.{kind_count, StoreOf}
+use Rattle.sheet.specs.Laws.Puts.{Puts, puts-length, puts-as, puts_none, puts-more, puts-all, puts-fits}
+use Rattle.sheet.proofs.PutText.{sheet_texts, sheet-texts, sheet-texts-count, store-lines, store-fits, store-text}
+use Rattle.sheet.proofs.text.put_sheet.Goals as goal
+
+pub loop-k-init : goal.loop-k-init
+loop-k-init c = (omega arith, λ s S. puts_none _ _)
+
+pub offset_bounds-lines-k : goal.offset_bounds-lines-k
+offset_bounds-lines-k c = omega arith
+
+pub bounds-lines-k : goal.bounds-lines-k
+bounds-lines-k c = omega (arith, store-lines c.requires.store)
+
+pub overflow_cast-n : goal.overflow_cast-n
+overflow_cast-n c = omega (arith, c.shared_slice_known-in-loop-k-1.given c.loop-k.k)
+
+pub put_group-next-requires : goal.put_group-next-requires
+put_group-next-requires c =
+    let z = c.requires in
+    let k = c.loop-k.k in
+    let s = z.sheet in
+    let p = c.loop-k.invariant.1 s z.store in
+    let f = puts-fits (λ l. l) [] (sheet_texts s) k (omega (arith, sheet-texts-count s)) p in
+    (omega arith, store-fits z.store k (omega arith), omega (arith, f, ap length (store-text z.store k (omega arith)), ap length (sheet-texts s), puts-length p, z.room))
+
+pub overflow_step-k : goal.overflow_step-k
+overflow_step-k c = omega arith
+
+pub loop-k-smaller : goal.loop-k-smaller
+loop-k-smaller c = omega arith
+
+pub loop-k-preserved : goal.loop-k-preserved
+loop-k-preserved c = (
+  omega arith,
+  λ s S. puts-more (λ l. l) [] (sheet_texts s) c.loop-k.k (omega (arith, sheet-texts-count s)) (c.loop-k.invariant.1 s S) (puts-as (store-text S c.loop-k.k (omega arith)) c.put_group-next.ensures),
+)
+
+pub shape_of-out : goal.shape_of-out
+shape_of-out c = let z = c.requires in puts-length (c.loop-k.invariant.1 z.sheet z.store)
+
+pub returns : goal.returns
+returns c =
+    record {
+      of =
+          λ s S. (puts-all (λ l. l) [] (sheet_texts s) c.loop-k.k (omega (arith, sheet-texts-count s)) (c.loop-k.invariant.1 s S)).out-is ∙ ap (sets c.args.out.now 0) (sym (sheet-texts s));
+    }

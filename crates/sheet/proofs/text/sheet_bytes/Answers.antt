@@ -1,0 +1,56 @@
+-- `sheet::text::sheet_bytes` meets its contract. Invariant: the length of the texts of the first k kinds' groups.
+-- Assumes nothing.
+use mathlib.Core.Path.{◌≡◌, refl, sym, ◌∙◌, ap}
+use mathlib.Core.List.{List, []}
+use Prim.Native.Nat.{ℕ, ◌≤◌, ◌-◌, ◌*◌}
+use native.Mathlib.Omega.{arith}
+use lib.ListN.{length, take, length-append}
+use lib.Seq.{take_all}
+use Rattle.sheet.specs.Lists.{flat}
+use Rattle.sheet.specs.Sheet.{Sheet}
+use Rattle.sheet.specs.Store.{kind_count, StoreOf}
+use Rattle.sheet.specs.Inner.{group_bytes}
+use Rattle.sheet.specs.Laws.Binds.{bind-more}
+use Rattle.sheet.proofs.PutText.{sheet_texts, sheet-texts, sheet-texts-count, store-lines, store-fits, store-text}
+use Rattle.sheet.proofs.text.sheet_bytes.Goals as goal
+
+pub loop-k-init : goal.loop-k-init
+loop-k-init c = (omega arith, omega arith, λ s S. refl)
+
+pub offset_bounds-lines-k : goal.offset_bounds-lines-k
+offset_bounds-lines-k c = omega arith
+
+pub bounds-lines-k : goal.bounds-lines-k
+bounds-lines-k c = omega (arith, store-lines c.requires.store)
+
+pub overflow_cast-n : goal.overflow_cast-n
+overflow_cast-n c = omega (arith, c.shared_slice_known-in-loop-k-1.given c.loop-k.k)
+
+pub group_bytes-bytes-requires : goal.group_bytes-bytes-requires
+group_bytes-bytes-requires c = (omega arith, store-fits c.requires.store c.loop-k.k (omega arith))
+
+pub overflow_add-bytes : goal.overflow_add-bytes
+overflow_add-bytes c = omega (arith, c.group_bytes-bytes.ensures.1)
+
+pub overflow_step-k : goal.overflow_step-k
+overflow_step-k c = omega arith
+
+pub loop-k-smaller : goal.loop-k-smaller
+loop-k-smaller c = omega arith
+
+pub loop-k-preserved : goal.loop-k-preserved
+loop-k-preserved c =
+    let k = c.loop-k.k in
+    let e = c.group_bytes-bytes.ensures in (
+      omega arith,
+      omega (arith, e.1),
+      λ s S. omega (arith, c.loop-k.invariant.2 s S, e.0, ap length (store-text S k (omega arith)), simp length-append at (ap length (bind-more (λ l. l) [] (sheet_texts s) k (omega (arith, sheet-texts-count s))))),
+    )
+
+pub returns : goal.returns
+returns c =
+    let k = c.loop-k.k in
+    record {
+      of =
+          λ s S. c.loop-k.invariant.2 s S ∙ ap (λ (l : List (List ℕ)). length (flat l)) (take_all k (sheet_texts s) (omega (arith, sheet-texts-count s))) ∙ sym (ap length (sheet-texts s));
+    }

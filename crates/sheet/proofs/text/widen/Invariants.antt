@@ -1,0 +1,16 @@
+-- `sheet::text::widen` meets its contract. Invariant: the first i numbers are written.
+-- Assumes nothing.
+use mathlib.Core.Path.{◌≡◌, refl, ◌∙◌, ap}
+use Prim.Native.Nat.{◌+◌, ◌-◌, ◌≤◌, ◌<◌}
+use native.Mathlib.Omega.{arith}
+use lib.ListN.{length, take}
+use lib.Seq.{sets, length-sets, take_all}
+use borrow.Author.Rules.{rules}
+use Rattle.sheet.specs.Laws.Stores.{sets_more}
+use Rattle.sheet.proofs.text.widen.Given as goal
+
+abbrev pub invariant-loop-i : goal.invariant-loop-i
+invariant-loop-i l = (l.i ≤ length l.numbers) × (l.to ≡ sets l.initial.to 0 (take l.i l.numbers))
+
+abbrev pub decreases-loop-i : goal.decreases-loop-i
+decreases-loop-i l = length l.numbers - l.i

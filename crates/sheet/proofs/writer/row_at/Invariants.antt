@@ -1,0 +1,17 @@
+-- `sheet::writer::row_at` meets its contract. Invariant: the first i numbers are there, and zeros after them.
+-- Assumes nothing.
+use mathlib.Core.Path.{◌≡◌, refl, ◌∙◌, ap}
+use Prim.Native.Nat.{ℕ, ◌≤◌, ◌<◌, ◌-◌}
+use native.Mathlib.Omega.{arith}
+use lib.ListN.{length, take, drop, length-drop, length-set}
+use lib.Seq.{get_or-drop}
+use borrow.Author.Rules.{rules}
+use Rattle.sheet.specs.Lists.{filled}
+use Rattle.sheet.proofs.Written.{filled_more}
+use Rattle.sheet.proofs.writer.row_at.Given as goal
+
+abbrev pub invariant-loop-i : goal.invariant-loop-i
+invariant-loop-i l = (l.i ≤ l.w) × (length l.v ≡ 8) × (l.v ≡ filled 8 (take l.i (drop l.from l.g)))
+
+abbrev pub decreases-loop-i : goal.decreases-loop-i
+decreases-loop-i l = l.w - l.i

@@ -1,0 +1,113 @@
+-- `sheet::writer::take_group` meets its contract: a refusal is handed on; else the lines are taken one by one. Invariant: the first i lines of
+-- the group were taken, and the array holds them.
+-- Assumes nothing.
+use mathlib.Core.Path.{◌≡◌, refl, sym, ◌∙◌, ap, subst}
+use Prim.Native.Nat.{ℕ, ◌+◌, ◌*◌, ◌/◌, ◌-◌, ◌≤◌, ◌<◌}
+use native.Mathlib.Omega.{arith}
+use lib.ListN.{length, take, drop}
+use borrow.Author.Rules.{rules}
+use Rattle.sheet.specs.Lists.{filled}
+use Rattle.sheet.specs.Kinds.{width}
+use Rattle.sheet.specs.Store.{kind_count, kind_at}
+use Rattle.sheet.specs.Inner.{GroupReached}
+use Rattle.sheet.specs.Laws.Kinds.{width_some, width_small}
+use Rattle.sheet.proofs.Writing.{Taken, taken_none, taken_refused, row_inside, taken_next, taken-fault, taken-all, kept_next, group-few}
+use Rattle.sheet.proofs.writer.take_group.Goals as goal
+
+-- row i stands within the group, and its line is the one that was read
+below : (t : goal.After-take_line-fault) → let h = t.before.before.before.before.before in h.loop-i.i < length h.args.g.now / width (kind_at h.args.k)
+below t = omega (arith, t.loop-i-test.true, t.loop-i.invariant.5)
+
+row : (t : goal.After-take_line-fault) → let h = t.before.before.before.before.before in let w = width (kind_at h.args.k) in
+    t.row_at-v.result ≡ filled 8 (take w (drop (h.loop-i.i * w) h.args.g.now))
+row t =
+    let h = t.before.before.before.before.before in
+    t.row_at-v.ensures ∙ ap (λ (w : ℕ). filled 8 (take w (drop (h.loop-i.i * w) h.args.g.now))) h.loop-i.invariant.4
+
+-- row i stands within the group, as the code reckons
+inside : (c : goal.In-loop-i) → let w = c.row_of-row.result.width in c.loop-i.i * w + w ≤ length c.args.g.now
+inside c =
+    let h = c.before in
+    let g = h.args.g.now in
+    subst (λ (w : ℕ). h.loop-i.i * w + w ≤ length g) (sym h.loop-i.invariant.4) (row_inside h.args.k g h.loop-i.invariant.3 h.loop-i.i (omega (arith, c.loop-i-test.true, h.loop-i.invariant.5)))
+
+pub returns-then-judged-ne0 : goal.returns-then-judged-ne0
+returns-then-judged-ne0 c = taken_refused c.requires.1 c.if-judged-ne0.true
+
+pub row_of-row-requires : goal.row_of-row-requires
+row_of-row-requires c = c.requires.0
+
+pub nonzero_div-count : goal.nonzero_div-count
+nonzero_div-count c = omega (arith, c.row_of-row.ensures.width_is, width_some c.args.k c.requires.0)
+
+pub loop-i-init : goal.loop-i-init
+loop-i-init c =
+    let r = c.row_of-row.ensures in
+    let p = c.requires in
+    let q = p.1.reached c.if-judged-ne0.false in
+    (taken_none, q, omega arith, p.0, r.width_is, ap (λ (m : ℕ). length c.args.g.now / m) r.width_is, refl, refl, omega (arith, q.next))
+
+pub overflow_mul-i : goal.overflow_mul-i
+overflow_mul-i c = omega (arith, inside c, c.well-formed)
+
+pub row_at-v-requires : goal.row_at-v-requires
+row_at-v-requires c =
+    let i = c.loop-i.invariant in
+    (omega (arith, i.4, width_small c.args.k i.3), inside c)
+
+pub take_line-fault-requires : goal.take_line-fault-requires
+take_line-fault-requires c =
+    let i = c.loop-i.invariant in
+    (i.3, record { before = i.1.before; stored = i.1.stored })
+
+pub shape_of-lines-then-fault-ne0 : goal.shape_of-lines-then-fault-ne0
+shape_of-lines-then-fault-ne0 c = c.take_line-fault.auto.0 ∙ c.loop-i.invariant.6
+
+pub shape_of-all-then-fault-ne0 : goal.shape_of-all-then-fault-ne0
+shape_of-all-then-fault-ne0 c = c.take_line-fault.auto.1.0 ∙ c.loop-i.invariant.7
+
+pub returns-then-fault-ne0 : goal.returns-then-fault-ne0
+returns-then-fault-ne0 c =
+    let t = c.before.before.before.before.before in
+    let h = t.before.before.before.before.before in
+    let i = h.loop-i.invariant in
+    let z = h.before.before.before.before.before.before.before in
+    taken-fault z.args.k z.args.g.now i.3 i.0 (below t) t.row_at-v.result (row t) {u = z.args.judged} (h.if-judged-ne0.false, refl) t.take_line-fault.ensures c.if-fault-ne0.true
+
+pub overflow_add-next : goal.overflow_add-next
+overflow_add-next c = omega (arith, group-few c.loop-i.invariant.1)
+
+pub overflow_add-i : goal.overflow_add-i
+overflow_add-i c =
+    let i = c.loop-i.invariant in
+    omega (arith, i.8, group-few i.1)
+
+pub loop-i-preserved : goal.loop-i-preserved
+loop-i-preserved c =
+    let t = c.before.before.before.before.before in
+    let h = t.before.before.before.before.before in
+    let i = h.loop-i.invariant in
+    let k = t.take_line-fault.auto in (
+      taken_next h.args.k h.args.g.now i.3 i.0 (below t) t.row_at-v.result (row t) t.take_line-fault.ensures c.if-fault-ne0.false,
+      kept_next i.1 t.take_line-fault.ensures c.if-fault-ne0.false,
+      omega (arith, t.loop-i-test.true),
+      i.3,
+      i.4,
+      i.5,
+      k.0 ∙ i.6,
+      k.1.0 ∙ i.7,
+      omega (arith, i.8),
+    )
+
+pub shape_of-lines : goal.shape_of-lines
+shape_of-lines c = c.loop-i.invariant.6
+
+pub shape_of-all : goal.shape_of-all
+shape_of-all c = c.loop-i.invariant.7
+
+pub returns : goal.returns
+returns c =
+    let h = c.before.before in
+    let i = h.loop-i.invariant in
+    let z = h.before.before.before.before.before.before.before in
+    taken-all z.args.k z.args.g.now i.3 {u = z.args.judged} i.0 (h.if-judged-ne0.false, refl) (omega (arith, c.loop-i-test.false, i.5)) i.1 c.passed.ensures
