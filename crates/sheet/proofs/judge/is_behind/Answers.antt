@@ -14,6 +14,7 @@ use Rattle.sheet.specs.Store.{kind_count}
 use Rattle.sheet.specs.Inner.{behind_by}
 use Rattle.sheet.proofs.Passing.{counted, any_here, any-later, any_none}
 use Rattle.sheet.proofs.judge.is_behind.Goals as goal
+use Rattle.sheet.proofs.judge.is_behind.Goals.{At-loop-j}
 
 pub returns-then-kind-eq-S_LINE : goal.returns-then-kind-eq-S_LINE
 returns-then-kind-eq-S_LINE c = rw (eq-eqb c.args.kind 0 c.if-kind-eq-S_LINE.true)
@@ -30,7 +31,7 @@ pub loop-j-init : goal.loop-j-init
 loop-j-init c = (omega arith, rw (add-one c.args.kind))
 
 -- there is a line of the first kind, and the line is of another: the later counts decide
-among : (x : goal.At-loop-j) (b : Bool) → let a = x.args in any counted (drop (suc a.kind) a.lines.now) ≡ b
+among : (x : At-loop-j) (b : Bool) → let a = x.args in any counted (drop (suc a.kind) a.lines.now) ≡ b
     → b ≡ behind_by a.lines.now a.kind
 among x b e =
     let a = x.args in
@@ -44,7 +45,7 @@ bounds-lines-j c = omega arith
 
 pub returns-then-lines-j-ne0 : goal.returns-then-lines-j-ne0
 returns-then-lines-j-ne0 c =
-    let x = c.before.before.before in
+    let x = (goal.at.returns-then-lines-j-ne0 c).At-loop-j in
     let l = x.args.lines.now in
     let e = any_here counted l x.loop-j.j (omega arith) (ap not (ne_eqb (get_or l x.loop-j.j 0) 0 c.if-lines-j-ne0.true)) in
     among x true (sym x.loop-j.invariant.1 ∙ e)
@@ -57,12 +58,12 @@ loop-j-smaller c = omega arith
 
 pub loop-j-preserved : goal.loop-j-preserved
 loop-j-preserved c =
-    let x = c.before.before.before in
+    let x = (goal.at.loop-j-preserved c).At-loop-j in
     let l = x.args.lines.now in
     let e = any-later counted l x.loop-j.j (omega arith) (ap not (eq-eqb (get_or l x.loop-j.j 0) 0 c.if-lines-j-ne0.false)) in
     (omega arith, sym e ∙ x.loop-j.invariant.1)
 
 pub returns : goal.returns
 returns c =
-    let x = c.before in
+    let x = (goal.at.returns c).At-loop-j in
     among x false (sym x.loop-j.invariant.1 ∙ any_none counted x.args.lines.now x.loop-j.j (omega arith))

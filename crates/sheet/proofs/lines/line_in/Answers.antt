@@ -11,25 +11,26 @@ use Rattle.sheet.specs.Inner.{span_of}
 use Rattle.sheet.specs.Laws.Parts.{span-le}
 use Rattle.sheet.proofs.LineLaws.{forms-widths, line-not-one, line-unknown, letter-below, line_known}
 use Rattle.sheet.proofs.lines.line_in.Goals as goal
+use Rattle.sheet.proofs.lines.line_in.Goals.{After-position-k, Else-k-letters, Else-not-is_letter_first}
 
 pub returns-then-not-is_letter_first : goal.returns-then-not-is_letter_first
 returns-then-not-is_letter_first c =
     line-not-one _ _ _ _ _ c.bad_line.ensures (eqb-false _ 1 (sym c.is_letter_first.ensures ∙ not-true _ c.if-not-is_letter_first.true))
 
 -- the first field is one byte
-one : (c : goal.Else-not-is_letter_first) → span_of comma c.args.l.now ≡ 1
+one : (c : Else-not-is_letter_first) → span_of comma c.args.l.now ≡ 1
 one c = eqb-true _ 1 (sym c.is_letter_first.ensures ∙ not-false _ c.if-not-is_letter_first.false)
 
 pub bounds-l-0 : goal.bounds-l-0
-bounds-l-0 c = omega (arith, one c.before, span-le comma c.args.l.now)
+bounds-l-0 c = omega (arith, one (goal.at.bounds-l-0 c).Else-not-is_letter_first, span-le comma c.args.l.now)
 
 pub returns-then-k-letters : goal.returns-then-k-letters
 returns-then-k-letters c =
-    let k = c.before.before in
+    let k = (goal.at.returns-then-k-letters c).After-position-k in
     line-unknown _ _ _ _ (one k.before.before) _ k.position-k.ensures _ c.bad_line-then-k-letters.ensures c.if-k-letters.true
 
 -- the letter is one of them
-below : (c : goal.Else-k-letters) → c.position-k.result < length c.args.widths.now
+below : (c : Else-k-letters) → c.position-k.result < length c.args.widths.now
 below c =
     let k = c.before in
     let f = k.requires.0 in
@@ -39,7 +40,7 @@ pub offset_bounds-widths-k : goal.offset_bounds-widths-k
 offset_bounds-widths-k c = let h = below c in search rules
 
 pub bounds-widths-k : goal.bounds-widths-k
-bounds-widths-k c = below c.before
+bounds-widths-k c = below (goal.at.bounds-widths-k c).Else-k-letters
 
 pub numbers_in-requires : goal.numbers_in-requires
 numbers_in-requires c =
@@ -48,7 +49,7 @@ numbers_in-requires c =
 
 pub returns : goal.returns
 returns c =
-    let x = c.before.before in
+    let x = (goal.at.returns c).Else-k-letters in
     let k = x.before in
     line_known _ _ _ _ (one k.before.before) _ k.position-k.ensures k.requires.0 x.if-k-letters.false
     _ c.numbers_in.ensures.0 c.numbers_in.ensures.1

@@ -8,9 +8,10 @@ use Rattle.sheet.specs.Laws.Decided.{fails}
 use Rattle.sheet.specs.Laws.Seek.{listed_here, listed-none}
 use Rattle.sheet.proofs.PutText.{row_inside}
 use Rattle.sheet.proofs.seek.holds.Goals as goal
+use Rattle.sheet.proofs.seek.holds.Goals.{After-lines_before-i, Then-i-g}
 
 -- the line that is looked at stands in the array
-found : (c : goal.Then-i-g) → let x = c.before.before in let a = x.args in
+found : (c : Then-i-g) → let x = c.before.before in let a = x.args in
     a.g.base + x.lines_before-i.result * a.g.width + a.g.width ≤ length a.all.now
 found c =
     let x = c.before.before in
@@ -19,22 +20,22 @@ found c =
     row_inside g.base g.width g.count x.lines_before-i.result (length y.args.all.now) c.if-i-g.true y.requires.inside
 
 pub overflow_mul-i : goal.overflow_mul-i
-overflow_mul-i c = omega (arith, found c.before)
+overflow_mul-i c = omega (arith, found (goal.at.overflow_mul-i c).Then-i-g)
 
 pub overflow_add-g : goal.overflow_add-g
-overflow_add-g c = omega (arith, found c.before.before)
+overflow_add-g c = omega (arith, found (goal.at.overflow_add-g c).Then-i-g)
 
 pub is_same-requires : goal.is_same-requires
 is_same-requires c =
     let p = c.requires in
-    (omega (arith, p.narrow, p.key-inside), omega (arith, p.key-inside, found c.before.before))
+    (omega (arith, p.narrow, p.key-inside), omega (arith, p.key-inside, found (goal.at.is_same-requires c).Then-i-g))
 
 pub returns-then-i-g : goal.returns-then-i-g
 returns-then-i-g c =
-    let x = c.before.before.before in
+    let x = (goal.at.returns-then-i-g c).Then-i-g in
     listed_here x.requires x.lines_before-i.ensures x.if-i-g.true c.is_same.ensures
 
 pub returns : goal.returns
 returns c =
-    let x = c.before.before in
+    let x = (goal.at.returns c).After-lines_before-i in
     fails (listed-none x.requires x.lines_before-i.ensures c.if-i-g.false)

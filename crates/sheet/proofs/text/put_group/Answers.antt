@@ -17,6 +17,7 @@ use Rattle.sheet.specs.Laws.Puts.{Puts, puts-length, puts-as, puts_none, puts-mo
 use Rattle.sheet.specs.Laws.Kinds.{width_small}
 use Rattle.sheet.proofs.PutText.{row_inside, part_length, group_of, group-count, line_at}
 use Rattle.sheet.proofs.text.put_group.Goals as goal
+use Rattle.sheet.proofs.text.put_group.Goals.{After-widen, In-loop-i}
 
 pub loop-i-init : goal.loop-i-init
 loop-i-init c =
@@ -25,7 +26,7 @@ loop-i-init c =
     (omega arith, omega (arith, e.width_is, width_small c.args.k z.0), rw (e.width_is, e.base-is) z.1.inside, refl, puts_none _ _)
 
 -- the numbers of line i
-inside : (c : goal.In-loop-i) → let h = c.before in let r = h.row_of-row.result in
+inside : (c : In-loop-i) → let h = c.before in let r = h.row_of-row.result in
     r.base + h.loop-i.i * r.width + r.width ≤ length h.args.all.now
 inside c =
     let h = c.before in
@@ -58,15 +59,15 @@ slice_bounds-widen-end-in-loop-i c = sym c.loop-i.invariant.3
 
 pub widen-requires : goal.widen-requires
 widen-requires c =
-    let x = c.before.before in
+    let x = (goal.at.widen-requires c).In-loop-i in
     let r = c.row_of-row.result in
     omega (arith, part_length (r.base + c.loop-i.i * r.width) r.width c.args.all.now (inside x), c.loop-i.invariant)
 
 -- the array of a line's numbers is as long as it was, and line i is printed
-wide : (c : goal.After-widen) → length c.widen.new.to ≡ 8
+wide : (c : After-widen) → length c.widen.new.to ≡ 8
 wide c = ap length c.widen.ensures ∙ simp length-sets c.loop-i.invariant.3
 
-text : (c : goal.After-widen) → let h = c.before.before.before.before in let r = h.row_of-row.result in let a = h.args in
+text : (c : After-widen) → let h = c.before.before.before.before in let r = h.row_of-row.result in let a = h.args in
     printed most_digits r.letter (take r.width c.widen.new.to) ≡ line_text most_digits (get_or (group_of a.k a.n a.all.now) h.loop-i.i (line (kind_at a.k) []))
 text c =
     let h = c.before.before.before.before in
@@ -79,10 +80,10 @@ text c =
     (omega (arith, v.1, v.3))
 
 pub slice_bounds-numbers-end : goal.slice_bounds-numbers-end
-slice_bounds-numbers-end c = omega (arith, wide c.before.before, c.loop-i.invariant)
+slice_bounds-numbers-end c = omega (arith, wide (goal.at.slice_bounds-numbers-end c).After-widen, c.loop-i.invariant)
 
 pub slice_bounds-put_line-end : goal.slice_bounds-put_line-end
-slice_bounds-put_line-end c = sym (length-take-le _ _ (omega (arith, wide c.before.before.before, c.loop-i.invariant)))
+slice_bounds-put_line-end c = sym (length-take-le _ _ (omega (arith, wide (goal.at.slice_bounds-put_line-end c).After-widen, c.loop-i.invariant)))
 
 pub put_line-next-requires : goal.put_line-next-requires
 unfolding group_text
@@ -91,7 +92,7 @@ put_line-next-requires c =
     let a = c.args in
     let l : h.i < length (group_of a.k a.n a.all.now) = omega (arith, group-count a.k a.n a.all.now) in
     let f = puts-fits (line_text most_digits) (line (kind_at a.k) []) (group_of a.k a.n a.all.now) h.i l h.invariant.4 in
-    omega (arith, ap length (text c.before.before.before), f, puts-length h.invariant.4, c.requires.2)
+    omega (arith, ap length (text (goal.at.put_line-next-requires c).After-widen), f, puts-length h.invariant.4, c.requires.2)
 
 pub overflow_add-i : goal.overflow_add-i
 overflow_add-i c = omega arith
@@ -101,7 +102,7 @@ loop-i-smaller c = omega arith
 
 pub loop-i-preserved : goal.loop-i-preserved
 loop-i-preserved c =
-    let x = c.before.before.before.before.before.before in
+    let x = (goal.at.loop-i-preserved c).After-widen in
     let h = c.loop-i in
     let a = c.args in
     let l : h.i < length (group_of a.k a.n a.all.now) = omega (arith, group-count a.k a.n a.all.now) in (

@@ -10,24 +10,25 @@ use Rattle.sheet.specs.Text.{number_text, printed}
 use Rattle.sheet.specs.Laws.Puts.{Puts, puts-length, puts_none, puts-byte, puts-append, puts-more, puts-all, puts-fits}
 use Rattle.sheet.specs.Laws.Printed.{printed-length}
 use Rattle.sheet.proofs.text.put_line.Goals as goal
+use Rattle.sheet.proofs.text.put_line.Goals.{After-loop-i, At-loop-i, Start}
 
 -- what the line takes
-size : (z : goal.Start) → let a = z.args in
+size : (z : Start) → let a = z.args in
     length (printed a.most a.letter a.numbers.now) ≡ length (bind a.numbers.now (number_text a.most)) + 2
 size z = printed-length z.args.most z.args.letter z.args.numbers.now
 
 pub bounds-out-at : goal.bounds-out-at
-bounds-out-at c = let z = c.before.before in omega (arith, z.requires, size z)
+bounds-out-at c = let z = (goal.at.bounds-out-at c).Start in omega (arith, z.requires, size z)
 
 pub overflow_add-next : goal.overflow_add-next
-overflow_add-next c = let z = c.before.before in omega (arith, z.requires, size z)
+overflow_add-next c = let z = (goal.at.overflow_add-next c).Start in omega (arith, z.requires, size z)
 
 pub loop-i-init : goal.loop-i-init
 loop-i-init c = (omega arith, puts_none _ _)
 
 pub put_number-next-requires : goal.put_number-next-requires
 put_number-next-requires c =
-    let h = c.before.before.before in
+    let h = (goal.at.put_number-next-requires c).At-loop-i in
     let z = h.before.before.before in
     let ns = z.args.numbers.now in
     let l : h.loop-i.i < length ns = search rules in
@@ -35,26 +36,26 @@ put_number-next-requires c =
 
 pub loop-i-preserved : goal.loop-i-preserved
 loop-i-preserved c =
-    let h = c.before.before.before.before.before.before in
+    let h = (goal.at.loop-i-preserved c).At-loop-i in
     let a = h.args in
     let l : h.loop-i.i < length a.numbers.now = search rules in
     (omega arith, puts-more (number_text a.most) 0 a.numbers.now h.loop-i.i l h.loop-i.invariant.1 c.put_number-next.ensures)
 
 -- all numbers are written
-all : (c : goal.After-loop-i) → let h = c.before in let a = h.args in
+all : (c : After-loop-i) → let h = c.before in let a = h.args in
     Puts (bind a.numbers.now (number_text a.most)) (set a.out.now a.at a.letter) (a.at + 1) h.loop-i.out h.loop-i.next
 all c = let a = c.args in puts-all (number_text a.most) 0 a.numbers.now c.loop-i.i (search rules) c.loop-i.invariant.1
 
 pub bounds-out-next : goal.bounds-out-next
 bounds-out-next c =
-    let h = c.before in
+    let h = (goal.at.bounds-out-next c).At-loop-i in
     let z = h.before.before.before in
     let e = all c in
     omega (arith, e.next-is, puts-length e, length-set z.args.out.now z.args.at z.args.letter, z.requires, size z)
 
 pub overflow_add-result : goal.overflow_add-result
 overflow_add-result c =
-    let h = c.before in
+    let h = (goal.at.overflow_add-result c).At-loop-i in
     let z = h.before.before.before in
     let e = all c in
     omega (arith, e.next-is, puts-length e, length-set z.args.out.now z.args.at z.args.letter, z.requires, size z)

@@ -8,12 +8,13 @@ use lib.Seq.{sets, length-sets, take_all}
 use borrow.Author.Rules.{rules}
 use Rattle.sheet.specs.Laws.Stores.{sets_more}
 use Rattle.sheet.proofs.text.widen.Goals as goal
+use Rattle.sheet.proofs.text.widen.Goals.{At-loop-i}
 
 pub loop-i-init : goal.loop-i-init
 loop-i-init c = (omega arith, refl)
 
 -- the array is as long as it was
-len : (c : goal.At-loop-i) → length c.loop-i.to ≡ length c.args.to.now
+len : (c : At-loop-i) → length c.loop-i.to ≡ length c.args.to.now
 len c = ap length c.loop-i.invariant.1 ∙ simp length-sets
 
 pub offset_bounds-numbers-i : goal.offset_bounds-numbers-i
@@ -29,7 +30,7 @@ pub offset_bounds-to-i : goal.offset_bounds-to-i
 offset_bounds-to-i c = omega arith
 
 pub bounds-to-i : goal.bounds-to-i
-bounds-to-i c = omega (arith, len c.before.before)
+bounds-to-i c = omega (arith, len (goal.at.bounds-to-i c).At-loop-i)
 
 pub overflow_add-i : goal.overflow_add-i
 overflow_add-i c = omega arith
@@ -39,7 +40,7 @@ loop-i-smaller c = omega arith
 
 pub loop-i-preserved : goal.loop-i-preserved
 loop-i-preserved c =
-    let h = c.before.before in
+    let h = (goal.at.loop-i-preserved c).At-loop-i in
     let z = h.before in
     let a = z.args in
     let e : 0 + h.loop-i.i ≡ h.loop-i.i = omega arith in
@@ -47,7 +48,7 @@ loop-i-preserved c =
     (omega arith, rw h.loop-i.invariant.1 (rw e at (sets_more a.to.now a.numbers.now 0 h.loop-i.i l)))
 
 pub shape_of-to : goal.shape_of-to
-shape_of-to c = len c.before
+shape_of-to c = len (goal.at.shape_of-to c).At-loop-i
 
 pub returns : goal.returns
 returns c =

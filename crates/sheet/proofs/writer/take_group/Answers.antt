@@ -13,19 +13,20 @@ use Rattle.sheet.specs.Inner.{GroupReached}
 use Rattle.sheet.specs.Laws.Kinds.{width_some, width_small}
 use Rattle.sheet.proofs.Writing.{Taken, taken_none, taken_refused, row_inside, taken_next, taken-fault, taken-all, kept_next, group-few}
 use Rattle.sheet.proofs.writer.take_group.Goals as goal
+use Rattle.sheet.proofs.writer.take_group.Goals.{After-take_line-fault, At-loop-i, In-loop-i}
 
 -- row i stands within the group, and its line is the one that was read
-below : (t : goal.After-take_line-fault) → let h = t.before.before.before.before.before in h.loop-i.i < length h.args.g.now / width (kind_at h.args.k)
+below : (t : After-take_line-fault) → let h = t.before.before.before.before.before in h.loop-i.i < length h.args.g.now / width (kind_at h.args.k)
 below t = omega (arith, t.loop-i-test.true, t.loop-i.invariant.5)
 
-row : (t : goal.After-take_line-fault) → let h = t.before.before.before.before.before in let w = width (kind_at h.args.k) in
+row : (t : After-take_line-fault) → let h = t.before.before.before.before.before in let w = width (kind_at h.args.k) in
     t.row_at-v.result ≡ filled 8 (take w (drop (h.loop-i.i * w) h.args.g.now))
 row t =
     let h = t.before.before.before.before.before in
     t.row_at-v.ensures ∙ ap (λ (w : ℕ). filled 8 (take w (drop (h.loop-i.i * w) h.args.g.now))) h.loop-i.invariant.4
 
 -- row i stands within the group, as the code reckons
-inside : (c : goal.In-loop-i) → let w = c.row_of-row.result.width in c.loop-i.i * w + w ≤ length c.args.g.now
+inside : (c : In-loop-i) → let w = c.row_of-row.result.width in c.loop-i.i * w + w ≤ length c.args.g.now
 inside c =
     let h = c.before in
     let g = h.args.g.now in
@@ -68,7 +69,7 @@ shape_of-all-then-fault-ne0 c = c.take_line-fault.auto.1.0 ∙ c.loop-i.invarian
 
 pub returns-then-fault-ne0 : goal.returns-then-fault-ne0
 returns-then-fault-ne0 c =
-    let t = c.before.before.before.before.before in
+    let t = (goal.at.returns-then-fault-ne0 c).After-take_line-fault in
     let h = t.before.before.before.before.before in
     let i = h.loop-i.invariant in
     let z = h.before.before.before.before.before.before.before in
@@ -84,7 +85,7 @@ overflow_add-i c =
 
 pub loop-i-preserved : goal.loop-i-preserved
 loop-i-preserved c =
-    let t = c.before.before.before.before.before in
+    let t = (goal.at.loop-i-preserved c).After-take_line-fault in
     let h = t.before.before.before.before.before in
     let i = h.loop-i.invariant in
     let k = t.take_line-fault.auto in (
@@ -107,7 +108,7 @@ shape_of-all c = c.loop-i.invariant.7
 
 pub returns : goal.returns
 returns c =
-    let h = c.before.before in
+    let h = (goal.at.returns c).At-loop-i in
     let i = h.loop-i.invariant in
     let z = h.before.before.before.before.before.before.before in
     taken-all z.args.k z.args.g.now i.3 {u = z.args.judged} i.0 (h.if-judged-ne0.false, refl) (omega (arith, c.loop-i-test.false, i.5)) i.1 c.passed.ensures
