@@ -239,9 +239,11 @@ link-differ xs g k r (l ∷ ls) f =
   where
     first : (j : ℕ) → j ∈ (k ∷ []) → j ∈ (k ∷ l ∷ ls)
     first j (inl q) = inl q
+    first j (inr nowhere) = elim nowhere [ ]
 
     second : (j : ℕ) → j ∈ (g.left ∷ []) → j ∈ (k ∷ l ∷ ls)
     second j (inl q) = inr (inl (q ∙ f.left_is))
+    second j (inr nowhere) = elim nowhere [ ]
 
 -- rows taken out one by one
 pub in_table : {xs ys : List ℕ} {k : ℕ} → length ys ≡ length xs → InTable xs k → InTable ys k
@@ -288,10 +290,12 @@ module _ (v bound : ℕ) (xs ys : List ℕ) (g r : Gap) (s : Gone v bound xs ys 
       freed d m true e = let z : d ≡ r.right = eqb-true d r.right e in rw z (cell_same ys r.right v (after-room t h))
       freed d (inl m) false e = cell_other ys r.right d v (eqb-false d r.right e) ∙ s.freed d m
       freed d (inr (inl q)) false e = absurd (eqb-false d r.right e q)
+      freed d (inr (inr nowhere)) false e = elim nowhere [ ]
 
       dear : (d : ℕ) → d ∈ s.gone ⊎ d ∈ (r.right ∷ []) → bound ≤ fig (cost_at xs d) 1
       dear d (inl m) = s.dear d m
       dear d (inr (inl q)) = subst (λ (i : ℕ). bound ≤ fig (cost_at xs i) 1) (sym q) (subst (λ (c : ℕ → Cost). bound ≤ fig (c r.right) 1) (differ-costs s.gone s.differ) b)
+      dear d (inr (inr nowhere)) = elim nowhere [ ]
 
   releasable-more : Releasable (less_table v ys r) (less_of ys r)
   releasable-more =

@@ -59,6 +59,7 @@ passed-led base v xs es ks k count row fs s e =
     back d (inl q) =
         let r = s.rows k (head-mem es ks k) in
         rw q (cell_same xs k v (in_table s.differ.same_length r.0) ∙ sym r.1)
+    back d (inr nowhere) = elim nowhere [ ]
 
 -- costs of three figures: one that is not above another in the first two figures, and not nowhere above it, is above it in the third
 at-most-three : (a b : Cost) → length a ≡ 3 → fig a 0 ≤ fig b 0 → fig a 1 ≤ fig b 1 → fig a 2 ≤ fig b 2 → AtMost a b

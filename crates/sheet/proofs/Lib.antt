@@ -11,4 +11,3 @@ pub mod Reading
 pub mod Writing
 pub mod Written
 pub mod PutText
-pub mod Again

@@ -144,8 +144,12 @@ pub record LinkFound (P : Link → Type 0) (net : List ℕ) (n : ℕ) : Type 0 w
 pub links-find : {P : Link → Type 0} (net : List ℕ) (n : ℕ) → Any P (links_of net n) → LinkFound P net n
 unfolding links_of
 links-find net zero x = absurd (any-nil x)
-links-find net (suc n) x =
-    ⊎_elim (λ p. record { at = n; upto = omega arith; fits = p }) (λ y. let f = links-find net n y in record { at = f.at; upto = omega (arith, f.upto); fits = f.fits }) (any-cons x)
+links-find {P = P} net (suc n) x =
+    ⊎_elim (λ p. record { at = n; upto = omega arith; fits = p })
+    (λ (y : Any P (links_of net n)).
+    let f : LinkFound P net n = links-find net n y in
+    record { at = f.at; upto = omega (arith, f.upto); fits = f.fits })
+    (any-cons x)
 
 pub links-any : (P : Link → Type 0) (net : List ℕ) (n i : ℕ) → i < n → P (link_at net i) → Any P (links_of net n)
 unfolding links_of

@@ -117,12 +117,22 @@ pub record Found (P : Row → Type 0) (xs : List ℕ) (a d : ℕ) : Type 0 where
 pub tail-find : {P : Row → Type 0} (xs : List ℕ) (a d : ℕ) → Any P (tail_of xs a d) → Found P xs a d
 unfolding tail_of
 tail-find xs a zero x = absurd (any-nil x)
-tail-find xs a (suc d) x = ⊎_elim (λ p. record { at = a + d; from = omega arith; upto = omega arith; fits = p }) (λ y. let f = tail-find xs a d y in record { at = f.at; from = f.from; upto = omega (arith, f.upto); fits = f.fits }) (any-cons x)
+tail-find {P = P} xs a (suc d) x =
+    ⊎_elim (λ p. record { at = a + d; from = omega arith; upto = omega arith; fits = p })
+    (λ (y : Any P (tail_of xs a d)).
+    let f : Found P xs a d = tail-find xs a d y in
+    record { at = f.at; from = f.from; upto = omega (arith, f.upto); fits = f.fits })
+    (any-cons x)
 
 pub rows-find : {P : Row → Type 0} (xs : List ℕ) (n : ℕ) → Any P (rows_of xs n) → Found P xs 0 n
 unfolding rows_of
 rows-find xs zero x = absurd (any-nil x)
-rows-find xs (suc n) x = ⊎_elim (λ p. record { at = n; from = omega arith; upto = omega arith; fits = p }) (λ y. let f = rows-find xs n y in record { at = f.at; from = f.from; upto = omega (arith, f.upto); fits = f.fits }) (any-cons x)
+rows-find {P = P} xs (suc n) x =
+    ⊎_elim (λ p. record { at = n; from = omega arith; upto = omega arith; fits = p })
+    (λ (y : Any P (rows_of xs n)).
+    let f : Found P xs 0 n = rows-find xs n y in
+    record { at = f.at; from = f.from; upto = omega (arith, f.upto); fits = f.fits })
+    (any-cons x)
 
 pub zeros-at : (n j : ℕ) → ◌≡◌ {A = ℕ} (get_or (replicate n 0) j 0) 0
 zeros-at n j = ⊎_elim (λ l. get_or-replicate n j 0 0 l) (λ l. get_or-eq_default (replicate n 0) 0 (omega (arith, length-replicate {A = ℕ} n 0))) (lt-or-le j n)

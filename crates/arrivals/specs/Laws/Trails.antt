@@ -1,6 +1,6 @@
 -- Ways read backwards. A trail is a list of places, the last step first, so that a way one step longer has one place more in front: the
 -- form that proofs go by. The enumeration lists exactly the trails, and a trail turned round is exactly a way.
-use Rattle.std.specs.Prelude.{◌≡◌, refl, ◌⊎◌, Bool, true, false, ℕ, zero, suc, ◌≤◌, ◌<◌, eqb, ltb, length, take}
+use Rattle.std.specs.Prelude.{◌≡◌, refl, ◌⊎◌, Bool, true, false, ℕ, zero, suc, ◌≤◌, ◌<◌, eqb, ltb, length, map, take}
 use Rattle.std.proofs.Common.{sym, ◌∙◌, ap, subst, inl, inr, arith, length-append, take-suc, take_all, get_or-take, length-take-le, eq-eqb, ne_eqb, ltb-true, ltb-false}
 use mathlib.Core.List.{List, ◌∷◌, ◌++◌, reverse, reverse-cons, reverse-append, []}
 use Rattle.std.proofs.lemmas.List.{length-reverse}
@@ -61,7 +61,9 @@ unfolding targets
 move-targets s u v t c (waits p q) = inl (target-path v u c (wait_of s u) (sym p) q)
 move-targets s u v t c (crosses x) =
     let n = mem-map across x.line (leaving s u t) (crossing-leaving s u v t c x) in
-    inr (rw (target-path v (to x.line) c (cost_of x.line) (sym x.enters) x.price) n)
+    inr
+    (subst (λ (m : Target). m ∈ map across (leaving s u t))
+    (sym (target-path v (to x.line) c (cost_of x.line) (sym x.enters) x.price)) n)
 
 grow-on : (s : Sheet) (t : ℕ) (w x : Walk) → x ∈ grow s t w → GoesOn s (λ h. h ≡ w.cost) w.at x.at t x.cost × (x.before ≡ backward w)
 unfolding grow
@@ -80,7 +82,9 @@ walks-trail s zero w m = go (mem-keep (freeb s (start s) 0) begin w [] m)
 
     go : ((w ≡ begin) × (freeb s (start s) 0 ≡ true)) ⊎ ⊥ → Trail s (backward w) w.cost × (length w.before ≡ 0)
     go (inr b) = absurd b
-    go (inl h) = rw h.0 (record { starts = refl; free = h.1; nothing = refl }, refl)
+    go (inl h) =
+        subst (λ (x : Walk). Trail s (backward x) x.cost × (length x.before ≡ 0)) (sym h.0)
+        (record { starts = refl; free = h.1; nothing = refl }, refl)
 walks-trail s (suc t) w m =
     let r = bind-mem (grow s t) w (walks s t) m in
     go r.0 (walks-trail s t r.0 r.1) (grow-on s t r.0 w r.2)

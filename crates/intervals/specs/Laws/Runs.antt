@@ -199,6 +199,7 @@ mem-steps (suc n) t m = go (mem-steps n t) (mem-append t (steps_to n) (suc n ∷
     go : (t ∈ steps_to n → t ≤ n) → t ∈ steps_to n ⊎ t ∈ (suc n ∷ []) → t ≤ suc n
     go f (inl k) = omega (arith, f k)
     go f (inr (inl e)) = omega arith
+    go f (inr (inr nowhere)) = elim nowhere [ ]
 
 abbrev span_at : Sheet → ℕ → ℕ → Span
 span_at s v t = record { first_step = t; last_step = last_of s v t (steps s - t) }

@@ -1,7 +1,7 @@
 -- Total, least and greatest of numbers: what they mean (the least is one of the numbers and above none of them, the greatest is one of them and below none),
 -- how large a total is at most, and each with one number more at the end. Least and greatest are the first by a test: what is said of both is said of it.
 use Rattle.std.specs.Prelude.{◌≡◌, refl, ◌⊎◌, Bool, true, false, List, [], ◌∷◌, ◌++◌, ℕ, suc, ◌+◌, ◌*◌, ◌≤◌, leb, length}
-use Rattle.std.proofs.Common.{sym, ◌∙◌, ap, inl, inr, ⊎_elim, true≢false, arith, suc-mul, leb-true, leb-false, le-leb}
+use Rattle.std.proofs.Common.{sym, ◌∙◌, ap, subst, inl, inr, ⊎_elim, true≢false, arith, suc-mul, leb-true, leb-false, le-leb}
 use Rattle.sheet.specs.Lists.{pick, ◌∈◌}
 use Rattle.costs.specs.Costs.{Cost, fig}
 use Rattle.costs.specs.Priced.{Within}
@@ -84,7 +84,8 @@ greatest-from (n ∷ ns) = ap (better above n) (greatest-from ns)
 pub least-in : (ns : List ℕ) → 1 ≤ length ns → least ns ∈ ns
 least-in [] h = absurd (omega arith)
 least-in (n ∷ []) h = inl refl
-least-in (n ∷ k ∷ ns) h = ⊎_elim inl (λ e. inr (rw e (least-in (k ∷ ns) (omega arith)))) (before-both by-least n (least (k ∷ ns))).2
+least-in (n ∷ k ∷ ns) h =
+    ⊎_elim inl (λ e. inr (subst (λ (r : ℕ). r ∈ (k ∷ ns)) (sym e) (least-in (k ∷ ns) (omega arith)))) (before-both by-least n (least (k ∷ ns))).2
 
 pub least-below : (ns : List ℕ) (n : ℕ) → n ∈ ns → least ns ≤ n
 least-below [] n m = absurd m
@@ -98,7 +99,8 @@ least-below (k ∷ j ∷ ns) n (inr m) =
 pub greatest-in : (ns : List ℕ) → 1 ≤ length ns → greatest ns ∈ ns
 greatest-in [] h = absurd (omega arith)
 greatest-in (n ∷ []) h = inl (rw (le-leb 0 n (omega arith)))
-greatest-in (n ∷ k ∷ ns) h = ⊎_elim inl (λ e. inr (rw e (greatest-in (k ∷ ns) (omega arith)))) (before-both by-greatest n (greatest (k ∷ ns))).2
+greatest-in (n ∷ k ∷ ns) h =
+    ⊎_elim inl (λ e. inr (subst (λ (r : ℕ). r ∈ (k ∷ ns)) (sym e) (greatest-in (k ∷ ns) (omega arith)))) (before-both by-greatest n (greatest (k ∷ ns))).2
 
 pub greatest-above : (ns : List ℕ) (n : ℕ) → n ∈ ns → n ≤ greatest ns
 greatest-above [] n m = absurd m
