@@ -1,4 +1,7 @@
 // Costs: three figures, added and compared place by place as one value (document 01, "Lawful journeys"); the cost of a wait, and the corridors.
+
+#![tactic(auto)]
+
 ghost use Rattle.std.specs.Prelude.{◌≡◌, [], ◌+◌, ◌-◌, ◌≤◌, ◌<◌, length, get_or};
 ghost use Rattle.sheet.specs.Lists.{number, numbers_from};
 ghost use Rattle.sheet.specs.Kinds.{kind_c};

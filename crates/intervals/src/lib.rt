@@ -1,5 +1,8 @@
 // Occupied and free places, and the safe intervals of a sheet as a table that is looked up in constant time (document 01, "Safe intervals and
 // leading arrivals").
+
+#![tactic(auto)]
+
 ghost use Rattle.std.specs.Prelude.{◌≡◌, ◌+◌, ◌*◌, ◌≤◌, ◌<◌, ◌/◌, length};
 ghost use Rattle.sheet.specs.Lists.{number};
 ghost use Rattle.sheet.specs.Kinds.{width, kind_o};

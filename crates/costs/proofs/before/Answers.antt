@@ -1,0 +1,32 @@
+-- `costs::before` meets its contract. The loop's invariant: the first i figures of a are those of b.
+-- The measure is what is left of the three figures.
+-- Assumes nothing.
+use mathlib.Core.Path.{◌≡◌, sym, subst}
+use mathlib.Core.List.{List}
+use Prim.Native.Nat.{ℕ, ◌-◌, ◌≤◌, ◌<◌}
+use native.Mathlib.Omega.{arith}
+use borrow.Author.Count.{below_more}
+use borrow.Author.Rules.{rules}
+use Rattle.sheet.specs.Lists.{Lex}
+use Rattle.sheet.specs.Laws.Order.{Lex-lexb, Lex-irrefl}
+use Rattle.costs.specs.Costs.{fig}
+use Rattle.costs.specs.Laws.Figures.{Lex-asym, lexb-not, is_same, is-Lex}
+use Rattle.costs.proofs.before.Goals as goal
+
+pub returns-then-a-i : goal.returns-then-a-i
+returns-then-a-i c =
+    let a = c.args in
+    sym (Lex-lexb a.a a.b (is-Lex a.a a.b c.loop-i.i (search rules) (search rules) c.loop-i.invariant.1 c.if-a-i.true))
+
+pub returns-then-b-i : goal.returns-then-b-i
+returns-then-b-i c =
+    let a = c.args in
+    sym (lexb-not a.a a.b (Lex-asym a.b a.a (is-Lex a.b a.a c.loop-i.i (search rules) (search rules) (λ k h. sym (c.loop-i.invariant.1 k h)) c.if-b-i.true)))
+
+pub loop-i-preserved : goal.loop-i-preserved
+loop-i-preserved c = (search rules, below_more _ _ c.loop-i.invariant.1 (omega arith))
+
+pub returns : goal.returns
+returns c =
+    let a = c.args in
+    sym (lexb-not a.a a.b (λ h. Lex-irrefl a.b (subst (λ (x : List ℕ). Lex x a.b) (is_same 3 a.a a.b (search rules) (search rules) (λ k l. c.loop-i.invariant.1 k (omega arith))) h)))

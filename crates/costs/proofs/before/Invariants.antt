@@ -1,0 +1,20 @@
+-- `costs::before` meets its contract. The loop's invariant: the first i figures of a are those of b.
+-- The measure is what is left of the three figures.
+-- Assumes nothing.
+use mathlib.Core.Path.{◌≡◌, sym, subst}
+use mathlib.Core.List.{List}
+use Prim.Native.Nat.{ℕ, ◌-◌, ◌≤◌, ◌<◌}
+use native.Mathlib.Omega.{arith}
+use borrow.Author.Count.{below_more}
+use borrow.Author.Rules.{rules}
+use Rattle.sheet.specs.Lists.{Lex}
+use Rattle.sheet.specs.Laws.Order.{Lex-lexb, Lex-irrefl}
+use Rattle.costs.specs.Costs.{fig}
+use Rattle.costs.specs.Laws.Figures.{Lex-asym, lexb-not, is_same, is-Lex}
+use Rattle.costs.proofs.before.Given as goal
+
+abbrev pub invariant-loop-i : goal.invariant-loop-i
+invariant-loop-i l = (l.i ≤ 3) × ((k : ℕ) → k < l.i → fig l.a k ≡ fig l.b k)
+
+abbrev pub decreases-loop-i : goal.decreases-loop-i
+decreases-loop-i l = 3 - l.i

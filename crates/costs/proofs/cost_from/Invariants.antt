@@ -1,0 +1,16 @@
+-- `costs::cost_from` meets its contract. The loop's invariant: the first n figures of r are the numbers from `at` on.
+-- The measure is what is left of the three figures.
+-- Assumes nothing.
+use mathlib.Core.Path.{refl}
+use Prim.Native.Nat.{◌+◌, ◌-◌, ◌≤◌}
+use native.Mathlib.Omega.{arith}
+use borrow.Author.Rules.{rules}
+use Rattle.sheet.specs.Lists.{number}
+use Rattle.costs.specs.Laws.Figures.{Stored, stored-none, stored_more, stored-all, is-from}
+use Rattle.costs.proofs.cost_from.Given as goal
+
+abbrev pub invariant-loop-n : goal.invariant-loop-n
+invariant-loop-n l = (l.n ≤ 3) × Stored 3 (λ k. number l.numbers (l.at + k)) l.n l.r
+
+abbrev pub decreases-loop-n : goal.decreases-loop-n
+decreases-loop-n l = 3 - l.n

@@ -1,0 +1,14 @@
+-- `intervals::clear` meets its contract. The loop's invariant: the first i entries are 0.
+-- The measure is what is left of the entries.
+-- Assumes nothing.
+use Prim.Native.Nat.{◌-◌, ◌≤◌}
+use native.Mathlib.Omega.{arith}
+use borrow.Author.Rules.{rules}
+use Rattle.costs.specs.Laws.Figures.{Stored, stored-none, stored_more}
+use Rattle.intervals.proofs.clear.Given as goal
+
+abbrev pub invariant-loop-i : goal.invariant-loop-i
+invariant-loop-i l = (l.i ≤ 16384) × Stored 16384 (λ k. 0) l.i l.since
+
+abbrev pub decreases-loop-i : goal.decreases-loop-i
+decreases-loop-i l = 16384 - l.i

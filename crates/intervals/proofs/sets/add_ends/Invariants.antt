@@ -1,0 +1,19 @@
+-- `intervals::sets::add_ends` meets its contract. The loop's invariant: the places of the first k lines are added.
+-- The measure is what is left of the lines.
+-- Assumes nothing.
+use mathlib.Core.Path.{◌≡◌, refl, subst}
+use Prim.Native.Nat.{ℕ, ◌-◌, ◌/◌, ◌≤◌}
+use native.Mathlib.Omega.{arith}
+use lib.ListN.{length}
+use borrow.Author.Rules.{rules}
+use Rattle.intervals.specs.Inner.{Followed}
+use Rattle.intervals.specs.Laws.Sets.{added}
+use Rattle.intervals.proofs.Tables.{markable}
+use Rattle.intervals.proofs.Begins.{followed-none, followed-more}
+use Rattle.intervals.proofs.sets.add_ends.Given as goal
+
+abbrev pub invariant-loop-k : goal.invariant-loop-k
+invariant-loop-k l = (l.k ≤ l.n) × (length l.sets ≡ length l.initial.sets) × Followed l.occupancies l.k l.initial.sets l.sets
+
+abbrev pub decreases-loop-k : goal.decreases-loop-k
+decreases-loop-k l = l.n - l.k

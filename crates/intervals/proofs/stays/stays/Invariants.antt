@@ -1,0 +1,17 @@
+-- `intervals::stays::stays` meets its contract. The loop's invariant: the first t steps are told.
+-- The measure is what is left of the steps.
+-- Assumes nothing.
+use mathlib.Core.Path.{refl}
+use Prim.Native.Nat.{◌-◌, ◌≤◌}
+use native.Mathlib.Omega.{arith}
+use borrow.Author.Rules.{rules}
+use Rattle.costs.specs.Laws.Figures.{Stored, stored-none, stored_more, stored-all}
+use Rattle.intervals.specs.Inner.{stay_by}
+use Rattle.intervals.proofs.Staying.{stay-table}
+use Rattle.intervals.proofs.stays.stays.Given as goal
+
+abbrev pub invariant-loop-t : goal.invariant-loop-t
+invariant-loop-t l = (l.t ≤ 256) × Stored 256 (stay_by l.since l.v.0 l.last.0 l.n) l.t l.told
+
+abbrev pub decreases-loop-t : goal.decreases-loop-t
+decreases-loop-t l = 256 - l.t
