@@ -28,7 +28,7 @@ use intervals::sets::with;
 use sheet::{Place, Step};
 
 // A place and step, with the live costs of the place that count there.
-#[derive(Drop)]
+#[derive(Clone, Copy)]
 pub struct Site {
     pub here: Here,
     pub own: Part,

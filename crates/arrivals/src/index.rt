@@ -18,7 +18,7 @@ pub const MIDDLE: usize = 8256;
 pub const INDEX: usize = 32832;
 
 // The rows from lo to hi.
-#[derive(Drop)]
+#[derive(Clone, Copy)]
 pub struct Span {
     pub lo: usize,
     pub hi: usize,

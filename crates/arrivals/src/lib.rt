@@ -1,4 +1,7 @@
 // The leading arrivals of a sheet (document 01, "Safe intervals and leading arrivals").
+
+#![tactic(auto)]
+
 ghost use Rattle.std.specs.Prelude.{◌≡◌};
 ghost use Rattle.sheet.specs.Store.{sheet_in};
 ghost use Rattle.intervals.specs.FirstSteps.{Derived};

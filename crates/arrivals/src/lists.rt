@@ -34,7 +34,7 @@ pub const FOR_SIXTEEN: usize = 8416;
 pub const FOR_ALL: usize = 32896;
 
 // n costs one after another, from number `at` on.
-#[derive(Drop)]
+#[derive(Clone, Copy)]
 pub struct Part {
     pub at: usize,
     pub n: usize,

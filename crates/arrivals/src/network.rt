@@ -42,7 +42,7 @@ pub const NETWORK: usize = 4484;
 
 // Where rows are sought and added: a place and a step, the first step of the safe interval of the place that holds the step, and the cost of
 // waiting there.
-#[derive(Drop)]
+#[derive(Clone, Copy)]
 pub struct Here {
     pub place: Place,
     pub step: Step,
@@ -51,7 +51,7 @@ pub struct Here {
 }
 
 // Where a corridor comes from: the place, the first step whose rows are tried, the cost of waiting there and that of crossing.
-#[derive(Drop)]
+#[derive(Clone, Copy)]
 pub struct Source {
     pub place: Place,
     pub floor: Step,

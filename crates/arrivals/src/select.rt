@@ -58,7 +58,7 @@ pub fn led(table: &[u32], n: usize, here: Here, g: [u32; 3]) -> bool
 }
 
 // The least cost found so far, if there is one.
-#[derive(Drop)]
+#[derive(Clone, Copy)]
 pub struct Next {
     pub found: bool,
     pub cost: [u32; 3],

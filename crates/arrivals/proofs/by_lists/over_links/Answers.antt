@@ -1,0 +1,58 @@
+-- `arrivals::by_lists::over_links` meets its contract: the corridors into the place are gone through from the last. The loop's invariant: what comes over those
+-- from j on is offered.
+-- Assumes nothing.
+use mathlib.Core.Bool.{true}
+use mathlib.Core.Path.{◌∙◌, ◌≡◌, refl}
+use Prim.Native.Nat.{◌≤◌}
+use native.Mathlib.Omega.{arith}
+use lib.ListN.{length}
+use borrow.Author.Rules.{rules}
+use borrow.Author.Tests.{not-false}
+use Rattle.arrivals.specs.Inner.Entering.{Entry}
+use Rattle.arrivals.specs.Inner.Network.{case_of, count_of}
+use Rattle.arrivals.specs.Inner.Offering.{swept-full, swept_none, swept-ok}
+use Rattle.arrivals.specs.Inner.Sweeps.{Over, SweptAt, over-end, over_none, over-step, reaching-kept}
+use Rattle.arrivals.specs.Inner.Turning.{placeable-kept, placeable-none, shows_kept, sources-kept}
+use Rattle.arrivals.proofs.by_lists.over_links.Goals as goal
+
+pub last_link-j-requires : goal.last_link-j-requires
+last_link-j-requires c = (omega arith, c.requires.0.ready.inside, c.requires.0.given.size)
+
+pub loop-j-init : goal.loop-j-init
+loop-j-init c =
+    let p = c.requires in
+    let v = c.args.site.here.place.0 in (
+      omega (arith, c.last_link-j.ensures, p.0.given.into.heads v p.0.ready.inside),
+      refl,
+      swept_none (placeable-none p.0.ready).room
+          (λ g o. over_none _ _ _ _ _ _ _ g (λ i l m e. p.0.given.into.head v i p.0.ready.inside (omega (arith, c.last_link-j.ensures)) m e) o),
+    )
+
+pub over_link-r-requires : goal.over_link-r-requires
+over_link-r-requires c =
+    let p = c.requires in
+    let inv = c.loop-j.invariant in
+    (reaching-kept inv.1 inv.2.below p.0, placeable-kept inv.1 inv.2 (placeable-none p.0.ready), shows_kept inv.2.below p.1, sources-kept inv.2.below p.2, omega arith)
+
+pub returns-then-not-ok : goal.returns-then-not-ok
+returns-then-not-ok c = swept-full (λ j l. c.over_link-r.ensures.below j l ∙ c.loop-j.invariant.2.below j l) (omega (arith, c.requires.0.ready.room))
+
+pub next_link-j-requires : goal.next_link-j-requires
+next_link-j-requires c = let p = c.requires in (omega arith, omega (arith, p.0.given.few), p.0.given.size, omega arith, p.0.given.into)
+
+pub loop-j-smaller : goal.loop-j-smaller
+loop-j-smaller c = omega (arith, c.next_link-j.ensures.most)
+
+pub loop-j-preserved : goal.loop-j-preserved
+loop-j-preserved c =
+    let inv = c.loop-j.invariant in (
+      omega (arith, c.next_link-j.ensures.most),
+      search rules,
+      over-step _ _ _ _ _ _ _ c.loop-j.j _ _ _ _ _ _ (omega arith) inv.0 c.next_link-j.ensures inv.2 (swept-ok c.if-not-ok.false c.over_link-r.ensures),
+    )
+
+pub shape_of-table : goal.shape_of-table
+shape_of-table c = c.loop-j.invariant.1
+
+pub returns : goal.returns
+returns c = over-end _ _ _ _ _ _ c.loop-j.j _ _ _ (omega arith) c.loop-j.invariant.2

@@ -1,0 +1,23 @@
+-- `arrivals::by_lists::over_links` meets its contract: the corridors into the place are gone through from the last. The loop's invariant: what comes over those
+-- from j on is offered.
+-- Assumes nothing.
+use mathlib.Core.Bool.{true}
+use mathlib.Core.Path.{◌∙◌, ◌≡◌, refl}
+use Prim.Native.Nat.{◌≤◌}
+use native.Mathlib.Omega.{arith}
+use lib.ListN.{length}
+use borrow.Author.Rules.{rules}
+use borrow.Author.Tests.{not-false}
+use Rattle.arrivals.specs.Inner.Entering.{Entry}
+use Rattle.arrivals.specs.Inner.Network.{case_of, count_of}
+use Rattle.arrivals.specs.Inner.Offering.{swept-full, swept_none, swept-ok}
+use Rattle.arrivals.specs.Inner.Sweeps.{Over, SweptAt, over-end, over_none, over-step, reaching-kept}
+use Rattle.arrivals.specs.Inner.Turning.{placeable-kept, placeable-none, shows_kept, sources-kept}
+use Rattle.arrivals.proofs.by_lists.over_links.Given as goal
+
+abbrev pub invariant-loop-j : goal.invariant-loop-j
+invariant-loop-j l =
+    (l.j ≤ count_of l.net) × (length l.table ≡ length l.initial.table) × SweptAt (λ g. Over (Entry l.site.here l.a (case_of l.runs l.net) l.initial.table g) l.net l.j (count_of l.net)) l.site.here l.a l.initial.table l.table 0 true l.e
+
+abbrev pub decreases-loop-j : goal.decreases-loop-j
+decreases-loop-j l = l.j

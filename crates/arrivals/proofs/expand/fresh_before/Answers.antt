@@ -1,0 +1,26 @@
+-- `arrivals::expand::fresh_before` meets its contract: the departures are gone through downwards. The loop's invariant: a is before step t.
+-- Assumes nothing.
+use mathlib.Core.Path.{◌∙◌, sym}
+use Prim.Native.Nat.{◌<◌}
+use native.Mathlib.Omega.{arith}
+use borrow.Author.Rules.{rules}
+use Rattle.arrivals.specs.Inner.Pruning.{fresh_at, fresh-none}
+use Rattle.arrivals.proofs.expand.fresh_before.Goals as goal
+
+pub loop-a-init : goal.loop-a-init
+loop-a-init c = c.requires.3
+
+pub returns-then-a-here : goal.returns-then-a-here
+returns-then-a-here c = fresh-none _ _ _
+
+pub is_open-requires : goal.is_open-requires
+is_open-requires c = (c.requires.0, c.requires.1, c.requires.2)
+
+pub returns-then-is_open : goal.returns-then-is_open
+returns-then-is_open c = fresh_at _ _ _ _ (omega arith) c.loop-a.invariant (omega arith) (sym c.is_open.ensures ∙ c.if-is_open.true) c.requires.4
+
+pub loop-a-preserved : goal.loop-a-preserved
+loop-a-preserved c = omega (arith, c.loop-a.invariant)
+
+pub returns : goal.returns
+returns c = fresh-none _ _ _

@@ -1,0 +1,57 @@
+-- `arrivals::fill::fill_steps` meets its contract: the steps are filled in one after another. The loop's invariant: all is filled in before step
+-- t, and what corridors lead to from the rows of the step before is in `next`.
+-- Assumes nothing.
+use mathlib.Core.Path.{◌≡◌, refl, subst}
+use Prim.Native.Nat.{◌*◌, ◌+◌, ◌-◌, ◌≤◌}
+use native.Mathlib.Omega.{arith}
+use lib.ListN.{length}
+use borrow.Author.Rules.{rules}
+use borrow.Author.Tests.{not-false, not-true}
+use Rattle.arrivals.specs.Inner.Due.{IndexedShort, Onward, onward-all}
+use Rattle.arrivals.specs.Inner.Filling.{Filled, crowded-last, filled-last, result-done, result-full}
+use Rattle.arrivals.specs.Inner.Index.{Indexed, indexed-step}
+use Rattle.arrivals.specs.Inner.Lent.{given-linked}
+use Rattle.arrivals.specs.Inner.Network.{case_of}
+use Rattle.arrivals.specs.Inner.Rows.{rows_of}
+use Rattle.arrivals.proofs.fill.fill_steps.Goals as goal
+
+pub loop-t-init : goal.loop-t-init
+loop-t-init c = let p = c.requires in (p.0.first, p.3, p.0.room, refl, refl, p.0.filled, p.1, onward-all _ _ _ (given-linked p.0.given))
+
+pub fill_step-r-requires : goal.fill_step-r-requires
+fill_step-r-requires c =
+    let inv = c.loop-t.invariant in
+    let p = c.requires in (
+      record { given = p.0.given; inside = p.0.inside; first = inv.0; last = omega (arith, p.2); room = inv.2; filled = inv.5 },
+      λ b. (indexed-step _ (omega arith) (omega (arith, p.2)) (omega (arith, inv.4, p.5)) (inv.6 b).0, (inv.6 b).1),
+      p.4,
+      inv.7,
+    )
+
+pub returns-then-not-ok : goal.returns-then-not-ok
+returns-then-not-ok c = let r = c.fill_step-r.ensures in result-full _ _ _ _ _ r.result.room (crowded-last _ (omega arith) (r.result.full c.if-not-ok.true))
+
+pub loop-t-preserved : goal.loop-t-preserved
+loop-t-preserved c =
+    let r = c.fill_step-r.ensures in
+    let e = c.if-not-ok.false in
+    let t = c.loop-t.t in
+    let z : t ≡ t + 1 - 1 = omega arith in (
+      omega arith,
+      omega arith,
+      r.result.room,
+      search rules,
+      search rules,
+      r.result.done e,
+      λ b. let w = r.index e b in (subst (Indexed _ _ _) z w.0, w.1),
+      r.onward e,
+    )
+
+pub shape_of-table : goal.shape_of-table
+shape_of-table c = c.loop-t.invariant.3
+
+pub shape_of-ix : goal.shape_of-ix
+shape_of-ix c = c.loop-t.invariant.4
+
+pub returns : goal.returns
+returns c = let inv = c.loop-t.invariant in result-done _ _ _ _ _ inv.2 (filled-last _ _ _ _ inv.1 (omega arith) inv.5)

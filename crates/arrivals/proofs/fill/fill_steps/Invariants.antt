@@ -1,0 +1,22 @@
+-- `arrivals::fill::fill_steps` meets its contract: the steps are filled in one after another. The loop's invariant: all is filled in before step
+-- t, and what corridors lead to from the rows of the step before is in `next`.
+-- Assumes nothing.
+use mathlib.Core.Path.{◌≡◌, refl, subst}
+use Prim.Native.Nat.{◌*◌, ◌+◌, ◌-◌, ◌≤◌}
+use native.Mathlib.Omega.{arith}
+use lib.ListN.{length}
+use borrow.Author.Rules.{rules}
+use borrow.Author.Tests.{not-false, not-true}
+use Rattle.arrivals.specs.Inner.Due.{IndexedShort, Onward, onward-all}
+use Rattle.arrivals.specs.Inner.Filling.{Filled, crowded-last, filled-last, result-done, result-full}
+use Rattle.arrivals.specs.Inner.Index.{Indexed, indexed-step}
+use Rattle.arrivals.specs.Inner.Lent.{given-linked}
+use Rattle.arrivals.specs.Inner.Network.{case_of}
+use Rattle.arrivals.specs.Inner.Rows.{rows_of}
+use Rattle.arrivals.proofs.fill.fill_steps.Given as goal
+
+abbrev pub invariant-loop-t : goal.invariant-loop-t
+invariant-loop-t l = (1 ≤ l.t) × (l.t ≤ l.last.0 + 1) × (l.n * 5 ≤ length l.table) × (length l.table ≡ length l.initial.table) × (length l.ix ≡ length l.initial.ix) × Filled (case_of l.runs l.net) (rows_of l.table l.n) l.t 0 × IndexedShort l.table l.n l.ix (l.t - 1) l.t l.net × Onward l.net l.table l.n l.t l.next
+
+abbrev pub decreases-loop-t : goal.decreases-loop-t
+decreases-loop-t l = l.last.0 + 1 - l.t

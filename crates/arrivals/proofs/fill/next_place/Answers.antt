@@ -1,0 +1,65 @@
+-- `arrivals::fill::next_place` meets its contract. The loop's invariant: the places from v to u are passed over.
+-- Assumes nothing.
+use mathlib.Core.List.{List}
+use Prim.Native.Nat.{ℕ, ◌-◌, ◌≤◌}
+use native.Mathlib.Omega.{arith}
+use Rattle.arrivals.specs.Inner.Due.{Lookout}
+use Rattle.arrivals.specs.Inner.Network.{places_of}
+use Rattle.arrivals.specs.Inner.Walking.{Walking, pass-to, pass-occupied}
+use Rattle.arrivals.proofs.fill.next_place.Goals as goal
+
+pub places_of-places-requires : goal.places_of-places-requires
+places_of-places-requires c = c.requires.0.size
+
+pub loop-u-init : goal.loop-u-init
+loop-u-init c = (omega arith, λ xs n look w. w)
+
+pub next_in-w-requires : goal.next_in-w-requires
+next_in-w-requires c = omega (arith, c.places_of-places.ensures, c.requires.0.places)
+
+pub returns-then-places-w : goal.returns-then-places-w
+returns-then-places-w c =
+    let inv = c.loop-u.invariant in
+    let e = c.places_of-places.ensures in
+    record {
+      on = omega (arith, inv.0);
+      vacant = λ l. absurd (omega (arith, e));
+      passed = λ xs n look w. pass-to _ _ _ look (omega arith) (omega (arith, e)) (λ u a b. c.next_in-w.ensures.none u a (omega arith)) (inv.1 xs n look w);
+    }
+
+pub first_step-since-requires : goal.first_step-since-requires
+first_step-since-requires c =
+    let p = c.requires in
+    (omega (arith, c.places_of-places.ensures, p.0.places), p.1, p.0.intervals)
+
+pub returns-then-since-t : goal.returns-then-since-t
+returns-then-since-t c =
+    let inv = c.loop-u.invariant in
+    let e = c.places_of-places.ensures in
+    let z = c.next_in-w.ensures in
+    record {
+      on = omega (arith, inv.0, z.on);
+      vacant = λ l. omega (arith, c.first_step-since.ensures);
+      passed = λ xs n look w. pass-to _ _ _ look z.on (omega (arith, e)) z.none (inv.1 xs n look w);
+    }
+
+pub overflow_add-u : goal.overflow_add-u
+overflow_add-u c =
+    omega (arith, c.places_of-places.ensures, c.requires.0.places)
+
+pub loop-u-smaller : goal.loop-u-smaller
+loop-u-smaller c = omega (arith, c.places_of-places.ensures, c.next_in-w.ensures.on)
+
+pub loop-u-preserved : goal.loop-u-preserved
+loop-u-preserved c =
+    let inv = c.loop-u.invariant in
+    let e = c.places_of-places.ensures in
+    let z = c.next_in-w.ensures in (
+      omega (arith, inv.0, z.on),
+      λ xs n look w. pass-occupied (omega (arith, e)) (omega (arith, c.first_step-since.ensures)) (pass-to _ _ _ look z.on (omega (arith, e)) z.none (inv.1 xs n look w)),
+    )
+
+pub returns : goal.returns
+returns c =
+    let inv = c.loop-u.invariant in
+    record { on = inv.0; vacant = λ l. absurd (omega (arith, c.places_of-places.ensures)); passed = inv.1 }

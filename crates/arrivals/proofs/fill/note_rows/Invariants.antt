@@ -1,0 +1,15 @@
+-- `arrivals::fill::note_rows` meets its contract: the rows are noted step by step, and what a later row undercuts is left out after each step. The loop's
+-- invariant: the rows below k are those of so many steps, and are noted.
+-- Assumes nothing.
+use mathlib.Core.Path.{◌≡◌, refl}
+use Prim.Native.Nat.{◌-◌, ◌<◌}
+use native.Mathlib.Omega.{arith}
+use lib.ListN.{length}
+use Rattle.arrivals.specs.Inner.Renoting.{Renoted, renoted-none, renoted-next, renoted-settling, renoted-more, renoted-all}
+use Rattle.arrivals.proofs.fill.note_rows.Given as goal
+
+abbrev pub invariant-loop-k : goal.invariant-loop-k
+invariant-loop-k l = (length l.ix ≡ length l.initial.ix) × Renoted l.net l.table l.n l.k l.ix
+
+abbrev pub decreases-loop-k : goal.decreases-loop-k
+decreases-loop-k l = l.n - l.k

@@ -1,0 +1,29 @@
+-- `arrivals::fill::search_indexed` meets its contract: whichever the index, it is long enough.
+-- Assumes nothing.
+use mathlib.Core.Path.{sym, ap}
+use Prim.Native.Nat.{ℕ}
+use native.Mathlib.Omega.{arith}
+use lib.ListN.{replicate, length-replicate}
+use borrow.Author.Rules.{rules}
+use Rattle.arrivals.proofs.fill.search_indexed.Goals as goal
+
+pub search_by-requires : goal.search_by-requires
+search_by-requires c =
+    let p = c.requires in (p.0, ap (λ (n : ℕ). replicate {A = ℕ} n 0) (sym (length-replicate {A = ℕ} 2112 0)), omega (arith, length-replicate {A = ℕ} 2112 0, c.if-last-lt16.true), p.1)
+
+pub returns-then-last-lt16 : goal.returns-then-last-lt16
+returns-then-last-lt16 c = c.search_by.ensures
+
+pub search_by-requires-then-last-lt64 : goal.search_by-requires-then-last-lt64
+search_by-requires-then-last-lt64 c =
+    let p = c.requires in (p.0, ap (λ (n : ℕ). replicate {A = ℕ} n 0) (sym (length-replicate {A = ℕ} 8256 0)), omega (arith, length-replicate {A = ℕ} 8256 0, c.if-last-lt64.true), p.1)
+
+pub returns-then-last-lt64 : goal.returns-then-last-lt64
+returns-then-last-lt64 c = c.search_by-then-last-lt64.ensures
+
+pub search_by-requires-2 : goal.search_by-requires-2
+search_by-requires-2 c =
+    let p = c.requires in (p.0, ap (λ (n : ℕ). replicate {A = ℕ} n 0) (sym (length-replicate {A = ℕ} 32832 0)), omega (arith, length-replicate {A = ℕ} 32832 0, p.0.day), p.1)
+
+pub returns : goal.returns
+returns c = c.search_by-2.ensures

@@ -1,0 +1,14 @@
+-- `arrivals::index::group_end` meets its contract: rows are passed until one is of another place or step. The loop's invariant: the rows from k to i are of
+-- one place and step.
+-- Assumes nothing.
+use Prim.Native.Nat.{◌-◌, ◌≤◌, ◌<◌}
+use native.Mathlib.Omega.{arith}
+use borrow.Author.Rules.{rules}
+use Rattle.arrivals.specs.Inner.Renoting.{Same, same-one, same_more}
+use Rattle.arrivals.proofs.index.group_end.Given as goal
+
+abbrev pub invariant-loop-i : goal.invariant-loop-i
+invariant-loop-i l = (l.k < l.i) × (l.i ≤ l.n) × Same l.table l.k l.i
+
+abbrev pub decreases-loop-i : goal.decreases-loop-i
+decreases-loop-i l = l.n - l.i

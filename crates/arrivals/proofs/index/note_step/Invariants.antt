@@ -1,0 +1,13 @@
+-- `arrivals::index::note_step` meets its contract: the groups of the step are noted one after another. The loop's invariant: the rows from k to i are noted,
+-- and a group begins at i.
+-- Assumes nothing.
+use Prim.Native.Nat.{◌-◌}
+use native.Mathlib.Omega.{arith}
+use Rattle.arrivals.specs.Inner.Renoting.{Noting, noting-none, noting-more, noting-done}
+use Rattle.arrivals.proofs.index.note_step.Given as goal
+
+abbrev pub invariant-loop-i : goal.invariant-loop-i
+invariant-loop-i l = Noting l.table l.k l.n l.initial.ix l.ix l.i
+
+abbrev pub decreases-loop-i : goal.decreases-loop-i
+decreases-loop-i l = l.n - l.i

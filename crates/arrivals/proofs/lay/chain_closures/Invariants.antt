@@ -1,0 +1,20 @@
+-- `arrivals::lay::chain_closures` meets its contract: the closures are chained one after another. The loop's invariant: those below x are, and all
+-- else is kept.
+-- Assumes nothing.
+use mathlib.Core.Logic.{inl, inr}
+use mathlib.Core.Path.{◌∙◌, ◌≡◌, refl, subst}
+use Prim.Native.Nat.{◌-◌, ◌≤◌}
+use native.Mathlib.Omega.{arith}
+use borrow.Author.Rules.{rules}
+use Rattle.arrivals.specs.Inner.Chains.{by_cell, Chained, chained-none}
+use Rattle.arrivals.specs.Inner.Laying.{Celled, celled-kept}
+use Rattle.arrivals.specs.Rows.{Besides}
+use Rattle.arrivals.specs.Laws.Rows.{besides-none, besides-then}
+use Rattle.arrivals.specs.Inner.Network.{closures_of}
+use Rattle.arrivals.proofs.lay.chain_closures.Given as goal
+
+abbrev pub invariant-loop-x : goal.invariant-loop-x
+invariant-loop-x l = (l.x ≤ closures_of l.initial.net) × Celled l.net × (closures_of l.net ≡ closures_of l.initial.net) × Chained by_cell l.net l.x × Besides 2436 3716 l.initial.net l.net
+
+abbrev pub decreases-loop-x : goal.decreases-loop-x
+decreases-loop-x l = closures_of l.initial.net - l.x

@@ -1,0 +1,18 @@
+-- `arrivals::lay::copy` meets its contract: the numbers are copied one after another. The loop's invariant: those below i are, and all else is kept.
+-- Assumes nothing.
+use mathlib.Core.Path.{◌≡◌}
+use Prim.Native.Nat.{ℕ, ◌+◌, ◌-◌, ◌<◌, ◌≤◌}
+use native.Mathlib.Omega.{arith}
+use lib.ListN.{get_or}
+use borrow.Author.Rules.{rules}
+use Rattle.sheet.specs.Lists.{number}
+use Rattle.sheet.specs.Laws.Decided.{fill-from}
+use Rattle.arrivals.specs.Rows.{Besides}
+use Rattle.arrivals.specs.Laws.Rows.{besides-none, besides-set, besides-then}
+use Rattle.arrivals.proofs.lay.copy.Given as goal
+
+abbrev pub invariant-loop-i : goal.invariant-loop-i
+invariant-loop-i l = (l.i ≤ l.n) × ((q : ℕ) → q < l.i → get_or l.net (l.at + q) 0 ≡ get_or l.all (l.from + q) 0) × Besides l.at (l.at + l.n) l.initial.net l.net
+
+abbrev pub decreases-loop-i : goal.decreases-loop-i
+decreases-loop-i l = l.n - l.i

@@ -1,0 +1,20 @@
+-- `arrivals::lay::lay_waits` meets its contract: the costs are stored place by place. The loop's invariant: those of the places below v are, and
+-- all else is kept.
+-- Assumes nothing.
+use mathlib.Core.Path.{subst}
+use Prim.Native.Nat.{◌-◌, ◌≤◌}
+use native.Mathlib.Omega.{arith}
+use borrow.Author.Rules.{rules}
+use Rattle.sheet.specs.Lists.{number}
+use Rattle.sheet.specs.Store.{sheet_in}
+use Rattle.arrivals.specs.Inner.Laying.{WaitsTo, waits-more}
+use Rattle.arrivals.specs.Inner.OfSheet.{whole-store, head_at, few-places}
+use Rattle.arrivals.specs.Rows.{Besides}
+use Rattle.arrivals.specs.Laws.Rows.{besides-none, besides-then, besides-wide}
+use Rattle.arrivals.proofs.lay.lay_waits.Given as goal
+
+abbrev pub invariant-loop-v : goal.invariant-loop-v
+invariant-loop-v l = (l.v ≤ number l.all 0) × (number l.all 0 ≤ 64) × WaitsTo (sheet_in l.lines l.all) l.net l.v × Besides 0 192 l.initial.net l.net
+
+abbrev pub decreases-loop-v : goal.decreases-loop-v
+decreases-loop-v l = number l.all 0 - l.v

@@ -1,0 +1,19 @@
+-- `arrivals::lay::weigh` meets its contract: the corridors are weighed one after another. The loop's invariant: those below j are, and all else
+-- is kept.
+-- Assumes nothing.
+use mathlib.Core.Logic.{inl, inr}
+use mathlib.Core.Path.{◌∙◌, ◌≡◌, refl, subst}
+use Prim.Native.Nat.{◌-◌, ◌≤◌}
+use native.Mathlib.Omega.{arith}
+use Rattle.arrivals.specs.Inner.Laying.{WeighedTo, linked-kept}
+use Rattle.arrivals.specs.Inner.Lent.{Linked}
+use Rattle.arrivals.specs.Rows.{Besides}
+use Rattle.arrivals.specs.Laws.Rows.{besides-none, besides-then}
+use Rattle.arrivals.specs.Inner.Network.{count_of}
+use Rattle.arrivals.proofs.lay.weigh.Given as goal
+
+abbrev pub invariant-loop-j : goal.invariant-loop-j
+invariant-loop-j l = (l.j ≤ count_of l.initial.net) × Linked l.net × (count_of l.net ≡ count_of l.initial.net) × WeighedTo l.net l.j × Besides 2180 2436 l.initial.net l.net
+
+abbrev pub decreases-loop-j : goal.decreases-loop-j
+decreases-loop-j l = count_of l.initial.net - l.j

@@ -1,0 +1,24 @@
+-- `arrivals::lists::retain` meets its contract: cost after cost is kept or dropped. The loop's invariant: k of the first i costs are kept, and the others are
+-- led.
+-- Assumes nothing.
+use Prim.Native.Nat.{◌-◌, ◌≤◌}
+use native.Mathlib.Omega.{arith}
+use borrow.Author.Rules.{rules}
+use Rattle.arrivals.specs.Inner.Keeping.{retained-end, retained-more, retained-none}
+use Rattle.arrivals.specs.Inner.Lists.{RetainedTo}
+use Rattle.arrivals.proofs.lists.retain.Goals as goal
+
+pub loop-i-init : goal.loop-i-init
+loop-i-init c = (omega arith, retained-none _ _ _ _)
+
+pub retain_one-k-requires : goal.retain_one-k-requires
+retain_one-k-requires c = let r = c.loop-i.invariant.1 in (r.most, omega arith, omega (arith, r.others.size, c.requires))
+
+pub loop-i-preserved : goal.loop-i-preserved
+loop-i-preserved c = (omega arith, retained-more _ _ _ _ _ _ _ _ _ c.loop-i-test.true c.loop-i.invariant.1 c.retain_one-k.ensures)
+
+pub shape_of-live : goal.shape_of-live
+shape_of-live c = c.loop-i.invariant.1.others.size
+
+pub returns : goal.returns
+returns c = retained-end _ _ _ _ _ _ _ c.loop-i.invariant.0 c.loop-i-test.false c.loop-i.invariant.1

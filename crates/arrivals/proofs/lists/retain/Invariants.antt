@@ -1,0 +1,15 @@
+-- `arrivals::lists::retain` meets its contract: cost after cost is kept or dropped. The loop's invariant: k of the first i costs are kept, and the others are
+-- led.
+-- Assumes nothing.
+use Prim.Native.Nat.{◌-◌, ◌≤◌}
+use native.Mathlib.Omega.{arith}
+use borrow.Author.Rules.{rules}
+use Rattle.arrivals.specs.Inner.Keeping.{retained-end, retained-more, retained-none}
+use Rattle.arrivals.specs.Inner.Lists.{RetainedTo}
+use Rattle.arrivals.proofs.lists.retain.Given as goal
+
+abbrev pub invariant-loop-i : goal.invariant-loop-i
+invariant-loop-i l = (l.i ≤ l.n) × RetainedTo l.initial.live l.live l.at l.n l.m l.i l.k
+
+abbrev pub decreases-loop-i : goal.decreases-loop-i
+decreases-loop-i l = l.n - l.i

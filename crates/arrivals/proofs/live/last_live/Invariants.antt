@@ -1,0 +1,16 @@
+-- `arrivals::live::last_live` meets its contract. The loop's invariant: the rows of the span from k on are undercut.
+-- Assumes nothing.
+use mathlib.Core.Path.{◌≡◌, subst}
+use mathlib.Core.Logic.{⊎_elim}
+use Prim.Native.Nat.{ℕ, ◌-◌, ◌≤◌, ◌<◌}
+use native.Mathlib.Omega.{arith}
+use borrow.Author.Tests.{not-false}
+use Rattle.sheet.specs.Laws.Decided.{lt-or-le}
+use Rattle.arrivals.specs.Inner.Settling.{Undercut}
+use Rattle.arrivals.proofs.live.last_live.Given as goal
+
+abbrev pub invariant-loop-k : goal.invariant-loop-k
+invariant-loop-k l = (l.span.lo ≤ l.k) × (l.k ≤ l.span.hi) × ((i : ℕ) → l.k ≤ i → i < l.span.hi → Undercut l.table l.lag l.by i)
+
+abbrev pub decreases-loop-k : goal.decreases-loop-k
+decreases-loop-k l = l.k

@@ -1,0 +1,16 @@
+-- `arrivals::offers::insert` meets its contract: the rows move up by one, the last first. The loop's invariant: those from k on have, and the rest
+-- is as it was.
+-- Assumes nothing.
+use mathlib.Core.Path.{◌≡◌, refl}
+use Prim.Native.Nat.{◌≤◌}
+use native.Mathlib.Omega.{arith}
+use lib.ListN.{length}
+use borrow.Author.Rules.{rules}
+use Rattle.arrivals.specs.Inner.Offering.{Moved, moved-end, moved_more}
+use Rattle.arrivals.proofs.offers.insert.Given as goal
+
+abbrev pub invariant-loop-k : goal.invariant-loop-k
+invariant-loop-k l = (l.k ≤ l.d) × (length l.table ≡ length l.initial.table) × Moved l.a l.k l.d l.initial.table l.table
+
+abbrev pub decreases-loop-k : goal.decreases-loop-k
+decreases-loop-k l = l.k

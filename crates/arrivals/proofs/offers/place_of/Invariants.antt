@@ -1,0 +1,14 @@
+-- `arrivals::offers::place_of` meets its contract: the place is searched from the end. The loop's invariant: the rows from k on come after g.
+-- Assumes nothing.
+use Prim.Native.Nat.{◌≤◌}
+use native.Mathlib.Omega.{arith}
+use borrow.Author.Rules.{rules}
+use Rattle.sheet.specs.Laws.Decided.{no_of, yes_of}
+use Rattle.arrivals.specs.Inner.Offering.{After, after_more}
+use Rattle.arrivals.proofs.offers.place_of.Given as goal
+
+abbrev pub invariant-loop-g : goal.invariant-loop-g
+invariant-loop-g l = (l.k ≤ l.d) × After l.g l.a l.k l.d l.table
+
+abbrev pub decreases-loop-g : goal.decreases-loop-g
+decreases-loop-g l = l.k

@@ -1,0 +1,17 @@
+-- `arrivals::offers::thin` meets its contract: row after row is kept or dropped. The loop's invariant: k of the first i rows are kept, and the
+-- rows past them are as they were.
+-- Assumes nothing.
+use mathlib.Core.Path.{◌∙◌, ◌≡◌, refl}
+use Prim.Native.Nat.{◌*◌, ◌+◌, ◌-◌, ◌<◌, ◌≤◌, ℕ}
+use native.Mathlib.Omega.{arith}
+use lib.ListN.{get_or, length}
+use borrow.Author.Rules.{rules}
+use Rattle.arrivals.specs.Inner.Offering.{Thin, thin-end, thin-more, thin-zero}
+use Rattle.arrivals.specs.Inner.Rows.{tail_of}
+use Rattle.arrivals.proofs.offers.thin.Given as goal
+
+abbrev pub invariant-loop-i : goal.invariant-loop-i
+invariant-loop-i l = (l.k ≤ l.i) × (l.i ≤ l.d) × (length l.table ≡ length l.initial.table) × ((j : ℕ) → j < l.a * 5 → get_or l.table j 0 ≡ get_or l.initial.table j 0) × ((j : ℕ) → (l.a + l.i) * 5 ≤ j → get_or l.table j 0 ≡ get_or l.initial.table j 0) × Thin l.g (tail_of l.initial.table l.a l.i) (tail_of l.table l.a l.k)
+
+abbrev pub decreases-loop-i : goal.decreases-loop-i
+decreases-loop-i l = l.d - l.i

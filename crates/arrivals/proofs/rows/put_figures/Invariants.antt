@@ -1,0 +1,18 @@
+-- `arrivals::rows::put_figures` meets its contract: three stores. The loop's invariant: the figures below i are stored, and all else is kept.
+-- Assumes nothing.
+use mathlib.Core.Path.{◌≡◌}
+use Prim.Native.Nat.{◌+◌, ◌-◌, ◌<◌, ◌≤◌, ℕ}
+use native.Mathlib.Omega.{arith}
+use lib.ListN.{get_or}
+use borrow.Author.Rules.{rules}
+use Rattle.sheet.specs.Laws.Decided.{fill-from, from-of}
+use Rattle.costs.specs.Costs.{fig, figures}
+use Rattle.arrivals.specs.Laws.Rows.{besides-none, besides-set, besides-then}
+use Rattle.arrivals.specs.Rows.{Besides}
+use Rattle.arrivals.proofs.rows.put_figures.Given as goal
+
+abbrev pub invariant-loop-i : goal.invariant-loop-i
+invariant-loop-i l = (l.i ≤ 3) × ((q : ℕ) → q < l.i → get_or l.s (l.at + q) 0 ≡ fig l.c q) × Besides l.at (l.at + 3) l.initial.s l.s
+
+abbrev pub decreases-loop-i : goal.decreases-loop-i
+decreases-loop-i l = 3 - l.i

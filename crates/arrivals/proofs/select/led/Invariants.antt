@@ -1,0 +1,16 @@
+-- `arrivals::select::led` meets its contract: the rows are gone through from the last. The loop's invariant: no row from k on leads.
+-- Assumes nothing.
+use Prim.Native.Nat.{◌-◌, ◌<◌, ◌≤◌, ℕ}
+use native.Mathlib.Omega.{arith}
+use borrow.Author.Rules.{rules}
+use Rattle.sheet.specs.Laws.Decided.{fails, holds, no_of, yes_of}
+use Rattle.arrivals.specs.Inner.Entering.{RowLeadsAt}
+use Rattle.arrivals.specs.Inner.Rows.{Bounded, all-at, any_at, none_below, none-down}
+use Rattle.arrivals.specs.Rows.{row_at}
+use Rattle.arrivals.proofs.select.led.Given as goal
+
+abbrev pub invariant-loop-k : goal.invariant-loop-k
+invariant-loop-k l = (l.k ≤ l.n) × ((j : ℕ) → l.k ≤ j → j < l.n → RowLeadsAt l.here l.g (row_at l.table j) → ⊥)
+
+abbrev pub decreases-loop-k : goal.decreases-loop-k
+decreases-loop-k l = l.k

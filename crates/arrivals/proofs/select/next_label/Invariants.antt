@@ -1,0 +1,18 @@
+-- `arrivals::select::next_label` meets its contract: the corridors are tried one after another. The loop's invariant: b is the best over those
+-- below j.
+-- Assumes nothing.
+use mathlib.Core.Bool.{false}
+use mathlib.Core.Path.{◌≡◌, refl}
+use Prim.Native.Nat.{◌-◌, ◌≤◌}
+use native.Mathlib.Omega.{arith}
+use Rattle.arrivals.specs.Inner.Entering.{Enters, LedAt}
+use Rattle.arrivals.specs.Inner.Network.{case_of, count_of, link_at, links-more, links-zero, links_of}
+use Rattle.arrivals.specs.Inner.Rows.{rows_of}
+use Rattle.arrivals.specs.Inner.Selecting.{Improved, Scan, least-of, scan-end, scan-more, scan-none}
+use Rattle.arrivals.proofs.select.next_label.Given as goal
+
+abbrev pub invariant-loop-j : goal.invariant-loop-j
+invariant-loop-j l = (l.j ≤ count_of l.net) × (l.initial.b.found ≡ false) × Improved (Scan (Enters (case_of l.runs l.net) (rows_of l.table l.n) l.here.place.0 l.here.step.0) (λ g. LedAt (rows_of l.table l.n) l.here g → ⊥) (link_at l.net) (links_of l.net) l.j) l.initial.b l.b
+
+abbrev pub decreases-loop-j : goal.decreases-loop-j
+decreases-loop-j l = count_of l.net - l.j

@@ -1,0 +1,16 @@
+-- `arrivals::watch::watch_closures` meets its contract. The loop's invariant: the places of the first x closures are added.
+-- Assumes nothing.
+use mathlib.Core.Path.{◌≡◌, refl, subst}
+use Prim.Native.Nat.{ℕ, ◌-◌, ◌≤◌}
+use native.Mathlib.Omega.{arith}
+use lib.ListN.{length}
+use borrow.Author.Rules.{rules}
+use Rattle.arrivals.specs.Inner.Network.{closures_of}
+use Rattle.arrivals.specs.Inner.Due.{ClosuresWatched, closures-none, closures-more}
+use Rattle.arrivals.proofs.watch.watch_closures.Given as goal
+
+abbrev pub invariant-loop-x : goal.invariant-loop-x
+invariant-loop-x l = (l.x ≤ closures_of l.net) × (length l.sets ≡ length l.initial.sets) × ClosuresWatched l.net l.x l.initial.sets l.sets
+
+abbrev pub decreases-loop-x : goal.decreases-loop-x
+decreases-loop-x l = closures_of l.net - l.x

@@ -1,0 +1,16 @@
+-- `arrivals::watch::watch_links` meets its contract. The loop's invariant: the places of the first j corridors are added.
+-- Assumes nothing.
+use mathlib.Core.Path.{◌≡◌, refl, subst}
+use Prim.Native.Nat.{ℕ, ◌-◌, ◌≤◌}
+use native.Mathlib.Omega.{arith}
+use lib.ListN.{length}
+use borrow.Author.Rules.{rules}
+use Rattle.arrivals.specs.Inner.Network.{count_of}
+use Rattle.arrivals.specs.Inner.Due.{LinksWatched, links-none, links-more}
+use Rattle.arrivals.proofs.watch.watch_links.Given as goal
+
+abbrev pub invariant-loop-j : goal.invariant-loop-j
+invariant-loop-j l = (l.j ≤ count_of l.net) × (length l.sets ≡ length l.initial.sets) × LinksWatched l.net l.j l.initial.sets l.sets
+
+abbrev pub decreases-loop-j : goal.decreases-loop-j
+decreases-loop-j l = count_of l.net - l.j
