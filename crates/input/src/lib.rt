@@ -1,4 +1,7 @@
 // What a program reads of its standard input (document 01, "The program reads a sheet on standard input ..."; document 02, E3, of a month).
+
+#![tactic(auto)]
+
 ghost use Rattle.input.specs.Input.{Within};
 
 // What standard input gave: so many bytes, or a read that failed.

@@ -23,7 +23,7 @@ pub struct Offered {
 
 // The rows passed and to be passed: the first row ahead and the count of them, the stair's first row and the count of its rows, the count of rows on
 // the front so far and the last of them.
-#[derive(Drop)]
+#[derive(Clone, Copy)]
 pub struct Sweep {
     pub at: u32,
     pub rest: usize,

@@ -1,5 +1,7 @@
 // The front of journeys and the journey of each front cost (document 01, "What is handed back").
 
+#![tactic(auto)]
+
 pub mod chain; // chain.rt: chains of rows of the arrivals table
 pub mod counting; // counting.rt: which arrivals at the goal count
 pub mod goal; // goal.rt: the goal's rows of the arrivals table, in the order of their costs

@@ -11,7 +11,7 @@ use costs::before;
 use sheet::{Place, Step};
 
 // Where a cart stands: a place, a step and the cost so far. A row of the table tells one.
-#[derive(Drop)]
+#[derive(Clone, Copy)]
 pub struct Stand {
     pub place: Place,
     pub step: Step,

@@ -1,4 +1,7 @@
 // The page of a month for the bytes of its lines (document 02, E3).
+
+#![tactic(auto)]
+
 ghost use Rattle.std.specs.Prelude.{◌≡◌, ◌+◌, ◌≤◌, ◌<◌, length};
 ghost use Rattle.sheet.specs.Laws.Puts.{Puts};
 ghost use Rattle.month.specs.Month.{page, page_room, held};

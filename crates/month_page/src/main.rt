@@ -1,6 +1,9 @@
 // The program: the lines of a month on standard input, its page on standard output (document 02, E3, "A program reads them and prints ..."). It reads
 // one byte more than decide the page: what stands after them in a longer input changes nothing (`page-cut` in crates/month/specs/Laws/Cut.antt).
 // Where a read fails there is no month and no page.
+
+#![tactic(auto)]
+
 ghost use Rattle.month_page.specs.Inner.{Enough, WholePage};
 
 use input::{Input, read_input};

@@ -1,4 +1,7 @@
 // The page that the program prints for the bytes of a sheet (document 01, "The program reads a sheet on standard input ...").
+
+#![tactic(auto)]
+
 ghost use Rattle.std.specs.Prelude.{◌≡◌};
 ghost use Rattle.sheet.specs.Store.{SomeStore, sheet_in};
 ghost use Rattle.sheet.specs.Laws.Puts.{Puts};

@@ -1,6 +1,9 @@
 // The program: a sheet on standard input, its page on standard output (document 01, "The program reads a sheet on standard input ..."). It reads one
 // byte more than a sheet may have, so that a longer input is seen and refused with 1 (`page-cut` in crates/page/specs/Laws/Page.antt): its buffer
 // is made from the limit that the reader tests. Where a read fails there is no sheet and no page.
+
+#![tactic(auto)]
+
 use input::{Input, read_input};
 use page::page_of;
 use sheet::kinds::MOST_BYTES;

@@ -1,5 +1,8 @@
 // The calls for the host (document 01, "What is handed back"; the kind of a byte, document 02, E4): each hands on to the function below it with the same
 // promise.
+
+#![tactic(auto)]
+
 ghost use Rattle.std.specs.Prelude.{◌≡◌};
 ghost use Rattle.sheet.specs.Bytes.{kind_of};
 ghost use Rattle.sheet.specs.Calls.{read_call, write_call, write_end};

@@ -110,9 +110,8 @@ misplaced-is {before = []} {lines = lines} {all = all} S {k = k} h v =
     go false q = refl
 misplaced-is {before = m ∷ before} {lines = lines} {all = all} S {k = k} h v =
     ap (λ (t : Bool). eqb (kind_at k).order 0 || any (λ l. ltb (kind_at k).order l.kind.order) (m ∷ before) || t) (turn_is S h v)
-    ∙ ap (λ (j : ℕ). eqb j 0 || any (λ l. ltb j l.kind.order) (m ∷ before) || turn_by lines all k v) (order-at k h)
-    ∙ ap (λ (r : Bool). eqb k 0 || r || turn_by lines all k v) (later-counted S k)
-    ∙ rw (head-count S) (go (eqb k 0) (any counted (drop (suc k) lines)))
+    ∙ ap (λ (o : ℕ). eqb o 0 || any (λ l. ltb o l.kind.order) (m ∷ before) || turn_by lines all k v) (order-at k h)
+    ∙ rw (head-count S, ← later-counted S k) (go (eqb k 0) (any (λ l. ltb k l.kind.order) (m ∷ before)))
   where
     go : (b r : Bool) → b || r || turn_by lines all k v ≡ pick b true r || turn_by lines all k v
     go true r = refl

@@ -3,116 +3,64 @@
 -- Assumes nothing.
 use mathlib.Core.Path.{◌≡◌, refl, sym, ◌∙◌, subst}
 use mathlib.Core.List.{List}
-use Prim.Native.Nat.{ℕ, ◌≤◌, ◌<◌, ◌-◌, ◌+◌}
+use Prim.Native.Nat.{ℕ, ◌≤◌, ◌<◌, ◌+◌}
 use native.Mathlib.Omega.{arith}
 use lib.ListN.{length, get_or, drop}
-use borrow.Author.Rules.{rules}
 use Rattle.sheet.specs.Bytes.{kind_of, line_feed}
 use Rattle.sheet.specs.Inner.{span_of}
 use Rattle.sheet.specs.Laws.Parts.{span-stop, span_more}
 use Rattle.sheet.proofs.bytes.feed_from.Invariants.{Ahead}
 use Rattle.sheet.proofs.bytes.feed_from.Goals as goal
-use Rattle.sheet.proofs.bytes.feed_from.Goals.{After-kind_of, After-kind_of-in-loop-i, After-kind_of-in-loop-i-2, After-kind_of-in-loop-i-3, Else-kind_of-eq-LINE_FEED, Else-kind_of-eq-LINE_FEED-2, Else-kind_of-eq-LINE_FEED-3, Else-kind_of-eq-LINE_FEED-4, In-loop-i}
 
--- the byte at i is a line feed, or it is passed
-here : (s : List ℕ) (at i : ℕ) → i < length s → Ahead s at i → kind_of (get_or s i 0) ≡ line_feed → i ≡ at + span_of line_feed (drop at s)
-here s at i h a e = omega (arith, span-stop s i line_feed h e)
+-- the byte at i, of kind r, is a line feed, or it is passed
+here : (s : List ℕ) (at i r : ℕ) → i < length s → Ahead s at i → r ≡ kind_of (get_or s i 0) → r ≡ line_feed → i ≡ at + span_of line_feed (drop at s)
+here s at i r h a k e = omega (arith, span-stop s i line_feed h (sym k ∙ e))
 
-past : (s : List ℕ) (at i j : ℕ) → i < length s → j ≡ i + 1 → Ahead s at i → (kind_of (get_or s i 0) ≡ line_feed → ⊥) → Ahead s at j
-past s at i j h e a n = subst (Ahead s at) (sym e) (omega (arith, span_more s i line_feed h n))
+past : (s : List ℕ) (at i j r : ℕ) → i < length s → j ≡ i + 1 → Ahead s at i → r ≡ kind_of (get_or s i 0) → (r ≡ line_feed → ⊥) → Ahead s at j
+past s at i j r h e a k n = subst (Ahead s at) (sym e) (omega (arith, span_more s i line_feed h (λ f. n (k ∙ f))))
 
-pub loop-i-init : goal.loop-i-init
-loop-i-init c = (c.requires, refl)
+-- the bytes of a turn from i on, of kinds q, r, t and u, are passed
+module _ (s : List ℕ) (at i : ℕ) (h : i + 4 ≤ length s) (a : Ahead s at i) (q : ℕ) (qk : q ≡ kind_of (get_or s i 0)) (qn : q ≡ line_feed → ⊥) where
+  passed-1 : Ahead s at (i + 1)
+  passed-1 = past s at i (i + 1) q (omega arith) refl a qk qn
 
-pub overflow_sub-s : goal.overflow_sub-s
-overflow_sub-s c = omega arith
+  module _ (r : ℕ) (rk : r ≡ kind_of (get_or s (i + 1) 0)) (rn : r ≡ line_feed → ⊥) where
+    passed-2 : Ahead s at (i + 2)
+    passed-2 = past s at (i + 1) (i + 2) r (omega arith) (omega arith) passed-1 rk rn
 
--- what was sought is ahead of a position j bytes on
-abbrev AheadOf : In-loop-i → ℕ → Type 0
-AheadOf t j = let a = t.args in Ahead a.s.now a.at (t.loop-i.i + j)
+    module _ (t : ℕ) (tk : t ≡ kind_of (get_or s (i + 2) 0)) (tn : t ≡ line_feed → ⊥) where
+      passed-3 : Ahead s at (i + 3)
+      passed-3 = past s at (i + 2) (i + 3) t (omega arith) (omega arith) passed-2 tk tn
 
-passed-1 : (c : Else-kind_of-eq-LINE_FEED) → AheadOf c.before 1
-passed-1 c =
-    let t = c.before in
-    past _ _ _ _ (omega (arith, t)) refl t.loop-i.inv.1 (λ e. c.if-kind_of-eq-LINE_FEED.false (c.kind_of.ensures ∙ e))
-
-passed-2 : (c : Else-kind_of-eq-LINE_FEED-2) → AheadOf c.before 2
-passed-2 c =
-    let t = c.before in
-    past _ _ (t.loop-i.i + 1) _ (omega (arith, t)) (omega arith) (passed-1 c.before.before.before)
-    (λ e. c.if-kind_of-eq-LINE_FEED-2.false (c.kind_of-in-loop-i.ensures ∙ e))
-
-passed-3 : (c : Else-kind_of-eq-LINE_FEED-3) → AheadOf c.before 3
-passed-3 c =
-    let t = c.before in
-    past _ _ (t.loop-i.i + 2) _ (omega (arith, t)) (omega arith) (passed-2 c.before.before.before)
-    (λ e. c.if-kind_of-eq-LINE_FEED-3.false (c.kind_of-in-loop-i-2.ensures ∙ e))
-
-passed-4 : (c : Else-kind_of-eq-LINE_FEED-4) → AheadOf c.before 4
-passed-4 c =
-    let t = c.before in
-    past _ _ (t.loop-i.i + 3) _ (omega (arith, t)) (omega arith) (passed-3 c.before.before.before)
-    (λ e. c.if-kind_of-eq-LINE_FEED-4.false (c.kind_of-in-loop-i-3.ensures ∙ e))
-
-pub bounds-s-i : goal.bounds-s-i
-bounds-s-i c = omega (arith, (goal.at.bounds-s-i c).In-loop-i)
+      passed-4 : (u : ℕ) → u ≡ kind_of (get_or s (i + 3) 0) → (u ≡ line_feed → ⊥) → Ahead s at (i + 4)
+      passed-4 u uk un = past s at (i + 3) (i + 4) u (omega arith) (omega arith) passed-3 uk un
 
 pub returns-then-kind_of-eq-LINE_FEED : goal.returns-then-kind_of-eq-LINE_FEED
-returns-then-kind_of-eq-LINE_FEED c = let t = (goal.at.returns-then-kind_of-eq-LINE_FEED c).After-kind_of in here _ _ _ (omega (arith, t)) t.loop-i.inv.1 (sym c.kind_of.ensures ∙ c.if-kind_of-eq-LINE_FEED.true)
-
-pub overflow_add-i : goal.overflow_add-i
-overflow_add-i c = omega (arith, (goal.at.overflow_add-i c).After-kind_of)
-
-pub bounds-s-i-in-loop-i : goal.bounds-s-i-in-loop-i
-bounds-s-i-in-loop-i c = omega (arith, (goal.at.bounds-s-i-in-loop-i c).After-kind_of)
-
-pub overflow_add-result : goal.overflow_add-result
-overflow_add-result c = omega (arith, (goal.at.overflow_add-result c).After-kind_of-in-loop-i)
+returns-then-kind_of-eq-LINE_FEED c = here c.args.s.now c.args.at c.loop-i.i _ (omega arith) c.loop-i.invariant.1 c.kind_of.ensures c.if-kind_of-eq-LINE_FEED.true
 
 pub returns-then-kind_of-eq-LINE_FEED-2 : goal.returns-then-kind_of-eq-LINE_FEED-2
 returns-then-kind_of-eq-LINE_FEED-2 c =
-    let t = (goal.at.returns-then-kind_of-eq-LINE_FEED-2 c).After-kind_of-in-loop-i in
-    here _ _ _ (omega (arith, t)) (passed-1 (goal.at.returns-then-kind_of-eq-LINE_FEED-2 c).Else-kind_of-eq-LINE_FEED) (sym c.kind_of-in-loop-i.ensures ∙ c.if-kind_of-eq-LINE_FEED-2.true)
-
-pub overflow_add-i-in-loop-i : goal.overflow_add-i-in-loop-i
-overflow_add-i-in-loop-i c = omega (arith, (goal.at.overflow_add-i-in-loop-i c).After-kind_of-in-loop-i)
-
-pub bounds-s-i-in-loop-i-2 : goal.bounds-s-i-in-loop-i-2
-bounds-s-i-in-loop-i-2 c = omega (arith, (goal.at.bounds-s-i-in-loop-i-2 c).After-kind_of-in-loop-i)
-
-pub overflow_add-result-then-kind_of-eq-LINE_FEED-3 : goal.overflow_add-result-then-kind_of-eq-LINE_FEED-3
-overflow_add-result-then-kind_of-eq-LINE_FEED-3 c = omega (arith, (goal.at.overflow_add-result-then-kind_of-eq-LINE_FEED-3 c).After-kind_of-in-loop-i-2)
+    here c.args.s.now c.args.at (c.loop-i.i + 1) _ (omega arith)
+    (passed-1 c.args.s.now c.args.at c.loop-i.i (omega arith) c.loop-i.invariant.1 _ c.kind_of.ensures c.if-kind_of-eq-LINE_FEED.false)
+    c.kind_of-in-loop-i.ensures c.if-kind_of-eq-LINE_FEED-2.true
 
 pub returns-then-kind_of-eq-LINE_FEED-3 : goal.returns-then-kind_of-eq-LINE_FEED-3
 returns-then-kind_of-eq-LINE_FEED-3 c =
-    let t = (goal.at.returns-then-kind_of-eq-LINE_FEED-3 c).After-kind_of-in-loop-i-2 in
-    here _ _ _ (omega (arith, t)) (passed-2 (goal.at.returns-then-kind_of-eq-LINE_FEED-3 c).Else-kind_of-eq-LINE_FEED-2) (sym c.kind_of-in-loop-i-2.ensures ∙ c.if-kind_of-eq-LINE_FEED-3.true)
-
-pub overflow_add-i-in-loop-i-2 : goal.overflow_add-i-in-loop-i-2
-overflow_add-i-in-loop-i-2 c = omega (arith, (goal.at.overflow_add-i-in-loop-i-2 c).After-kind_of-in-loop-i-2)
-
-pub bounds-s-i-in-loop-i-3 : goal.bounds-s-i-in-loop-i-3
-bounds-s-i-in-loop-i-3 c = omega (arith, (goal.at.bounds-s-i-in-loop-i-3 c).After-kind_of-in-loop-i-2)
-
-pub overflow_add-result-then-kind_of-eq-LINE_FEED-4 : goal.overflow_add-result-then-kind_of-eq-LINE_FEED-4
-overflow_add-result-then-kind_of-eq-LINE_FEED-4 c = omega (arith, (goal.at.overflow_add-result-then-kind_of-eq-LINE_FEED-4 c).After-kind_of-in-loop-i-3)
+    here c.args.s.now c.args.at (c.loop-i.i + 2) _ (omega arith)
+    (passed-2 c.args.s.now c.args.at c.loop-i.i (omega arith) c.loop-i.invariant.1 _ c.kind_of.ensures c.if-kind_of-eq-LINE_FEED.false
+    _ c.kind_of-in-loop-i.ensures c.if-kind_of-eq-LINE_FEED-2.false)
+    c.kind_of-in-loop-i-2.ensures c.if-kind_of-eq-LINE_FEED-3.true
 
 pub returns-then-kind_of-eq-LINE_FEED-4 : goal.returns-then-kind_of-eq-LINE_FEED-4
 returns-then-kind_of-eq-LINE_FEED-4 c =
-    let t = (goal.at.returns-then-kind_of-eq-LINE_FEED-4 c).After-kind_of-in-loop-i-3 in
-    here _ _ _ (omega (arith, t)) (passed-3 (goal.at.returns-then-kind_of-eq-LINE_FEED-4 c).Else-kind_of-eq-LINE_FEED-3) (sym c.kind_of-in-loop-i-3.ensures ∙ c.if-kind_of-eq-LINE_FEED-4.true)
-
-pub overflow_add-i-in-loop-i-3 : goal.overflow_add-i-in-loop-i-3
-overflow_add-i-in-loop-i-3 c = omega (arith, (goal.at.overflow_add-i-in-loop-i-3 c).After-kind_of-in-loop-i-3)
-
-pub loop-i-smaller : goal.loop-i-smaller
-loop-i-smaller c = omega (arith, (goal.at.loop-i-smaller c).After-kind_of-in-loop-i-3)
+    here c.args.s.now c.args.at (c.loop-i.i + 3) _ (omega arith)
+    (passed-3 c.args.s.now c.args.at c.loop-i.i (omega arith) c.loop-i.invariant.1 _ c.kind_of.ensures c.if-kind_of-eq-LINE_FEED.false
+    _ c.kind_of-in-loop-i.ensures c.if-kind_of-eq-LINE_FEED-2.false _ c.kind_of-in-loop-i-2.ensures c.if-kind_of-eq-LINE_FEED-3.false)
+    c.kind_of-in-loop-i-3.ensures c.if-kind_of-eq-LINE_FEED-4.true
 
 pub loop-i-preserved : goal.loop-i-preserved
-loop-i-preserved c = (omega (arith, (goal.at.loop-i-preserved c).After-kind_of-in-loop-i-3), passed-4 c)
-
-pub near_feed-requires : goal.near_feed-requires
-near_feed-requires c = omega arith
-
-pub returns : goal.returns
-returns c = c.near_feed.ensures ∙ c.loop-i.invariant.1
+loop-i-preserved c =
+    (omega arith,
+    passed-4 c.args.s.now c.args.at c.loop-i.i (omega arith) c.loop-i.invariant.1 _ c.kind_of.ensures c.if-kind_of-eq-LINE_FEED.false
+    _ c.kind_of-in-loop-i.ensures c.if-kind_of-eq-LINE_FEED-2.false _ c.kind_of-in-loop-i-2.ensures c.if-kind_of-eq-LINE_FEED-3.false
+    _ c.kind_of-in-loop-i-3.ensures c.if-kind_of-eq-LINE_FEED-4.false)

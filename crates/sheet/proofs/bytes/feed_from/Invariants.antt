@@ -1,15 +1,12 @@
 -- `sheet::bytes::feed_from` meets its contract. Invariant, as for `near_feed`: i and the bytes that stand before the first line feed from there on make the
 -- position sought. Each of the four bytes of a turn is that line feed, or is passed.
 -- Assumes nothing.
-use mathlib.Core.Path.{◌≡◌, refl, sym, ◌∙◌, subst}
+use mathlib.Core.Path.{◌≡◌}
 use mathlib.Core.List.{List}
-use Prim.Native.Nat.{ℕ, ◌≤◌, ◌<◌, ◌-◌, ◌+◌}
-use native.Mathlib.Omega.{arith}
-use lib.ListN.{length, get_or, drop}
-use borrow.Author.Rules.{rules}
-use Rattle.sheet.specs.Bytes.{kind_of, line_feed}
+use Prim.Native.Nat.{ℕ, ◌≤◌, ◌-◌, ◌+◌}
+use lib.ListN.{length, drop}
+use Rattle.sheet.specs.Bytes.{line_feed}
 use Rattle.sheet.specs.Inner.{span_of}
-use Rattle.sheet.specs.Laws.Parts.{span-stop, span_more}
 use Rattle.sheet.proofs.bytes.feed_from.Given as goal
 
 -- the first line feed from `at` on is the first from i on

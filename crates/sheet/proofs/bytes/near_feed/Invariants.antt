@@ -1,14 +1,11 @@
 -- `sheet::bytes::near_feed` meets its contract. Invariant: i and the bytes that stand before the first line feed from there on make the
 -- position sought.
 -- Assumes nothing.
-use mathlib.Core.Path.{◌≡◌, refl, sym, ◌∙◌}
+use mathlib.Core.Path.{◌≡◌}
 use Prim.Native.Nat.{◌≤◌, ◌-◌, ◌+◌}
-use native.Mathlib.Omega.{arith}
 use lib.ListN.{length, drop}
-use borrow.Author.Rules.{rules}
 use Rattle.sheet.specs.Bytes.{line_feed}
 use Rattle.sheet.specs.Inner.{span_of}
-use Rattle.sheet.specs.Laws.Parts.{span-stop, span_more, span-end}
 use Rattle.sheet.proofs.bytes.near_feed.Given as goal
 
 abbrev pub invariant-loop-i : goal.invariant-loop-i

@@ -1,114 +1,116 @@
 -- `sheet::judge::fault_of` meets its contract: the tests one after another, each as the arrays and the row of the line's kind tell it. For each test there
--- is the place where the code has made it (`row-`, the way back to the entry), what it found (`tried-`), and that the tests after it are left
--- where it passed (`left-`).
+-- is what it found (`tried-`), and that the tests after it are left where it passed (`left-`).
 -- Assumes nothing.
 use mathlib.Core.Path.{◌≡◌, refl, sym, ◌∙◌, ap}
 use mathlib.Core.Bool.{Bool, true, false, not}
-use mathlib.Core.List.{List}
-use Prim.Native.Nat.{ℕ, suc, ◌+◌, ◌*◌, ◌-◌}
+use mathlib.Core.List.{List, map}
+use Prim.Native.Nat.{ℕ, suc, ◌+◌, ◌*◌, ◌-◌, ◌<◌}
 use native.Mathlib.Omega.{arith}
 use native.Mathlib.Nat.{suc-mul}
-use lib.Dec.{leb}
-use lib.ListN.{length}
+use lib.Dec.{leb, eqb}
+use lib.ListN.{length, get_or, take, drop}
 use borrow.Author.Tests.{le-leb, lt-leb}
-use borrow.Author.Rules.{rules}
-use Rattle.sheet.specs.Lists.{number}
+use Rattle.sheet.specs.Lists.{pick, number}
+use Rattle.sheet.specs.Computed.{lexb}
 use Rattle.sheet.specs.Lines.{Line}
-use Rattle.sheet.specs.Sheet.{misplaced, tests, fault}
-use Rattle.sheet.specs.Inner.{line_at, Stored}
+use Rattle.sheet.specs.Sheet.{misplaced, outside, unpaired, tests, fault}
+use Rattle.sheet.specs.Store.{kind_count}
+use Rattle.sheet.specs.Inner.{limit_at, pair_at, line_at, misplaced_by, late_by, UnknownIs, RowIs, Stored}
+use Rattle.sheet.specs.declared.kinds.Row.{Row}
 use Rattle.sheet.specs.Laws.Kinds.{width_small}
 use Rattle.sheet.proofs.Standing.{RowFits, lines-length, all-length, row_fits}
 use Rattle.sheet.proofs.Tested.{misplaced-is, many_is, outside-is, unpaired-is, late_is, above-none, above-last}
 use Rattle.sheet.proofs.FirstFault.{Left, Tried, first, left-next, left-stop}
 use Rattle.sheet.proofs.judge.fault_of.Goals as goal
-use Rattle.sheet.proofs.judge.fault_of.Goals.{After-is_key_before, After-is_late, After-is_misplaced, After-is_outside, After-is_unknown, After-is_unpaired, After-struct_known-1, Else-is_late, Else-is_misplaced, Else-is_outside, Else-is_unknown, Else-is_unpaired, Else-n-eq0, Else-not-is_key_before, Else-row-n, Start, Then-n-eq0}
+use Rattle.sheet.proofs.judge.fault_of.Goals.{Else-is_late, Else-n-eq0}
 
--- what is left, what a test found, and whether test 3 fails, for the line and the arrays at the entry
-abbrev LeftAt : Start → ℕ → Type 0
-LeftAt r n = let a = r.args in Left a.lines.now a.all.now (line_at a.kind a.values) n
+module _ (lines all : List ℕ) (k : ℕ) (v : List ℕ) where
+  left-all : Left lines all (line_at k v) 3
+  unfolding fault tests
+  left-all = record { of = λ before S. refl }
 
-abbrev TriedAt : Start → ℕ → ℕ → Bool → Type 0
-TriedAt r n m b = let a = r.args in Tried a.lines.now a.all.now (line_at a.kind a.values) n m b
+module _ (lines all : List ℕ) (k : ℕ) (v : List ℕ) (row : Row) (h : k < kind_count) (R : RowIs k row) where
+  -- test 3
+  misplaced-at : (m b : Bool) → m ≡ misplaced_by lines all k v → m ≡ b → (before : List Line) → Stored before lines all → misplaced before (line_at k v) ≡ b
+  misplaced-at m b d e before S = misplaced-is S h v ∙ sym d ∙ e
 
-abbrev MisplacedAt : Start → Bool → Type 0
-MisplacedAt r b =
-    let a = r.args in
-    (before : List Line) → Stored before a.lines.now a.all.now → misplaced before (line_at a.kind a.values) ≡ b
+  tried-3 : (m b : Bool) → m ≡ misplaced_by lines all k v → m ≡ b → Tried lines all (line_at k v) 3 7 b
+  unfolding tests
+  tried-3 m b d e = record { of = λ before S. ap (first 3 _) (misplaced-at m b d e before S) }
 
-left-all : (r : Start) → LeftAt r 3
-unfolding fault tests
-left-all r = record { of = λ before S. refl }
+  -- test 7
+  tried-7 : (b : Bool) → leb row.most (number lines k) ≡ b → Tried lines all (line_at k v) 7 4 b
+  unfolding tests
+  tried-7 b e = record { of = λ before S. ap (first 7 _) (many_is S h R v ∙ e) }
 
-misplaced-at : (c : After-is_misplaced) (b : Bool) → c.is_misplaced.result ≡ b → MisplacedAt c b
-misplaced-at c b e before S = let s = c in misplaced-is S s.requires.0 s.args.values ∙ sym c.is_misplaced.ensures ∙ e
+  -- test 6
+  tried-6 : (u b : Bool) → u ≡ unpaired (pair_at row.pair row.one row.other) v → u ≡ b → Tried lines all (line_at k v) 6 15 b
+  unfolding tests
+  tried-6 u b d e = record { of = λ before S. ap (first 6 _) (unpaired-is S h R v ∙ sym d ∙ e) }
 
-tried-3 : (c : After-is_misplaced) (b : Bool) → c.is_misplaced.result ≡ b → TriedAt c 3 7 b
-unfolding tests
-tried-3 c b e = record { of = λ before S. ap (first 3 _) (misplaced-at c b e before S) }
+  -- test 15
+  tried-15 : (w b : Bool) → UnknownIs lines all k v w → w ≡ b → Tried lines all (line_at k v) 15 16 b
+  unfolding tests
+  tried-15 w b d e = record { of = λ before S. ap (first 15 _) (sym (d.of before S) ∙ e) }
 
-left-3 : (c : Else-is_misplaced) → LeftAt c.before 7
-left-3 c = left-next (left-all c.before) (tried-3 c.before false c.if-is_misplaced.false)
+  -- test 3 passed
+  module _ (m : Bool) (md : m ≡ misplaced_by lines all k v) (mf : m ≡ false) where
+    -- test 4
+    tried-4 : (p : ℕ) (o b : Bool) → p ≡ pick (eqb k 0) (get_or v 0 0) (get_or all 0 0) → o ≡ outside p (map limit_at (take row.width row.limits)) (take row.width v)
+        → o ≡ b → Tried lines all (line_at k v) 4 6 b
+    unfolding tests
+    tried-4 p o b pd od e = record { of = λ before S. ap (first 4 _) (outside-is S h R v pd (misplaced-at m false md mf before S) ∙ sym od ∙ e) }
 
-tried-7 : (c : After-struct_known-1) (b : Bool)
-    → let r = c in leb r.args.row.most (number r.args.lines.now r.args.kind) ≡ b
-    → TriedAt r 7 4 b
-unfolding tests
-tried-7 c b e =
-    let r = c in
-    record { of = λ before S. ap (first 7 _) (many_is S r.requires.0 r.requires.2 r.args.values ∙ e) }
+    -- test 16
+    tried-16 : (t b : Bool) → t ≡ late_by all k v → t ≡ b → Tried lines all (line_at k v) 16 5 b
+    unfolding tests
+    tried-16 t b d e = record { of = λ before S. ap (first 16 _) (late_is S h v (misplaced-at m false md mf before S) ∙ sym d ∙ e) }
 
-left-7 : (c : Else-row-n) → LeftAt c.before 4
-left-7 c = left-next (left-3 c.before.before) (tried-7 c.before false (lt-leb _ _ c.if-row-n.false))
+    left-3 : Left lines all (line_at k v) 7
+    left-3 = left-next (left-all lines all k v) (tried-3 m false md mf)
 
-passed-3 : (c : After-is_outside) → MisplacedAt c false
-passed-3 c = let p = c.before.before.before.before in misplaced-at p.before false p.if-is_misplaced.false
+    -- test 7 passed
+    module _ (f : number lines k < row.most) where
+      left-7 : Left lines all (line_at k v) 4
+      left-7 = left-next left-3 (tried-7 false (lt-leb _ _ f))
 
-tried-4 : (c : After-is_outside) (b : Bool) → c.is_outside.result ≡ b → TriedAt c 4 6 b
-unfolding tests
-tried-4 c b e =
-    let r = c in
-    record {
-      of = λ before S. ap (first 4 _)
-          (outside-is S r.requires.0 r.requires.2 r.args.values c.places_with.ensures (passed-3 c before S)
-          ∙ sym c.is_outside.ensures
-          ∙ e);
-    }
+      -- test 4 passed
+      module _ (p : ℕ) (pd : p ≡ pick (eqb k 0) (get_or v 0 0) (get_or all 0 0))
+          (o : Bool) (od : o ≡ outside p (map limit_at (take row.width row.limits)) (take row.width v)) (of : o ≡ false) where
+        left-4 : Left lines all (line_at k v) 6
+        left-4 = left-next left-7 (tried-4 p o false pd od of)
 
-left-4 : (c : Else-is_outside) → LeftAt c.before 6
-left-4 c = left-next (left-7 c.before.before.before) (tried-4 c.before false c.if-is_outside.false)
+        -- test 6 passed
+        module _ (u : Bool) (ud : u ≡ unpaired (pair_at row.pair row.one row.other) v) (uf : u ≡ false) where
+          left-6 : Left lines all (line_at k v) 15
+          left-6 = left-next left-4 (tried-6 u false ud uf)
 
-tried-6 : (c : After-is_unpaired) (b : Bool) → c.is_unpaired.result ≡ b → TriedAt c 6 15 b
-unfolding tests
-tried-6 c b e =
-    let r = c in
-    record { of = λ before S. ap (first 6 _) (unpaired-is S r.requires.0 r.requires.2 r.args.values ∙ sym c.is_unpaired.ensures ∙ e) }
+          -- test 15 passed
+          module _ (w : Bool) (wd : UnknownIs lines all k v w) (wf : w ≡ false) where
+            left-15 : Left lines all (line_at k v) 16
+            left-15 = left-next left-6 (tried-15 w false wd wf)
 
-left-6 : (c : Else-is_unpaired) → LeftAt c.before 15
-left-6 c = left-next (left-4 c.before.before) (tried-6 c.before false c.if-is_unpaired.false)
+            -- test 16 passed
+            left-16 : (t : Bool) → t ≡ late_by all k v → t ≡ false → Left lines all (line_at k v) 5
+            left-16 t td tf = left-next left-15 (tried-16 t false td tf)
 
-tried-15 : (c : After-is_unknown) (b : Bool) → c.is_unknown.result ≡ b → TriedAt c 15 16 b
-unfolding tests
-tried-15 c b e = record { of = λ before S. ap (first 15 _) (sym (c.is_unknown.ensures.of before S) ∙ e) }
+  -- test 5, where no line of the kind stands before, and where one does
+  tried-none : number lines k ≡ 0 → Tried lines all (line_at k v) 5 0 false
+  unfolding tests
+  tried-none z = record { of = λ before S. ap (first 5 _) (above-none S h R v z) }
 
-left-15 : (c : Else-is_unknown) → LeftAt c.before 16
-left-15 c = left-next (left-6 c.before.before) (tried-15 c.before false c.if-is_unknown.false)
+  tried-5 : (q b : Bool) → (number lines k ≡ 0 → ⊥) → q ≡ lexb (take row.key (drop (row.base + (number lines k - 1) * row.width) all)) (take row.key v)
+      → not q ≡ b → Tried lines all (line_at k v) 5 0 b
+  unfolding tests
+  tried-5 q b n d e = record { of = λ before S. ap (first 5 _) (above-last S h R v n ∙ ap not (sym d) ∙ e) }
 
-tried-16 : (c : After-is_late) (b : Bool) → c.is_late.result ≡ b → TriedAt c 16 5 b
-unfolding tests
-tried-16 c b e =
-    let r = c in
-    let p = passed-3 c.before.before.before.before.before.before in
-    record { of = λ before S. ap (first 16 _) (late_is S r.requires.0 r.args.values (p before S) ∙ sym c.is_late.ensures ∙ e) }
-
-left-16 : (c : Else-is_late) → LeftAt c.before 5
-left-16 c = left-next (left-15 c.before.before) (tried-16 c.before false c.if-is_late.false)
-
--- test 5, where no line of the kind stands before
-tried-none : (c : Then-n-eq0) → TriedAt c.before.before 5 0 false
-unfolding tests
-tried-none c =
-    let r = c.before.before in
-    record { of = λ before S. ap (first 5 _) (above-none S r.requires.0 r.requires.2 r.args.values c.if-n-eq0.true) }
+-- where test 16 has passed, test 5 is left
+left-16-at : (c : Else-is_late) → let a = c.args in Left a.lines.now a.all.now (line_at a.kind a.values) 5
+left-16-at c =
+    let a = c.args in
+    left-16 a.lines.now a.all.now a.kind a.values a.row c.requires.0 c.requires.2 _ c.is_misplaced.ensures c.if-is_misplaced.false c.if-row-n.false
+    _ c.places_with.ensures _ c.is_outside.ensures c.if-is_outside.false _ c.is_unpaired.ensures c.if-is_unpaired.false
+    _ c.is_unknown.ensures c.if-is_unknown.false _ c.is_late.ensures c.if-is_late.false
 
 last_fits : (c : Else-n-eq0) →
     let r = c in
@@ -122,67 +124,75 @@ last_fits c =
     let e : suc (n - 1) ≡ n = omega (arith, c.if-n-eq0.false) in
     (omega (arith, suc-mul (n - 1) w, ap (λ (m : ℕ). m * w) e), row_fits r.requires.1.stored r.requires.0 r.requires.2)
 
-tried-5 : (c : After-is_key_before) (b : Bool) → not c.is_key_before.result ≡ b → TriedAt c 5 0 b
-unfolding tests
-tried-5 c b e =
-    let r = c in
-    record {
-      of = λ before S. ap (first 5 _)
-          (above-last S r.requires.0 r.requires.2 r.args.values c.if-n-eq0.false
-          ∙ ap not (sym c.is_key_before.ensures)
-          ∙ e);
-    }
-
-left-5 : (c : Else-not-is_key_before) → LeftAt c.before 0
-left-5 c = left-next (left-16 c.before.before.before.before.before) (tried-5 c.before false c.if-not-is_key_before.false)
-
 pub bounds-lines-kind : goal.bounds-lines-kind
 bounds-lines-kind c = omega (arith, lines-length c.requires.1.stored)
 
 pub is_misplaced-requires : goal.is_misplaced-requires
-is_misplaced-requires c =
-    let e = (goal.at.is_misplaced-requires c).Start in
-    (lines-length e.requires.1.stored, omega (arith, all-length e.requires.1.stored), e.requires.0)
+is_misplaced-requires c = (lines-length c.requires.1.stored, omega (arith, all-length c.requires.1.stored), c.requires.0)
 
 pub returns-then-is_misplaced : goal.returns-then-is_misplaced
-returns-then-is_misplaced c = left-stop (left-all (goal.at.returns-then-is_misplaced c).After-is_misplaced) (tried-3 (goal.at.returns-then-is_misplaced c).After-is_misplaced true c.if-is_misplaced.true)
+returns-then-is_misplaced c =
+    let a = c.args in
+    left-stop (left-all a.lines.now a.all.now a.kind a.values)
+    (tried-3 a.lines.now a.all.now a.kind a.values a.row c.requires.0 c.requires.2 _ true c.is_misplaced.ensures c.if-is_misplaced.true)
 
 pub returns-then-row-n : goal.returns-then-row-n
-returns-then-row-n c = left-stop (left-3 (goal.at.returns-then-row-n c).Else-is_misplaced) (tried-7 (goal.at.returns-then-row-n c).After-struct_known-1 true (le-leb _ _ c.if-row-n.true))
+returns-then-row-n c =
+    let a = c.args in
+    left-stop (left-3 a.lines.now a.all.now a.kind a.values a.row c.requires.0 c.requires.2 _ c.is_misplaced.ensures c.if-is_misplaced.false)
+    (tried-7 a.lines.now a.all.now a.kind a.values a.row c.requires.0 c.requires.2 true (le-leb _ _ c.if-row-n.true))
 
 pub places_with-requires : goal.places_with-requires
 places_with-requires c = omega (arith, all-length c.requires.1.stored)
 
 pub is_outside-requires : goal.is_outside-requires
-is_outside-requires c =
-    let r = (goal.at.is_outside-requires c).After-struct_known-1 in
-    omega (arith, r.requires.2.width_is, width_small r.args.kind r.requires.0)
+is_outside-requires c = omega (arith, c.requires.2.width_is, width_small c.args.kind c.requires.0)
 
 pub returns-then-is_outside : goal.returns-then-is_outside
-returns-then-is_outside c = left-stop (left-7 (goal.at.returns-then-is_outside c).Else-row-n) (tried-4 (goal.at.returns-then-is_outside c).After-is_outside true c.if-is_outside.true)
+returns-then-is_outside c =
+    let a = c.args in
+    left-stop (left-7 a.lines.now a.all.now a.kind a.values a.row c.requires.0 c.requires.2 _ c.is_misplaced.ensures c.if-is_misplaced.false c.if-row-n.false)
+    (tried-4 a.lines.now a.all.now a.kind a.values a.row c.requires.0 c.requires.2 _ c.is_misplaced.ensures c.if-is_misplaced.false _ _ true c.places_with.ensures c.is_outside.ensures c.if-is_outside.true)
 
 pub is_unpaired-requires : goal.is_unpaired-requires
 is_unpaired-requires c =
-    let r = (goal.at.is_unpaired-requires c).After-is_outside in
-    let q = r.requires.2 in
-    let w = width_small r.args.kind r.requires.0 in
+    let q = c.requires.2 in
+    let w = width_small c.args.kind c.requires.0 in
     (omega (arith, q.width_is, q.one_inside), omega (arith, q.width_is, q.other-inside))
 
 pub returns-then-is_unpaired : goal.returns-then-is_unpaired
-returns-then-is_unpaired c = left-stop (left-4 (goal.at.returns-then-is_unpaired c).Else-is_outside) (tried-6 (goal.at.returns-then-is_unpaired c).After-is_unpaired true c.if-is_unpaired.true)
+returns-then-is_unpaired c =
+    let a = c.args in
+    left-stop
+    (left-4 a.lines.now a.all.now a.kind a.values a.row c.requires.0 c.requires.2 _ c.is_misplaced.ensures c.if-is_misplaced.false c.if-row-n.false
+    _ c.places_with.ensures _ c.is_outside.ensures c.if-is_outside.false)
+    (tried-6 a.lines.now a.all.now a.kind a.values a.row c.requires.0 c.requires.2 _ true c.is_unpaired.ensures c.if-is_unpaired.true)
 
 pub returns-then-is_unknown : goal.returns-then-is_unknown
-returns-then-is_unknown c = left-stop (left-6 (goal.at.returns-then-is_unknown c).Else-is_unpaired) (tried-15 (goal.at.returns-then-is_unknown c).After-is_unknown true c.if-is_unknown.true)
+returns-then-is_unknown c =
+    let a = c.args in
+    left-stop
+    (left-6 a.lines.now a.all.now a.kind a.values a.row c.requires.0 c.requires.2 _ c.is_misplaced.ensures c.if-is_misplaced.false c.if-row-n.false
+    _ c.places_with.ensures _ c.is_outside.ensures c.if-is_outside.false _ c.is_unpaired.ensures c.if-is_unpaired.false)
+    (tried-15 a.lines.now a.all.now a.kind a.values a.row c.requires.0 c.requires.2 _ true c.is_unknown.ensures c.if-is_unknown.true)
 
 pub is_late-requires : goal.is_late-requires
 is_late-requires c = omega (arith, all-length c.requires.1.stored)
 
 pub returns-then-is_late : goal.returns-then-is_late
-returns-then-is_late c = left-stop (left-15 (goal.at.returns-then-is_late c).Else-is_unknown) (tried-16 (goal.at.returns-then-is_late c).After-is_late true c.if-is_late.true)
+returns-then-is_late c =
+    let a = c.args in
+    left-stop
+    (left-15 a.lines.now a.all.now a.kind a.values a.row c.requires.0 c.requires.2 _ c.is_misplaced.ensures c.if-is_misplaced.false c.if-row-n.false
+    _ c.places_with.ensures _ c.is_outside.ensures c.if-is_outside.false _ c.is_unpaired.ensures c.if-is_unpaired.false _ c.is_unknown.ensures c.if-is_unknown.false)
+    (tried-16 a.lines.now a.all.now a.kind a.values a.row c.requires.0 c.requires.2 _ c.is_misplaced.ensures c.if-is_misplaced.false _ true c.is_late.ensures c.if-is_late.true)
 
 pub returns-then-n-eq0 : goal.returns-then-n-eq0
 unfolding tests
-returns-then-n-eq0 c = record { of = λ before S. sym ((left-next (left-16 (goal.at.returns-then-n-eq0 c).Else-is_late) (tried-none c)).of before S) }
+returns-then-n-eq0 c =
+    let a = c.args in
+    let l = left-16-at (goal.at.returns-then-n-eq0 c).Else-is_late in
+    record { of = λ before S. sym ((left-next l (tried-none a.lines.now a.all.now a.kind a.values a.row c.requires.0 c.requires.2 c.if-n-eq0.true)).of before S) }
 
 pub overflow_mul-last : goal.overflow_mul-last
 overflow_mul-last c = omega (arith, last_fits (goal.at.overflow_mul-last c).Else-n-eq0)
@@ -194,8 +204,15 @@ pub is_key_before-requires : goal.is_key_before-requires
 is_key_before-requires c = (omega (arith, last_fits (goal.at.is_key_before-requires c).Else-n-eq0), omega (arith, last_fits (goal.at.is_key_before-requires c).Else-n-eq0))
 
 pub returns-then-not-is_key_before : goal.returns-then-not-is_key_before
-returns-then-not-is_key_before c = left-stop (left-16 (goal.at.returns-then-not-is_key_before c).Else-is_late) (tried-5 (goal.at.returns-then-not-is_key_before c).After-is_key_before true c.if-not-is_key_before.true)
+returns-then-not-is_key_before c =
+    let a = c.args in
+    left-stop (left-16-at (goal.at.returns-then-not-is_key_before c).Else-is_late)
+    (tried-5 a.lines.now a.all.now a.kind a.values a.row c.requires.0 c.requires.2 _ true c.if-n-eq0.false c.is_key_before.ensures (ap not c.if-not-is_key_before.true))
 
 pub returns : goal.returns
 unfolding tests
-returns c = record { of = λ before S. sym ((left-5 c).of before S) }
+returns c =
+    let a = c.args in
+    let l = left-16-at (goal.at.returns c).Else-is_late in
+    let t = tried-5 a.lines.now a.all.now a.kind a.values a.row c.requires.0 c.requires.2 _ false c.if-n-eq0.false c.is_key_before.ensures (ap not c.if-not-is_key_before.false) in
+    record { of = λ before S. sym ((left-next l t).of before S) }

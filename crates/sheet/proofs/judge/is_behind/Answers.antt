@@ -3,14 +3,12 @@
 -- Assumes nothing.
 use mathlib.Core.Path.{◌≡◌, sym, ◌∙◌, ap}
 use mathlib.Core.Bool.{Bool, true, false, not}
-use Prim.Native.Nat.{suc, ◌-◌, ◌≤◌}
+use Prim.Native.Nat.{suc}
 use native.Mathlib.Omega.{arith}
 use native.Mathlib.Numerals.{add-one}
 use lib.ListN.{get_or, drop}
 use borrow.Author.Tests.{eq-eqb, ne_eqb}
-use borrow.Author.Rules.{rules}
 use Rattle.sheet.specs.Lists.{any}
-use Rattle.sheet.specs.Store.{kind_count}
 use Rattle.sheet.specs.Inner.{behind_by}
 use Rattle.sheet.proofs.Passing.{counted, any_here, any-later, any_none}
 use Rattle.sheet.proofs.judge.is_behind.Goals as goal

@@ -1,18 +1,12 @@
 -- `sheet::judge::is_behind` meets its contract. The loop's invariant: the counts from j on decide the same as all the later ones.
 -- The measure is what is left of the kinds.
 -- Assumes nothing.
-use mathlib.Core.Path.{◌≡◌, sym, ◌∙◌, ap}
-use mathlib.Core.Bool.{Bool, true, false, not}
+use mathlib.Core.Path.{◌≡◌}
 use Prim.Native.Nat.{suc, ◌-◌, ◌≤◌}
-use native.Mathlib.Omega.{arith}
-use native.Mathlib.Numerals.{add-one}
-use lib.ListN.{get_or, drop}
-use borrow.Author.Tests.{eq-eqb, ne_eqb}
-use borrow.Author.Rules.{rules}
+use lib.ListN.{drop}
 use Rattle.sheet.specs.Lists.{any}
 use Rattle.sheet.specs.Store.{kind_count}
-use Rattle.sheet.specs.Inner.{behind_by}
-use Rattle.sheet.proofs.Passing.{counted, any_here, any-later, any_none}
+use Rattle.sheet.proofs.Passing.{counted}
 use Rattle.sheet.proofs.judge.is_behind.Given as goal
 
 abbrev pub invariant-loop-j : goal.invariant-loop-j

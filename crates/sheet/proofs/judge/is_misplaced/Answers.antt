@@ -1,7 +1,6 @@
 -- `sheet::judge::is_misplaced` meets its contract: by the kind, or else by the turn.
 -- Assumes nothing.
 use mathlib.Core.Path.{sym, ◌∙◌}
-use borrow.Author.Rules.{rules}
 use Rattle.sheet.proofs.judge.is_misplaced.Goals as goal
 
 pub returns-then-is_behind : goal.returns-then-is_behind

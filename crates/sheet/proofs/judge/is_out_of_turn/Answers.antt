@@ -1,7 +1,6 @@
 -- `sheet::judge::is_out_of_turn` meets its contract: whether a W line is still to come, and for a W line whether it is the next.
 -- Assumes nothing.
 use mathlib.Core.Path.{sym}
-use borrow.Author.Rules.{rules}
 use borrow.Author.Tests.{eq-eqb, ne_eqb}
 use Rattle.sheet.proofs.judge.is_out_of_turn.Goals as goal
 

@@ -1,15 +1,13 @@
 -- `sheet::judge::is_outside` meets its contract. The loop's invariant: the first i numbers are within their limits, so what is left is outside
 -- exactly where the whole is. The measure is what is left of w.
 -- Assumes nothing.
-use mathlib.Core.Path.{◌≡◌, refl, sym, ◌∙◌}
+use mathlib.Core.Path.{◌≡◌}
 use mathlib.Core.List.{map}
 use Prim.Native.Nat.{◌-◌, ◌≤◌}
-use native.Mathlib.Omega.{arith}
 use lib.ListN.{length, take}
-use borrow.Author.Rules.{rules}
 use Rattle.sheet.specs.Sheet.{outside}
 use Rattle.sheet.specs.Inner.{limit_at}
-use Rattle.sheet.proofs.Passing.{outside_from, outside-here, outside-later, outside-none}
+use Rattle.sheet.proofs.Passing.{outside_from}
 use Rattle.sheet.proofs.judge.is_outside.Given as goal
 
 abbrev pub invariant-loop-i : goal.invariant-loop-i

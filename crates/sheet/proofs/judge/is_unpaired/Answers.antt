@@ -5,7 +5,6 @@ use mathlib.Core.Logic.{◌≢◌}
 use Prim.Native.Nat.{ℕ, zero, suc}
 use Rattle.sheet.specs.Kinds.{ordered}
 use Rattle.sheet.specs.Inner.{pair_at}
-use borrow.Author.Rules.{rules}
 use Rattle.sheet.proofs.judge.is_unpaired.Goals as goal
 
 -- the last of the pairs

@@ -2,7 +2,6 @@
 -- are fewer than places.
 -- Assumes nothing.
 use mathlib.Core.Path.{sym, ◌∙◌}
-use borrow.Author.Rules.{rules}
 use borrow.Author.Tests.{eq-eqb, ne_eqb}
 use Rattle.sheet.proofs.Standing.{lacks-count}
 use Rattle.sheet.proofs.judge.lacks.Goals as goal

@@ -1,7 +1,6 @@
 -- `sheet::judge::places_with` meets its contract, for the S line and for another.
 -- Assumes nothing.
 use borrow.Author.Tests.{eq-eqb, ne_eqb}
-use borrow.Author.Rules.{rules}
 use Rattle.sheet.proofs.judge.places_with.Goals as goal
 
 pub returns-then-kind-eq-S_LINE : goal.returns-then-kind-eq-S_LINE

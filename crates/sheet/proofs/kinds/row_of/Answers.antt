@@ -2,7 +2,6 @@
 -- Assumes nothing.
 use mathlib.Core.Path.{◌≡◌}
 use native.Mathlib.Omega.{arith}
-use borrow.Author.Rules.{rules}
 use Rattle.sheet.proofs.kinds.row_of.Goals as goal
 
 pub returns-then-k-eq-S_LINE : goal.returns-then-k-eq-S_LINE

@@ -1,6 +1,5 @@
 -- `sheet::line_reader::end_at` meets its contract: nothing is left, the line feed is missing, or it is where `feed_from` finds it.
 -- Assumes nothing.
-use borrow.Author.Rules.{rules}
 use Rattle.sheet.specs.Laws.LineEnding.{finds-over, finds-missing, finds-feed}
 use Rattle.sheet.proofs.line_reader.end_at.Goals as goal
 

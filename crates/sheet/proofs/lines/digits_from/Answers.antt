@@ -5,12 +5,9 @@ use mathlib.Core.Path.{◌≡◌, refl, sym, ◌∙◌}
 use Prim.Native.Nat.{suc, ◌≤◌, ◌<◌, ◌+◌, ◌-◌, ◌^◌}
 use native.Mathlib.Omega.{arith}
 use native.Mathlib.Nat.{pow-suc, pow-le-pow_right, lt_of_lt_of_le}
-use lib.ListN.{length, drop, get_or}
+use lib.ListN.{get_or}
 use lib.Dec.{lit<}
-use borrow.Author.Rules.{rules}
 use Rattle.sheet.specs.Bytes.{kind_of, digit, comma}
-use Rattle.sheet.specs.Decimal.{digits_from}
-use Rattle.sheet.specs.Inner.{span_of, field_from}
 use Rattle.sheet.specs.Laws.Decimal.{digit-byte}
 use Rattle.sheet.proofs.Digits.{no-comma, reads_on, digits-many, digits-stop, digits-over}
 use Rattle.sheet.specs.Laws.Parts.{span_more}

@@ -1,19 +1,12 @@
 -- `sheet::lines::digits_from` meets its contract. Invariant: the field ends where it ended, what is still to be read of it, from the value
 -- so far, is what the whole reads as, and the value has at most i - at digits, of which there are at most eight before one more is read.
 -- Assumes nothing.
-use mathlib.Core.Path.{◌≡◌, refl, sym, ◌∙◌}
-use Prim.Native.Nat.{suc, ◌≤◌, ◌<◌, ◌+◌, ◌-◌, ◌^◌}
-use native.Mathlib.Omega.{arith}
-use native.Mathlib.Nat.{pow-suc, pow-le-pow_right, lt_of_lt_of_le}
-use lib.ListN.{length, drop, get_or}
-use lib.Dec.{lit<}
-use borrow.Author.Rules.{rules}
-use Rattle.sheet.specs.Bytes.{kind_of, digit, comma}
+use mathlib.Core.Path.{◌≡◌}
+use Prim.Native.Nat.{◌≤◌, ◌<◌, ◌+◌, ◌-◌, ◌^◌}
+use lib.ListN.{length, drop}
+use Rattle.sheet.specs.Bytes.{comma}
 use Rattle.sheet.specs.Decimal.{digits_from}
 use Rattle.sheet.specs.Inner.{span_of, field_from}
-use Rattle.sheet.specs.Laws.Decimal.{digit-byte}
-use Rattle.sheet.proofs.Digits.{no-comma, reads_on, digits-many, digits-stop, digits-over}
-use Rattle.sheet.specs.Laws.Parts.{span_more}
 use Rattle.sheet.proofs.lines.digits_from.Given as goal
 
 abbrev pub invariant-loop-i : goal.invariant-loop-i

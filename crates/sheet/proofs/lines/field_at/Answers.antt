@@ -2,7 +2,6 @@
 -- Assumes nothing.
 use mathlib.Core.Bool.{true}
 use mathlib.Core.Path.{◌≡◌}
-use borrow.Author.Rules.{rules}
 use borrow.Author.Tests.{not-true, not-false}
 use Rattle.sheet.proofs.Digits.{field-none, field-ahead, field-inside, field-sized, field-zeroed, field_is}
 use Rattle.sheet.proofs.lines.field_at.Goals as goal

@@ -2,39 +2,41 @@
 -- Assumes nothing.
 use mathlib.Core.Path.{◌≡◌, sym, ◌∙◌}
 use native.Mathlib.Omega.{arith}
-use Prim.Native.Nat.{◌<◌}
+use Prim.Native.Nat.{ℕ, ◌<◌}
+use mathlib.Core.Bool.{Bool, true}
+use mathlib.Core.List.{List}
+use lib.Dec.{eqb}
 use lib.ListN.{length}
 use borrow.Author.Rules.{rules}
-use borrow.Author.Tests.{eqb-true, eqb-false, not-true, not-false}
+use borrow.Author.Tests.{eqb-true, eqb-false}
 use Rattle.sheet.specs.Bytes.{comma}
 use Rattle.sheet.specs.Inner.{span_of}
 use Rattle.sheet.specs.Laws.Parts.{span-le}
 use Rattle.sheet.proofs.LineLaws.{forms-widths, line-not-one, line-unknown, letter-below, line_known}
 use Rattle.sheet.proofs.lines.line_in.Goals as goal
-use Rattle.sheet.proofs.lines.line_in.Goals.{After-position-k, Else-k-letters, Else-not-is_letter_first}
+use Rattle.sheet.proofs.lines.line_in.Goals.{Else-k-letters}
 
 pub returns-then-not-is_letter_first : goal.returns-then-not-is_letter_first
 returns-then-not-is_letter_first c =
-    line-not-one _ _ _ _ _ c.bad_line.ensures (eqb-false _ 1 (sym c.is_letter_first.ensures ∙ not-true _ c.if-not-is_letter_first.true))
+    line-not-one _ _ _ _ _ c.bad_line.ensures (eqb-false _ 1 (sym c.is_letter_first.ensures ∙ c.if-not-is_letter_first.true))
 
 -- the first field is one byte
-one : (c : Else-not-is_letter_first) → span_of comma c.args.l.now ≡ 1
-one c = eqb-true _ 1 (sym c.is_letter_first.ensures ∙ not-false _ c.if-not-is_letter_first.false)
+one : (l : List ℕ) (b : Bool) → b ≡ eqb (span_of comma l) 1 → b ≡ true → span_of comma l ≡ 1
+one l b d e = eqb-true (span_of comma l) 1 (sym d ∙ e)
 
 pub bounds-l-0 : goal.bounds-l-0
-bounds-l-0 c = omega (arith, one (goal.at.bounds-l-0 c).Else-not-is_letter_first, span-le comma c.args.l.now)
+bounds-l-0 c = omega (arith, one c.args.l.now _ c.is_letter_first.ensures c.if-not-is_letter_first.false, span-le comma c.args.l.now)
 
 pub returns-then-k-letters : goal.returns-then-k-letters
 returns-then-k-letters c =
-    let k = (goal.at.returns-then-k-letters c).After-position-k in
-    line-unknown _ _ _ _ (one k.before.before) _ k.position-k.ensures _ c.bad_line-then-k-letters.ensures c.if-k-letters.true
+    line-unknown _ _ _ _ (one c.args.l.now _ c.is_letter_first.ensures c.if-not-is_letter_first.false)
+    _ c.position-k.ensures _ c.bad_line-then-k-letters.ensures c.if-k-letters.true
 
 -- the letter is one of them
 below : (c : Else-k-letters) → c.position-k.result < length c.args.widths.now
 below c =
-    let k = c.before in
-    let f = k.requires.0 in
-    omega (arith, letter-below _ _ _ _ k.position-k.ensures f c.if-k-letters.false, forms-widths _ _ f)
+    let f = c.requires.0 in
+    omega (arith, letter-below _ _ _ _ c.position-k.ensures f c.if-k-letters.false, forms-widths _ _ f)
 
 pub offset_bounds-widths-k : goal.offset_bounds-widths-k
 offset_bounds-widths-k c = let h = below c in search rules
@@ -49,7 +51,6 @@ numbers_in-requires c =
 
 pub returns : goal.returns
 returns c =
-    let x = (goal.at.returns c).Else-k-letters in
-    let k = x.before in
-    line_known _ _ _ _ (one k.before.before) _ k.position-k.ensures k.requires.0 x.if-k-letters.false
+    line_known _ _ _ _ (one c.args.l.now _ c.is_letter_first.ensures c.if-not-is_letter_first.false)
+    _ c.position-k.ensures c.requires.0 c.if-k-letters.false
     _ c.numbers_in.ensures.0 c.numbers_in.ensures.1

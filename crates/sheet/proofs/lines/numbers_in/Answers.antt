@@ -4,18 +4,17 @@
 use mathlib.Core.Bool.{Bool, false}
 use mathlib.Core.Path.{◌≡◌, refl, sym, ◌∙◌, ap}
 use mathlib.Core.Option.{some, none}
-use Prim.Native.Nat.{ℕ, ◌≤◌, ◌<◌, ◌-◌}
+use Prim.Native.Nat.{ℕ, ◌<◌}
 use native.Mathlib.Omega.{arith}
 use native.Mathlib.Nat.{sub-zero}
 use lib.ListN.{length, drop, take, length-set, length-drop}
 use borrow.Author.Tests.{not-true, not-false}
 use Rattle.sheet.specs.Lists.{pick}
 use Rattle.sheet.specs.Bytes.{comma}
-use Rattle.sheet.specs.Lines.{numbers_of}
-use Rattle.sheet.specs.Inner.{parts_from, as_numbers}
+use Rattle.sheet.specs.Inner.{as_numbers}
 use Rattle.sheet.specs.declared.lines.Parsed.{Parsed}
 use Rattle.sheet.specs.Laws.Parts.{span-le}
-use Rattle.sheet.proofs.Fields.{so_far, so-missing, so-bad, so-more, so-extra, so-all, onto-none}
+use Rattle.sheet.proofs.Fields.{so-missing, so-bad, so-more, so-extra, so-all, onto-none}
 use Rattle.sheet.proofs.lines.numbers_in.Goals as goal
 
 -- what is not ok stands for nothing

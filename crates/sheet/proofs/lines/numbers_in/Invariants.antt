@@ -1,21 +1,14 @@
 -- `sheet::lines::numbers_in` meets its contract. Invariant: the numbers so far, in front of what is left to read, are what the whole reads
 -- as.
 -- Assumes nothing.
-use mathlib.Core.Bool.{Bool, false}
-use mathlib.Core.Path.{◌≡◌, refl, sym, ◌∙◌, ap}
-use mathlib.Core.Option.{some, none}
-use Prim.Native.Nat.{ℕ, ◌≤◌, ◌<◌, ◌-◌}
-use native.Mathlib.Omega.{arith}
-use native.Mathlib.Nat.{sub-zero}
-use lib.ListN.{length, drop, take, length-set, length-drop}
-use borrow.Author.Tests.{not-true, not-false}
-use Rattle.sheet.specs.Lists.{pick}
+use mathlib.Core.Bool.{false}
+use mathlib.Core.Path.{◌≡◌}
+use Prim.Native.Nat.{◌≤◌, ◌-◌}
+use lib.ListN.{length}
 use Rattle.sheet.specs.Bytes.{comma}
 use Rattle.sheet.specs.Lines.{numbers_of}
-use Rattle.sheet.specs.Inner.{parts_from, as_numbers}
-use Rattle.sheet.specs.declared.lines.Parsed.{Parsed}
-use Rattle.sheet.specs.Laws.Parts.{span-le}
-use Rattle.sheet.proofs.Fields.{so_far, so-missing, so-bad, so-more, so-extra, so-all, onto-none}
+use Rattle.sheet.specs.Inner.{parts_from}
+use Rattle.sheet.proofs.Fields.{so_far}
 use Rattle.sheet.proofs.lines.numbers_in.Given as goal
 
 abbrev pub invariant-loop-k : goal.invariant-loop-k

@@ -1,14 +1,8 @@
 -- `sheet::lines::position` meets its contract: the letters are gone through from the last. Invariant: `found` is the position among the letters from k on.
 -- Assumes nothing.
 use mathlib.Core.Path.{◌≡◌}
-use mathlib.Core.List.{List}
-use Prim.Native.Nat.{ℕ, zero, suc, ◌≤◌, ◌<◌, ◌+◌, ◌-◌}
-use native.Mathlib.Omega.{arith}
-use native.Mathlib.Numerals.{add-one}
-use lib.ListN.{length, get_or, drop, drop_of_length-le}
-use lib.Seq.{drop-cons}
-use borrow.Author.Rules.{rules}
-use borrow.Author.Tests.{eq-eqb, ne_eqb}
+use Prim.Native.Nat.{◌≤◌, ◌+◌}
+use lib.ListN.{length, drop}
 use Rattle.sheet.specs.Inner.{position_of}
 use Rattle.sheet.proofs.lines.position.Given as goal
 

@@ -1,11 +1,9 @@
 -- `sheet::reader::copy` meets its contract. Invariant: the first i numbers are copied.
 -- Assumes nothing.
-use mathlib.Core.Path.{◌≡◌, refl, sym, ◌∙◌}
-use Prim.Native.Nat.{◌-◌, ◌≤◌}
+use mathlib.Core.Path.{refl, sym, ◌∙◌}
 use native.Mathlib.Omega.{arith}
-use lib.ListN.{length, take, length-set}
+use lib.ListN.{length-set}
 use lib.Seq.{take_all}
-use borrow.Author.Rules.{rules}
 use Rattle.sheet.specs.Laws.Stores.{prefix-more}
 use Rattle.sheet.proofs.reader.copy.Goals as goal
 

@@ -1,12 +1,8 @@
 -- `sheet::reader::copy` meets its contract. Invariant: the first i numbers are copied.
 -- Assumes nothing.
-use mathlib.Core.Path.{◌≡◌, refl, sym, ◌∙◌}
+use mathlib.Core.Path.{◌≡◌}
 use Prim.Native.Nat.{◌-◌, ◌≤◌}
-use native.Mathlib.Omega.{arith}
-use lib.ListN.{length, take, length-set}
-use lib.Seq.{take_all}
-use borrow.Author.Rules.{rules}
-use Rattle.sheet.specs.Laws.Stores.{prefix-more}
+use lib.ListN.{length, take}
 use Rattle.sheet.proofs.reader.copy.Given as goal
 
 abbrev pub invariant-loop-i : goal.invariant-loop-i

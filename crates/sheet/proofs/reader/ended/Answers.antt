@@ -1,7 +1,6 @@
 -- `sheet::reader::ended` meets its contract: a refusal so far is the verdict; else nothing is left to judge but whether something is missing.
 -- Assumes nothing.
 use native.Mathlib.Omega.{arith}
-use borrow.Author.Rules.{rules}
 use Rattle.sheet.proofs.Reached.{reached-short}
 use Rattle.sheet.proofs.Reading.{verdict-refused, verdict-holds}
 use Rattle.sheet.proofs.reader.ended.Goals as goal

@@ -1,17 +1,11 @@
 -- `sheet::reader::forms` meets its contract. Invariant: the first k letters and counts are those of the first k kinds.
 -- Assumes nothing.
-use mathlib.Core.Path.{◌≡◌, refl, sym, ◌∙◌, ap, subst}
-use mathlib.Core.List.{List, map}
-use Prim.Native.Nat.{ℕ, ◌+◌, ◌-◌, ◌≤◌, ◌<◌}
-use native.Mathlib.Omega.{arith}
-use lib.ListN.{length, take, set, length-set}
-use lib.Seq.{take_all}
-use borrow.Author.Rules.{rules}
-use Rattle.sheet.specs.Lists.{number}
-use Rattle.sheet.specs.Kinds.{Kind, width, kinds}
-use Rattle.sheet.specs.Store.{kind_count, kind_at}
-use Rattle.sheet.specs.Laws.Kinds.{column-at, widths-small}
-use Rattle.sheet.specs.Laws.Stores.{prefix-more}
+use mathlib.Core.Path.{◌≡◌}
+use mathlib.Core.List.{map}
+use Prim.Native.Nat.{◌-◌, ◌≤◌}
+use lib.ListN.{length, take}
+use Rattle.sheet.specs.Kinds.{width, kinds}
+use Rattle.sheet.specs.Store.{kind_count}
 use Rattle.sheet.proofs.reader.forms.Given as goal
 
 abbrev pub invariant-loop-k : goal.invariant-loop-k

@@ -6,7 +6,6 @@ use Prim.Native.Nat.{ℕ}
 use native.Mathlib.Omega.{arith}
 use lib.ListN.{length, drop, length-drop}
 use lib.Seq.{length-take-le}
-use borrow.Author.Rules.{rules}
 use Rattle.sheet.specs.Lists.{filled}
 use Rattle.sheet.specs.Kinds.{room, kind_s, kind_o}
 use Rattle.sheet.specs.Calls.{read_answer}

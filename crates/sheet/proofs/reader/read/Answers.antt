@@ -1,7 +1,6 @@
 -- `sheet::reader::read` meets its contract: the sheet in the array is handed back, or the refusal.
 -- Assumes nothing.
 use mathlib.Core.Path.{refl, sym, ◌∙◌}
-use borrow.Author.Rules.{rules}
 use Rattle.sheet.specs.Sheet.{refused, loaded}
 use Rattle.sheet.proofs.Reading.{answered}
 use Rattle.sheet.proofs.reader.read.Goals as goal
@@ -21,7 +20,7 @@ returns-then-v-ne0 c =
     c.refuse.ensures ∙ answered c.args.src.now (refused r.result.refusal r.result.line) (r.ensures.refuses c.if-v-ne0.true)
 
 pub slice_bounds-handed_back-end : goal.slice_bounds-handed_back-end
-slice_bounds-handed_back-end c = sym c.read_into-v.auto.1.1.0
+slice_bounds-handed_back-end c = sym c.read_into-v.auto.all
 
 pub handed_back-requires : goal.handed_back-requires
 handed_back-requires c =

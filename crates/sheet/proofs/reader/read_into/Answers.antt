@@ -3,7 +3,6 @@
 use mathlib.Core.Path.{◌∙◌, ap}
 use native.Mathlib.Omega.{arith}
 use lib.ListN.{length}
-use borrow.Author.Rules.{rules}
 use Rattle.sheet.specs.Sheet.{read_of}
 use Rattle.sheet.proofs.Reading.{verdict-refused, read-long, text-start}
 use Rattle.sheet.proofs.reader.read_into.Goals as goal
@@ -13,14 +12,12 @@ returns-then-src-gt-MOST_BYTES c = verdict-refused 1 0 (omega arith) (read-long 
 
 pub take_lines-t-requires : goal.take_lines-t-requires
 take_lines-t-requires c =
-    let f = c.before.before in
-    let s = f.before.before.before.before.before in
-    (f.forms-f.ensures, text-start s.args.src.now s.requires f.if-src-gt-MOST_BYTES.false)
+    (c.forms-f.ensures, text-start c.args.src.now c.requires c.if-src-gt-MOST_BYTES.false)
 
 pub ended-requires : goal.ended-requires
 ended-requires c =
     let k = c.take_lines-t.auto in
-    (k.1.1.0 ∙ ap length c.requires.no_lines, omega (arith, k.1.1.1, ap length c.requires.no_cells))
+    (k.lines ∙ ap length c.requires.no_lines, omega (arith, k.all, ap length c.requires.no_cells))
 
 pub returns : goal.returns
 returns c = c.ended.ensures.of (read_of c.args.src.now) c.take_lines-t.ensures

@@ -3,21 +3,17 @@
 use Prim.Native.Nat.{◌+◌, ◌*◌, ◌≤◌}
 use native.Mathlib.Omega.{arith}
 use lib.ListN.{length}
-use borrow.Author.Rules.{rules}
 use Rattle.sheet.specs.Laws.Decided.{fails}
 use Rattle.sheet.specs.Laws.Seek.{listed_here, listed-none}
 use Rattle.sheet.proofs.PutText.{row_inside}
 use Rattle.sheet.proofs.seek.holds.Goals as goal
-use Rattle.sheet.proofs.seek.holds.Goals.{After-lines_before-i, Then-i-g}
+use Rattle.sheet.proofs.seek.holds.Goals.{Then-i-g}
 
 -- the line that is looked at stands in the array
-found : (c : Then-i-g) → let x = c.before.before in let a = x.args in
-    a.g.base + x.lines_before-i.result * a.g.width + a.g.width ≤ length a.all.now
+found : (c : Then-i-g) → let g = c.args.g in g.base + c.lines_before-i.result * g.width + g.width ≤ length c.args.all.now
 found c =
-    let x = c.before.before in
-    let y = x.before.before in
-    let g = y.args.g in
-    row_inside g.base g.width g.count x.lines_before-i.result (length y.args.all.now) c.if-i-g.true y.requires.inside
+    let g = c.args.g in
+    row_inside g.base g.width g.count c.lines_before-i.result (length c.args.all.now) c.if-i-g.true c.requires.inside
 
 pub overflow_mul-i : goal.overflow_mul-i
 overflow_mul-i c = omega (arith, found (goal.at.overflow_mul-i c).Then-i-g)
@@ -32,10 +28,8 @@ is_same-requires c =
 
 pub returns-then-i-g : goal.returns-then-i-g
 returns-then-i-g c =
-    let x = (goal.at.returns-then-i-g c).Then-i-g in
-    listed_here x.requires x.lines_before-i.ensures x.if-i-g.true c.is_same.ensures
+    listed_here c.requires c.lines_before-i.ensures c.if-i-g.true c.is_same.ensures
 
 pub returns : goal.returns
 returns c =
-    let x = (goal.at.returns c).After-lines_before-i in
-    fails (listed-none x.requires x.lines_before-i.ensures c.if-i-g.false)
+    fails (listed-none c.requires c.lines_before-i.ensures c.if-i-g.false)

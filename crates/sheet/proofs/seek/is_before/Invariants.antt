@@ -1,13 +1,11 @@
 -- `sheet::seek::is_before` meets its contract. The loop's invariant: the first i numbers of both are the same, so the order of what is left is
 -- the order of the whole. The measure is what is left of n.
 -- Assumes nothing.
-use mathlib.Core.Path.{◌≡◌, refl, sym, ◌∙◌}
+use mathlib.Core.Path.{◌≡◌}
 use Prim.Native.Nat.{◌-◌, ◌≤◌}
-use native.Mathlib.Omega.{arith}
 use lib.ListN.{length, take, drop}
-use borrow.Author.Rules.{rules}
 use Rattle.sheet.specs.Computed.{lexb}
-use Rattle.sheet.proofs.Passing.{lex_from, lex-below, lex-above, lex-same, lex-none}
+use Rattle.sheet.proofs.Passing.{lex_from}
 use Rattle.sheet.proofs.seek.is_before.Given as goal
 
 abbrev pub invariant-loop-i : goal.invariant-loop-i

@@ -1,12 +1,8 @@
 -- `sheet::seek::is_same` meets its contract. The loop's invariant: the first i numbers of both are the same. The measure is what is left of n.
 -- Assumes nothing.
-use mathlib.Core.Path.{◌≡◌, refl, subst}
-use Prim.Native.Nat.{ℕ, ◌-◌, ◌≤◌}
-use native.Mathlib.Omega.{arith}
+use mathlib.Core.Path.{◌≡◌}
+use Prim.Native.Nat.{◌-◌, ◌≤◌}
 use lib.ListN.{length, take, drop}
-use borrow.Author.Rules.{rules}
-use Rattle.sheet.specs.Laws.Decided.{holds, fails}
-use Rattle.sheet.proofs.Passing.{same_more, same_not}
 use Rattle.sheet.proofs.seek.is_same.Given as goal
 
 abbrev pub invariant-loop-i : goal.invariant-loop-i

@@ -1,12 +1,9 @@
 -- `sheet::seek::lines_before` meets its contract. The loop's invariant: the lines below `low` come before v, and those from `high` on do not. The measure
 -- is what lies between.
 -- Assumes nothing.
-use Prim.Native.Nat.{ℕ, ◌+◌, ◌*◌, ◌/◌, ◌-◌, ◌≤◌, ◌<◌}
-use native.Mathlib.Omega.{arith}
-use lib.ListN.{length, take}
+use Prim.Native.Nat.{◌-◌}
+use lib.ListN.{take}
 use Rattle.sheet.specs.Seek.{Parted, key_in}
-use Rattle.sheet.specs.Laws.Seek.{parted-none, parted-low, parted-high, parted-all}
-use Rattle.sheet.proofs.PutText.{row_inside}
 use Rattle.sheet.proofs.seek.lines_before.Given as goal
 
 abbrev pub invariant-loop-low : goal.invariant-loop-low

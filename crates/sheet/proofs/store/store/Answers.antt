@@ -4,7 +4,7 @@
 use mathlib.Core.Path.{◌≡◌, refl, sym, ◌∙◌, ap}
 use mathlib.Core.Bool.{Bool, true, false}
 use mathlib.Core.List.{List}
-use Prim.Native.Nat.{ℕ, ◌+◌, ◌-◌, ◌≤◌, ◌<◌}
+use Prim.Native.Nat.{ℕ, ◌+◌, ◌≤◌, ◌<◌}
 use native.Mathlib.Omega.{arith}
 use lib.Dec.{leb}
 use lib.ListN.{length, get_or, set, take}
@@ -48,7 +48,7 @@ loop-i-preserved c =
     let l = c.loop-i in
     let r = c.store_one in
     let turn = one-turn a.all.now a.v a.at a.w l.i (omega (arith, l.invariant.1, c.requires.0)) _ refl in
-    (omega arith, l.invariant.1, r.auto.0 ∙ l.invariant.2, r.ensures ∙ ap (λ (x : List ℕ). pick (leb a.w l.i) x (set x (a.at + l.i) (get_or a.v l.i 0))) l.invariant.3 ∙ turn)
+    (omega arith, l.invariant.1, r.auto.all ∙ l.invariant.2, r.ensures ∙ ap (λ (x : List ℕ). pick (leb a.w l.i) x (set x (a.at + l.i) (get_or a.v l.i 0))) l.invariant.3 ∙ turn)
 
 pub shape_of-all : goal.shape_of-all
 shape_of-all c = c.loop-i.invariant.2

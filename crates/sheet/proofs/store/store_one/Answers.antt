@@ -1,7 +1,6 @@
 -- `sheet::store::store_one` meets its contract: the test decides whether the number is written.
 -- Assumes nothing.
 use native.Mathlib.Omega.{arith}
-use borrow.Author.Rules.{rules}
 use borrow.Author.Tests.{le-leb, lt-leb}
 use Rattle.sheet.proofs.store.store_one.Goals as goal
 

@@ -2,10 +2,9 @@
 -- A number takes at most six bytes, so that the sum fits.
 -- Assumes nothing.
 use mathlib.Core.Path.{◌≡◌, ap}
-use Prim.Native.Nat.{ℕ, ◌≤◌, ◌-◌, ◌+◌, ◌*◌}
+use Prim.Native.Nat.{ℕ, ◌≤◌, ◌*◌}
 use native.Mathlib.Omega.{arith}
 use lib.ListN.{length, take, drop}
-use borrow.Author.Rules.{rules}
 use Rattle.sheet.specs.Kinds.{width}
 use Rattle.sheet.specs.Store.{kind_at, base_of}
 use Rattle.sheet.proofs.PutText.{numbers_text, number-more-length, group-length, few-numbers}
@@ -40,9 +39,6 @@ offset_bounds-all-base c = omega arith
 
 pub bounds-all-base : goal.bounds-all-base
 bounds-all-base c = omega arith
-
-pub overflow_cast-all : goal.overflow_cast-all
-overflow_cast-all c = omega (arith, c.shared_slice_known-in-loop-i-1.given (c.row_of-row.result.base + c.loop-i.i))
 
 pub overflow_add-bytes : goal.overflow_add-bytes
 overflow_add-bytes c = omega (arith, c.digits_in.ensures)

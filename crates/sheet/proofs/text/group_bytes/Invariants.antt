@@ -1,14 +1,12 @@
 -- `sheet::text::group_bytes` meets its contract. Invariant: two bytes for each line, and the length of the text of the first i numbers.
 -- A number takes at most six bytes, so that the sum fits.
 -- Assumes nothing.
-use mathlib.Core.Path.{◌≡◌, ap}
-use Prim.Native.Nat.{ℕ, ◌≤◌, ◌-◌, ◌+◌, ◌*◌}
-use native.Mathlib.Omega.{arith}
+use mathlib.Core.Path.{◌≡◌}
+use Prim.Native.Nat.{◌≤◌, ◌-◌, ◌+◌, ◌*◌}
 use lib.ListN.{length, take, drop}
-use borrow.Author.Rules.{rules}
 use Rattle.sheet.specs.Kinds.{width}
 use Rattle.sheet.specs.Store.{kind_at, base_of}
-use Rattle.sheet.proofs.PutText.{numbers_text, number-more-length, group-length, few-numbers}
+use Rattle.sheet.proofs.PutText.{numbers_text}
 use Rattle.sheet.proofs.text.group_bytes.Given as goal
 
 abbrev pub invariant-loop-i : goal.invariant-loop-i

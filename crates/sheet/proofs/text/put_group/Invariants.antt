@@ -1,21 +1,13 @@
 -- `sheet::text::put_group` meets its contract. Invariant: the text of the first i lines is written.
 -- Assumes nothing.
-use mathlib.Core.Path.{◌≡◌, refl, sym, ◌∙◌, ap}
-use mathlib.Core.List.{List, []}
-use Prim.Native.Nat.{ℕ, ◌≤◌, ◌<◌, ◌-◌, ◌*◌, ◌+◌}
-use native.Mathlib.Omega.{arith}
-use lib.ListN.{length, take, get_or}
-use lib.Seq.{length-sets, length-take-le}
-use borrow.Author.Rules.{rules}
+use mathlib.Core.Path.{◌≡◌}
+use Prim.Native.Nat.{◌≤◌, ◌-◌, ◌*◌, ◌+◌}
+use lib.ListN.{length, take}
 use Rattle.sheet.specs.Lists.{bind}
 use Rattle.sheet.specs.Decimal.{most_digits}
-use Rattle.sheet.specs.Lines.{line}
-use Rattle.sheet.specs.Text.{printed, line_text}
-use Rattle.sheet.specs.Store.{kind_at}
-use Rattle.sheet.specs.Inner.{group_text}
-use Rattle.sheet.specs.Laws.Puts.{Puts, puts-length, puts-as, puts_none, puts-more, puts-all, puts-fits}
-use Rattle.sheet.specs.Laws.Kinds.{width_small}
-use Rattle.sheet.proofs.PutText.{row_inside, part_length, group_of, group-count, line_at}
+use Rattle.sheet.specs.Text.{line_text}
+use Rattle.sheet.specs.Laws.Puts.{Puts}
+use Rattle.sheet.proofs.PutText.{group_of}
 use Rattle.sheet.proofs.text.put_group.Given as goal
 
 abbrev pub invariant-loop-i : goal.invariant-loop-i

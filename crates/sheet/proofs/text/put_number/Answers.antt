@@ -21,7 +21,7 @@ unfolding number_text
 put_digits-requires c = simp length-set (omega arith)
 
 pub shape_of-out : goal.shape_of-out
-shape_of-out c = c.put_digits.auto.0 ∙ simp length-set
+shape_of-out c = c.put_digits.auto.out ∙ simp length-set
 
 pub returns : goal.returns
 unfolding number_text

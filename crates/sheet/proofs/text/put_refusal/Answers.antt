@@ -2,7 +2,6 @@
 -- Assumes nothing.
 use mathlib.Core.List.{[], ◌∷◌}
 use native.Mathlib.Omega.{arith}
-use borrow.Author.Rules.{rules}
 use Rattle.sheet.specs.Text.{most_printed}
 use Rattle.sheet.specs.Laws.Printed.{printed-most, refusal-puts}
 use Rattle.sheet.proofs.text.put_refusal.Goals as goal

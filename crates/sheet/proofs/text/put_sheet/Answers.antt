@@ -2,14 +2,10 @@
 -- Assumes nothing.
 use mathlib.Core.Path.{sym, ◌∙◌, ap}
 use mathlib.Core.List.{[]}
-use Prim.Native.Nat.{◌≤◌, ◌-◌}
 use native.Mathlib.Omega.{arith}
-use lib.ListN.{length, take}
+use lib.ListN.{length}
 use lib.Seq.{sets}
-use Rattle.sheet.specs.Lists.{flat}
-use Rattle.sheet.specs.Sheet.{Sheet}
-use Rattle.sheet.specs.Store.{kind_count, StoreOf}
-use Rattle.sheet.specs.Laws.Puts.{Puts, puts-length, puts-as, puts_none, puts-more, puts-all, puts-fits}
+use Rattle.sheet.specs.Laws.Puts.{puts-length, puts-as, puts_none, puts-more, puts-all, puts-fits}
 use Rattle.sheet.proofs.PutText.{sheet_texts, sheet-texts, sheet-texts-count, store-lines, store-fits, store-text}
 use Rattle.sheet.proofs.text.put_sheet.Goals as goal
 
@@ -21,9 +17,6 @@ offset_bounds-lines-k c = omega arith
 
 pub bounds-lines-k : goal.bounds-lines-k
 bounds-lines-k c = omega (arith, store-lines c.requires.store)
-
-pub overflow_cast-n : goal.overflow_cast-n
-overflow_cast-n c = omega (arith, c.shared_slice_known-in-loop-k-1.given c.loop-k.k)
 
 pub put_group-next-requires : goal.put_group-next-requires
 put_group-next-requires c =

@@ -1,15 +1,12 @@
 -- `sheet::text::sheet_bytes` meets its contract. Invariant: the length of the texts of the first k kinds' groups.
 -- Assumes nothing.
-use mathlib.Core.Path.{◌≡◌, refl, sym, ◌∙◌, ap}
+use mathlib.Core.Path.{refl, sym, ◌∙◌, ap}
 use mathlib.Core.List.{List, []}
-use Prim.Native.Nat.{ℕ, ◌≤◌, ◌-◌, ◌*◌}
+use Prim.Native.Nat.{ℕ}
 use native.Mathlib.Omega.{arith}
-use lib.ListN.{length, take, length-append}
+use lib.ListN.{length, length-append}
 use lib.Seq.{take_all}
 use Rattle.sheet.specs.Lists.{flat}
-use Rattle.sheet.specs.Sheet.{Sheet}
-use Rattle.sheet.specs.Store.{kind_count, StoreOf}
-use Rattle.sheet.specs.Inner.{group_bytes}
 use Rattle.sheet.specs.Laws.Binds.{bind-more}
 use Rattle.sheet.proofs.PutText.{sheet_texts, sheet-texts, sheet-texts-count, store-lines, store-fits, store-text}
 use Rattle.sheet.proofs.text.sheet_bytes.Goals as goal
@@ -22,9 +19,6 @@ offset_bounds-lines-k c = omega arith
 
 pub bounds-lines-k : goal.bounds-lines-k
 bounds-lines-k c = omega (arith, store-lines c.requires.store)
-
-pub overflow_cast-n : goal.overflow_cast-n
-overflow_cast-n c = omega (arith, c.shared_slice_known-in-loop-k-1.given c.loop-k.k)
 
 pub group_bytes-bytes-requires : goal.group_bytes-bytes-requires
 group_bytes-bytes-requires c = (omega arith, store-fits c.requires.store c.loop-k.k (omega arith))

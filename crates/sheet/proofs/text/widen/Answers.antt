@@ -1,9 +1,9 @@
 -- `sheet::text::widen` meets its contract. Invariant: the first i numbers are written.
 -- Assumes nothing.
 use mathlib.Core.Path.{◌≡◌, refl, ◌∙◌, ap}
-use Prim.Native.Nat.{◌+◌, ◌-◌, ◌≤◌, ◌<◌}
+use Prim.Native.Nat.{◌+◌, ◌<◌}
 use native.Mathlib.Omega.{arith}
-use lib.ListN.{length, take}
+use lib.ListN.{length}
 use lib.Seq.{sets, length-sets, take_all}
 use borrow.Author.Rules.{rules}
 use Rattle.sheet.specs.Laws.Stores.{sets_more}
@@ -22,9 +22,6 @@ offset_bounds-numbers-i c = omega arith
 
 pub bounds-numbers-i : goal.bounds-numbers-i
 bounds-numbers-i c = omega arith
-
-pub overflow_cast-to : goal.overflow_cast-to
-overflow_cast-to c = omega (arith, c.shared_slice_known-1.given c.loop-i.i)
 
 pub offset_bounds-to-i : goal.offset_bounds-to-i
 offset_bounds-to-i c = omega arith

@@ -1,12 +1,9 @@
 -- `sheet::text::widen` meets its contract. Invariant: the first i numbers are written.
 -- Assumes nothing.
-use mathlib.Core.Path.{◌≡◌, refl, ◌∙◌, ap}
-use Prim.Native.Nat.{◌+◌, ◌-◌, ◌≤◌, ◌<◌}
-use native.Mathlib.Omega.{arith}
+use mathlib.Core.Path.{◌≡◌}
+use Prim.Native.Nat.{◌-◌, ◌≤◌}
 use lib.ListN.{length, take}
-use lib.Seq.{sets, length-sets, take_all}
-use borrow.Author.Rules.{rules}
-use Rattle.sheet.specs.Laws.Stores.{sets_more}
+use lib.Seq.{sets}
 use Rattle.sheet.proofs.text.widen.Given as goal
 
 abbrev pub invariant-loop-i : goal.invariant-loop-i

@@ -1,13 +1,9 @@
 -- `sheet::writer::row_at` meets its contract. Invariant: the first i numbers are there, and zeros after them.
 -- Assumes nothing.
-use mathlib.Core.Path.{◌≡◌, refl, ◌∙◌, ap}
-use Prim.Native.Nat.{ℕ, ◌≤◌, ◌<◌, ◌-◌}
-use native.Mathlib.Omega.{arith}
-use lib.ListN.{length, take, drop, length-drop, length-set}
-use lib.Seq.{get_or-drop}
-use borrow.Author.Rules.{rules}
+use mathlib.Core.Path.{◌≡◌}
+use Prim.Native.Nat.{◌≤◌, ◌-◌}
+use lib.ListN.{length, take, drop}
 use Rattle.sheet.specs.Lists.{filled}
-use Rattle.sheet.proofs.Written.{filled_more}
 use Rattle.sheet.proofs.writer.row_at.Given as goal
 
 abbrev pub invariant-loop-i : goal.invariant-loop-i

@@ -2,35 +2,29 @@
 -- the group were taken, and the array holds them.
 -- Assumes nothing.
 use mathlib.Core.Path.{◌≡◌, refl, sym, ◌∙◌, ap, subst}
-use Prim.Native.Nat.{ℕ, ◌+◌, ◌*◌, ◌/◌, ◌-◌, ◌≤◌, ◌<◌}
+use mathlib.Core.List.{List}
+use Prim.Native.Nat.{ℕ, ◌+◌, ◌*◌, ◌/◌, ◌≤◌, ◌<◌}
 use native.Mathlib.Omega.{arith}
 use lib.ListN.{length, take, drop}
-use borrow.Author.Rules.{rules}
 use Rattle.sheet.specs.Lists.{filled}
 use Rattle.sheet.specs.Kinds.{width}
-use Rattle.sheet.specs.Store.{kind_count, kind_at}
-use Rattle.sheet.specs.Inner.{GroupReached}
+use Rattle.sheet.specs.Store.{kind_at}
 use Rattle.sheet.specs.Laws.Kinds.{width_some, width_small}
-use Rattle.sheet.proofs.Writing.{Taken, taken_none, taken_refused, row_inside, taken_next, taken-fault, taken-all, kept_next, group-few}
+use Rattle.sheet.proofs.Writing.{taken_none, taken_refused, row_inside, taken_next, taken-fault, taken-all, kept_next, group-few}
 use Rattle.sheet.proofs.writer.take_group.Goals as goal
-use Rattle.sheet.proofs.writer.take_group.Goals.{After-take_line-fault, At-loop-i, In-loop-i}
+use Rattle.sheet.proofs.writer.take_group.Goals.{In-loop-i}
 
--- row i stands within the group, and its line is the one that was read
-below : (t : After-take_line-fault) → let h = t.before.before.before.before.before in h.loop-i.i < length h.args.g.now / width (kind_at h.args.k)
-below t = omega (arith, t.loop-i-test.true, t.loop-i.invariant.5)
-
-row : (t : After-take_line-fault) → let h = t.before.before.before.before.before in let w = width (kind_at h.args.k) in
-    t.row_at-v.result ≡ filled 8 (take w (drop (h.loop-i.i * w) h.args.g.now))
-row t =
-    let h = t.before.before.before.before.before in
-    t.row_at-v.ensures ∙ ap (λ (w : ℕ). filled 8 (take w (drop (h.loop-i.i * w) h.args.g.now))) h.loop-i.invariant.4
+-- the row that was read is that of line i
+row : (k i : ℕ) (g v : List ℕ) (w : ℕ) → w ≡ width (kind_at k) → v ≡ filled 8 (take w (drop (i * w) g))
+    → v ≡ filled 8 (take (width (kind_at k)) (drop (i * width (kind_at k)) g))
+row k i g v w e d = d ∙ ap (λ (m : ℕ). filled 8 (take m (drop (i * m) g))) e
 
 -- row i stands within the group, as the code reckons
 inside : (c : In-loop-i) → let w = c.row_of-row.result.width in c.loop-i.i * w + w ≤ length c.args.g.now
 inside c =
-    let h = c.before in
-    let g = h.args.g.now in
-    subst (λ (w : ℕ). h.loop-i.i * w + w ≤ length g) (sym h.loop-i.invariant.4) (row_inside h.args.k g h.loop-i.invariant.3 h.loop-i.i (omega (arith, c.loop-i-test.true, h.loop-i.invariant.5)))
+    let i = c.loop-i.invariant in
+    let l : c.loop-i.i < length c.args.g.now / width (kind_at c.args.k) = omega (arith, c.loop-i-test.true, i.5) in
+    subst (λ (w : ℕ). c.loop-i.i * w + w ≤ length c.args.g.now) (sym i.4) (row_inside c.args.k c.args.g.now i.3 c.loop-i.i l)
 
 pub returns-then-judged-ne0 : goal.returns-then-judged-ne0
 returns-then-judged-ne0 c = taken_refused c.requires.1 c.if-judged-ne0.true
@@ -49,7 +43,7 @@ loop-i-init c =
     (taken_none, q, omega arith, p.0, r.width_is, ap (λ (m : ℕ). length c.args.g.now / m) r.width_is, refl, refl, omega (arith, q.next))
 
 pub overflow_mul-i : goal.overflow_mul-i
-overflow_mul-i c = omega (arith, inside c, c.well-formed)
+overflow_mul-i c = omega (arith, inside c)
 
 pub row_at-v-requires : goal.row_at-v-requires
 row_at-v-requires c =
@@ -62,18 +56,17 @@ take_line-fault-requires c =
     (i.3, record { before = i.1.before; stored = i.1.stored })
 
 pub shape_of-lines-then-fault-ne0 : goal.shape_of-lines-then-fault-ne0
-shape_of-lines-then-fault-ne0 c = c.take_line-fault.auto.0 ∙ c.loop-i.invariant.6
+shape_of-lines-then-fault-ne0 c = c.take_line-fault.auto.lines ∙ c.loop-i.invariant.6
 
 pub shape_of-all-then-fault-ne0 : goal.shape_of-all-then-fault-ne0
-shape_of-all-then-fault-ne0 c = c.take_line-fault.auto.1.0 ∙ c.loop-i.invariant.7
+shape_of-all-then-fault-ne0 c = c.take_line-fault.auto.all ∙ c.loop-i.invariant.7
 
 pub returns-then-fault-ne0 : goal.returns-then-fault-ne0
 returns-then-fault-ne0 c =
-    let t = (goal.at.returns-then-fault-ne0 c).After-take_line-fault in
-    let h = t.before.before.before.before.before in
-    let i = h.loop-i.invariant in
-    let z = h.before.before.before.before.before.before.before in
-    taken-fault z.args.k z.args.g.now i.3 i.0 (below t) t.row_at-v.result (row t) {u = z.args.judged} (h.if-judged-ne0.false, refl) t.take_line-fault.ensures c.if-fault-ne0.true
+    let i = c.loop-i.invariant in
+    let l : c.loop-i.i < length c.args.g.now / width (kind_at c.args.k) = omega (arith, c.loop-i-test.true, i.5) in
+    taken-fault c.args.k c.args.g.now i.3 i.0 l c.row_at-v.result (row c.args.k c.loop-i.i c.args.g.now _ _ i.4 c.row_at-v.ensures)
+    {u = c.args.judged} (c.if-judged-ne0.false, refl) c.take_line-fault.ensures c.if-fault-ne0.true
 
 pub overflow_add-next : goal.overflow_add-next
 overflow_add-next c = omega (arith, group-few c.loop-i.invariant.1)
@@ -85,18 +78,18 @@ overflow_add-i c =
 
 pub loop-i-preserved : goal.loop-i-preserved
 loop-i-preserved c =
-    let t = (goal.at.loop-i-preserved c).After-take_line-fault in
-    let h = t.before.before.before.before.before in
-    let i = h.loop-i.invariant in
-    let k = t.take_line-fault.auto in (
-      taken_next h.args.k h.args.g.now i.3 i.0 (below t) t.row_at-v.result (row t) t.take_line-fault.ensures c.if-fault-ne0.false,
-      kept_next i.1 t.take_line-fault.ensures c.if-fault-ne0.false,
-      omega (arith, t.loop-i-test.true),
+    let i = c.loop-i.invariant in
+    let l : c.loop-i.i < length c.args.g.now / width (kind_at c.args.k) = omega (arith, c.loop-i-test.true, i.5) in
+    let k = c.take_line-fault.auto in (
+      taken_next c.args.k c.args.g.now i.3 i.0 l c.row_at-v.result (row c.args.k c.loop-i.i c.args.g.now _ _ i.4 c.row_at-v.ensures)
+      c.take_line-fault.ensures c.if-fault-ne0.false,
+      kept_next i.1 c.take_line-fault.ensures c.if-fault-ne0.false,
+      omega (arith, c.loop-i-test.true),
       i.3,
       i.4,
       i.5,
-      k.0 ∙ i.6,
-      k.1.0 ∙ i.7,
+      k.lines ∙ i.6,
+      k.all ∙ i.7,
       omega (arith, i.8),
     )
 
@@ -108,7 +101,5 @@ shape_of-all c = c.loop-i.invariant.7
 
 pub returns : goal.returns
 returns c =
-    let h = (goal.at.returns c).At-loop-i in
-    let i = h.loop-i.invariant in
-    let z = h.before.before.before.before.before.before.before in
-    taken-all z.args.k z.args.g.now i.3 {u = z.args.judged} i.0 (h.if-judged-ne0.false, refl) (omega (arith, c.loop-i-test.false, i.5)) i.1 c.passed.ensures
+    let i = c.loop-i.invariant in
+    taken-all c.args.k c.args.g.now i.3 {u = c.args.judged} i.0 (c.if-judged-ne0.false, refl) (omega (arith, c.loop-i-test.false, i.5)) i.1 c.passed.ensures

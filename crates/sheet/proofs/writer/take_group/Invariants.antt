@@ -1,17 +1,13 @@
 -- `sheet::writer::take_group` meets its contract: a refusal is handed on; else the lines are taken one by one. Invariant: the first i lines of
 -- the group were taken, and the array holds them.
 -- Assumes nothing.
-use mathlib.Core.Path.{◌≡◌, refl, sym, ◌∙◌, ap, subst}
-use Prim.Native.Nat.{ℕ, ◌+◌, ◌*◌, ◌/◌, ◌-◌, ◌≤◌, ◌<◌}
-use native.Mathlib.Omega.{arith}
-use lib.ListN.{length, take, drop}
-use borrow.Author.Rules.{rules}
-use Rattle.sheet.specs.Lists.{filled}
+use mathlib.Core.Path.{◌≡◌}
+use Prim.Native.Nat.{◌/◌, ◌-◌, ◌≤◌, ◌<◌}
+use lib.ListN.{length}
 use Rattle.sheet.specs.Kinds.{width}
 use Rattle.sheet.specs.Store.{kind_count, kind_at}
 use Rattle.sheet.specs.Inner.{GroupReached}
-use Rattle.sheet.specs.Laws.Kinds.{width_some, width_small}
-use Rattle.sheet.proofs.Writing.{Taken, taken_none, taken_refused, row_inside, taken_next, taken-fault, taken-all, kept_next, group-few}
+use Rattle.sheet.proofs.Writing.{Taken}
 use Rattle.sheet.proofs.writer.take_group.Given as goal
 
 abbrev pub invariant-loop-i : goal.invariant-loop-i

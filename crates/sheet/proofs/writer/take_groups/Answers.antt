@@ -3,7 +3,6 @@
 use mathlib.Core.Path.{◌∙◌, ap}
 use native.Mathlib.Omega.{arith}
 use lib.ListN.{length}
-use borrow.Author.Rules.{rules}
 use Rattle.sheet.specs.Calls.{groups}
 use Rattle.sheet.proofs.Writing.{groups-start, so-far-ready}
 use Rattle.sheet.proofs.writer.take_groups.Goals as goal
@@ -22,15 +21,15 @@ take_group-o-requires c = (omega arith, c.take_group-x.ensures.ready)
 
 pub ended-requires : goal.ended-requires
 ended-requires c = (
-  omega (arith, ap length c.requires.1.no_lines, c.lines-5-1.given, c.lines-4-1.given, c.lines-3-1.given, c.lines-2-1.given, c.lines-1.given),
-  omega (arith, ap length c.requires.1.no_cells, c.all-5-1.given, c.all-4-1.given, c.all-3-1.given, c.all-2-1.given, c.all-1.given),
+  omega (arith, ap length c.requires.1.no_lines, c.take_group-o.auto.lines, c.take_group-x.auto.lines, c.take_group-c.auto.lines, c.take_group-w.auto.lines, c.take_group-s.auto.lines),
+  omega (arith, ap length c.requires.1.no_cells, c.take_group-o.auto.all, c.take_group-x.auto.all, c.take_group-c.auto.all, c.take_group-w.auto.all, c.take_group-s.auto.all),
 )
 
 pub shape_of-lines : goal.shape_of-lines
-shape_of-lines c = c.lines-5-1.given ∙ c.lines-4-1.given ∙ c.lines-3-1.given ∙ c.lines-2-1.given ∙ c.lines-1.given
+shape_of-lines c = c.take_group-o.auto.lines ∙ c.take_group-x.auto.lines ∙ c.take_group-c.auto.lines ∙ c.take_group-w.auto.lines ∙ c.take_group-s.auto.lines
 
 pub shape_of-all : goal.shape_of-all
-shape_of-all c = c.all-5-1.given ∙ c.all-4-1.given ∙ c.all-3-1.given ∙ c.all-2-1.given ∙ c.all-1.given
+shape_of-all c = c.take_group-o.auto.all ∙ c.take_group-x.auto.all ∙ c.take_group-c.auto.all ∙ c.take_group-w.auto.all ∙ c.take_group-s.auto.all
 
 pub returns : goal.returns
 returns c =

@@ -1,7 +1,6 @@
 -- `sheet::writer::write` meets its contract: 2 by the lengths; then the lines are judged as they are taken into the array; then it is written.
 -- Assumes nothing.
 use mathlib.Core.Path.{refl, sym, ◌∙◌}
-use borrow.Author.Rules.{rules}
 use Rattle.sheet.specs.Sheet.{refused, loaded}
 use Rattle.sheet.specs.Calls.{groups}
 use Rattle.sheet.specs.Laws.RoundTrip.{whole_of, write-uneven}

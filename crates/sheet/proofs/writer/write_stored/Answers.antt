@@ -2,7 +2,6 @@
 -- Assumes nothing.
 use mathlib.Core.Path.{◌∙◌, ap}
 use native.Mathlib.Omega.{arith}
-use borrow.Author.Rules.{rules}
 use Rattle.sheet.specs.Calls.{write_end}
 use Rattle.sheet.specs.Laws.RoundTrip.{valid-text}
 use Rattle.sheet.proofs.Writing.{written-short, written-whole}

@@ -1,0 +1,15 @@
+-- `journeys::front::list_rows` meets its contract. The loop's invariant: the rows taken so far are listed.
+-- The measure is the count of rows ahead.
+-- Assumes nothing.
+use Rattle.journeys.proofs.Listing.{listable-next}
+use Rattle.journeys.specs.Inner.Sweep.{Listable, ListedOn}
+use lib.ListN.{length}
+use native.Mathlib.Omega.{arith}
+use mathlib.Core.Path.{◌≡◌, refl, ◌∙◌}
+use Rattle.journeys.proofs.front.list_rows.Given as goal
+
+abbrev pub invariant-loop-s : goal.invariant-loop-s
+invariant-loop-s l = (length l.table ≡ length l.initial.table) × (length l.list ≡ length l.initial.list) × Listable l.v.0 l.table l.s l.list × ListedOn l.v.0 l.initial.table l.table l.initial.s l.s l.initial.list l.list
+
+abbrev pub decreases-loop-s : goal.decreases-loop-s
+decreases-loop-s l = l.s.rest

@@ -1,0 +1,18 @@
+-- `journeys::goal::seek` meets its contract. The loop's invariant: the gap is one of the same chain, and g is not before the row before it.
+-- The measure is the count of rows after the gap.
+-- Assumes nothing.
+use Rattle.journeys.proofs.Climbing.{tested}
+use Rattle.journeys.proofs.Ordering.{compared, right-room, seekable-next, seekable-from, sought-next, sought-then, sought-led, sought-above}
+use Rattle.journeys.specs.declared.chain.Gap.{Gap}
+use Rattle.journeys.specs.Inner.Chain.{Seekable, SoughtFrom}
+use borrow.Author.Rules.{rules}
+use native.Mathlib.Omega.{arith}
+use Prim.Native.Nat.{◌<◌}
+use mathlib.Core.Path.{refl, sym, subst}
+use Rattle.journeys.proofs.goal.seek.Given as goal
+
+abbrev pub invariant-loop-gap : goal.invariant-loop-gap
+invariant-loop-gap l = Seekable l.table l.gap × SoughtFrom l.table l.initial.gap l.g l.gap
+
+abbrev pub decreases-loop-gap : goal.decreases-loop-gap
+decreases-loop-gap l = l.gap.rest

@@ -1,0 +1,41 @@
+-- `journeys::marks::mark_into` meets its contract. The loop's invariant: the rows from which a cart can cross by a corridor below number l are marked.
+-- The measure is what is left of the corridors.
+-- Assumes nothing.
+use mathlib.Core.Path.{◌≡◌, refl}
+use Prim.Native.Nat.{◌-◌, ◌≤◌}
+use native.Mathlib.Omega.{arith}
+use Rattle.sheet.specs.Lists.{number}
+use Rattle.sheet.specs.Kinds.{kind_c}
+use Rattle.sheet.specs.Store.{sheet_in}
+use Rattle.sheet.specs.Laws.Store.{store-counts, store-few}
+use Rattle.intervals.specs.FirstSteps.{some-derived}
+use Rattle.journeys.specs.Inner.Lookup.{standing}
+use Rattle.journeys.specs.Inner.Marks.{Raised}
+use Rattle.journeys.proofs.Marking.{Below, raised-start}
+use Rattle.journeys.proofs.Crossings.{ByCorridor, cross-more, cross-all, enterable-kept}
+use borrow.Author.Rules.{rules}
+use Rattle.journeys.proofs.marks.mark_into.Goals as goal
+
+pub bounds-lines-2 : goal.bounds-lines-2
+bounds-lines-2 c = omega (arith, store-counts c.requires.rowed.derived.store)
+
+pub overflow_cast-count : goal.overflow_cast-count
+overflow_cast-count c = omega (arith, (store-few c.requires.rowed.derived.store kind_c.order (omega arith)).0)
+
+pub loop-l-init : goal.loop-l-init
+loop-l-init c = (omega arith, refl, raised-start)
+
+pub mark_over-requires : goal.mark_over-requires
+mark_over-requires c = (enterable-kept c.loop-l.invariant.2 c.requires, omega (arith, c.loop-l.invariant.1))
+
+pub overflow_step-l : goal.overflow_step-l
+overflow_step-l c = omega (arith, c.loop-l.invariant.1, (store-few c.requires.rowed.derived.store kind_c.order (omega arith)).0)
+
+pub loop-l-preserved : goal.loop-l-preserved
+loop-l-preserved c = (omega arith, c.loop-l.invariant.1, cross-more c.loop-l.invariant.2 c.mark_over.ensures)
+
+pub shape_of-table : goal.shape_of-table
+shape_of-table c = c.loop-l.invariant.2.rows.size
+
+pub returns : goal.returns
+returns c = cross-all (some-derived c.requires.rowed.derived) (omega (arith, c.loop-l.invariant.1)) c.loop-l.invariant.2

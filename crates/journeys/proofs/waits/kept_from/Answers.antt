@@ -1,0 +1,17 @@
+-- `journeys::waits::kept_from` meets its contract: the row whose cost is what is left after the steps waited, or none where nothing is left.
+-- Assumes nothing.
+use mathlib.Core.Path.{sym, ◌∙◌}
+use borrow.Author.Tests.{not-true, not-false}
+use Rattle.costs.specs.Laws.Figures.{at_most_b-true}
+use Rattle.journeys.proofs.Waiting.{waited-more, waited-left}
+use borrow.Author.Rules.{rules}
+use Rattle.journeys.proofs.waits.kept_from.Goals as goal
+
+pub returns-then-not-at_most : goal.returns-then-not-at_most
+returns-then-not-at_most c = waited-more c.multiple-waited.ensures c.at_most.ensures c.if-not-at_most.true
+
+pub less-cost-requires : goal.less-cost-requires
+less-cost-requires c = at_most_b-true _ _ (sym c.at_most.ensures ∙ c.if-not-at_most.false)
+
+pub returns : goal.returns
+returns c = waited-left c.multiple-waited.ensures _ c.less-cost.ensures c.row_of.ensures

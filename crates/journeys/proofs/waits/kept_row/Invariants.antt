@@ -1,0 +1,14 @@
+-- `journeys::waits::kept_row` meets its contract. The loop's invariant: no row at a step from s on becomes the cost. The measure is s.
+-- Assumes nothing.
+use mathlib.Core.Path.{◌≡◌, refl}
+use Prim.Native.Nat.{◌+◌, ◌≤◌}
+use native.Mathlib.Omega.{arith}
+use Rattle.journeys.proofs.Waiting.{NoneFrom, none_yet, none-sooner, kept-found, kept-none}
+use borrow.Author.Rules.{rules}
+use Rattle.journeys.proofs.waits.kept_row.Given as goal
+
+abbrev pub invariant-loop-s : goal.invariant-loop-s
+invariant-loop-s l = (l.s ≤ l.here.step.0 + 1) × (l.first ≡ l.here.since.0) × NoneFrom l.n l.table l.here l.h l.s
+
+abbrev pub decreases-loop-s : goal.decreases-loop-s
+decreases-loop-s l = l.s

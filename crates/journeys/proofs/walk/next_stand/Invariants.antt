@@ -1,0 +1,20 @@
+-- `journeys::walk::next_stand` meets its contract. The loop's invariant: of a wait and the corridors below number l, the best has the lowest place. The
+-- measure is the number of corridors left.
+-- Assumes nothing.
+use Prim.Native.Nat.{◌-◌}
+use native.Mathlib.Omega.{arith}
+use Rattle.sheet.specs.Kinds.{kind_c}
+use Rattle.sheet.specs.Store.{sheet_in}
+use Rattle.sheet.specs.Laws.Store.{store-counts, store-few}
+use Rattle.costs.specs.Laws.Moves.{corridor-count}
+use Rattle.intervals.specs.FirstSteps.{some-derived}
+use Rattle.journeys.specs.Inner.Lookup.{standing}
+use Rattle.journeys.specs.Inner.Walk.{LowestOf}
+use Rattle.journeys.proofs.Choosing.{lowest-all}
+use Rattle.journeys.proofs.walk.next_stand.Given as goal
+
+abbrev pub invariant-loop-l : goal.invariant-loop-l
+invariant-loop-l l = LowestOf (sheet_in l.lines l.all) l.n l.table (standing l.at) l.l (standing l.best)
+
+abbrev pub decreases-loop-l : goal.decreases-loop-l
+decreases-loop-l l = l.count - l.l

@@ -1,0 +1,6 @@
+-- `sheet::text::digits_in` meets its contract: by recursion on the count of digits that are left.
+-- Assumes nothing.
+use Rattle.sheet.proofs.text.+digits_in.Given as goal
+
+abbrev pub decreases-digits_in : goal.decreases-digits_in
+decreases-digits_in l = l.most
