@@ -16,7 +16,7 @@ pub mod compare; // compare.rt: two fronts compared (demand 3)
 
 // What a call of the front hands back: the count of front costs and the number of leading arrivals.
 #[repr(C)]
-#[derive(Drop)]
+#[derive(Clone, Copy)]
 pub struct FrontAnswer {
     pub refusal: u32,
     pub line: u32,

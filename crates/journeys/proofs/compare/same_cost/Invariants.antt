@@ -1,0 +1,15 @@
+-- `journeys::compare::same_cost` meets its contract. The loop's invariant: the first j figures are equal. The measure is what is left of three.
+-- Assumes nothing.
+use Prim.Native.Nat.{◌≤◌, ◌-◌}
+use native.Mathlib.Omega.{arith}
+use borrow.Author.Count.{below_more}
+use borrow.Author.Rules.{rules}
+use Rattle.sheet.specs.Laws.Decided.{holds, fails}
+use Rattle.journeys.specs.Inner.{SameFigures}
+use Rattle.journeys.proofs.compare.same_cost.Given as goal
+
+abbrev pub invariant-loop-j : goal.invariant-loop-j
+invariant-loop-j l = (l.j ≤ 3) × (SameFigures l.j l.a l.b l.at)
+
+abbrev pub decreases-loop-j : goal.decreases-loop-j
+decreases-loop-j l = 3 - l.j
