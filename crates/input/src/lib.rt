@@ -4,24 +4,25 @@
 
 ghost use Rattle.input.specs.Input.{Within};
 
+use std::io::Read;
+
 // What standard input gave: so many bytes, or a read that failed.
-#[derive(Drop)]
+#[derive(Clone, Copy)]
 pub enum Input {
     Bytes(usize),
     Failed,
 }
 
-// Reads standard input to its end, or until the buffer is full. A read that a signal interrupts counts as one that failed.
-pub fn read_input(buffer: &mut [u8]) -> Input
+// Reads the input that is lent, a program's standard input, to its end, or until the buffer is full. A read that a signal interrupts counts as one
+// that failed.
+pub fn read_input<R: Read>(input: &mut R, buffer: &mut [u8]) -> Input
     ensures { Within result buffer.new }
 {
     let mut n = 0;
     while n < buffer.len() {
-        let got = libc::read(0, &mut buffer[n..]);
-        if got < 0 {
+        let Ok(more) = input.read(&mut buffer[n..]) else {
             return Input::Failed;
-        }
-        let more = io::count(got, &buffer[n..]);
+        };
         if more == 0 {
             return Input::Bytes(n);
         }

@@ -9,6 +9,7 @@ ghost use Rattle.month_page.specs.Inner.{Enough, WholePage};
 use input::{Input, read_input};
 use month::lines::DECIDING;
 use month::{MonthPage, page_of};
+use std::io::Write;
 
 // The page of the input whose first n bytes stand in the buffer.
 fn page_from(buffer: &[u8], n: usize) -> MonthPage
@@ -18,18 +19,20 @@ fn page_from(buffer: &[u8], n: usize) -> MonthPage
     page_of(&buffer[..n])
 }
 
-fn main() {
+fn main(rt: HostRuntime) {
     let mut month = [0u8; DECIDING + 1];
-    let input = read_input(&mut month);
+    let input = read_input(&mut rt.stdin(), &mut month);
     let Input::Bytes(n) = input else {
-        io::write_all(2, b"month: the month cannot be read\n");
+        let _ = rt.stderr().write_all(b"month: the month cannot be read\n");
         return;
     };
     let page = page_from(&month, n);
     let count = page.count;
     let bytes = page.bytes;
-    let is_written = io::write_all(1, &bytes[..count]);
-    if !is_written {
-        io::write_all(2, b"month: the page cannot be written\n");
+    let written = rt.stdout().write_all(&bytes[..count]);
+    if written.is_err() {
+        let _ = rt
+            .stderr()
+            .write_all(b"month: the page cannot be written\n");
     }
 }

@@ -7,19 +7,20 @@
 use input::{Input, read_input};
 use page::page_of;
 use sheet::kinds::MOST_BYTES;
+use std::io::Write;
 
-fn main() {
+fn main(rt: HostRuntime) {
     let mut sheet = [0u8; MOST_BYTES + 1];
-    let input = read_input(&mut sheet);
+    let input = read_input(&mut rt.stdin(), &mut sheet);
     let Input::Bytes(n) = input else {
-        io::write_all(2, b"plan: the sheet cannot be read\n");
+        let _ = rt.stderr().write_all(b"plan: the sheet cannot be read\n");
         return;
     };
     let page = page_of(&sheet[..n]);
     let count = page.count;
     let bytes = page.bytes;
-    let is_written = io::write_all(1, &bytes[..count]);
-    if !is_written {
-        io::write_all(2, b"plan: the page cannot be written\n");
+    let written = rt.stdout().write_all(&bytes[..count]);
+    if written.is_err() {
+        let _ = rt.stderr().write_all(b"plan: the page cannot be written\n");
     }
 }
