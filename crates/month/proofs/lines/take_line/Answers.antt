@@ -17,12 +17,6 @@ use Rattle.month.proofs.Taking.{month-forms, parsed-none, parsed-some, fault-ran
 use Rattle.month.proofs.lines.take_line.Goals as goal
 use Rattle.month.proofs.lines.take_line.Goals.{After-cost_of-c, Else-n-eq-MOST_LINES, Else-not-at_most}
 
-slice-aggregate-line-in : tie.Need-slice-aggregate-line-in
-slice-aggregate-line-in c = search rules
-
-slice-aggregate-line-in-2 : tie.Need-slice-aggregate-line-in-2
-slice-aggregate-line-in-2 c = search rules
-
 pub line_in-parsed-requires : goal.line_in-parsed-requires
 line_in-parsed-requires c = (record { kinds-of = kinds_of_month; forms = month-forms }, omega arith)
 
@@ -40,11 +34,11 @@ line-is c =
 pub returns-then-not-at_most : goal.returns-then-not-at_most
 returns-then-not-at_most c =
     let k = c.at_most in
-    taken-fault _ (line-is (goal.at.returns-then-not-at_most c).After-cost_of-c) 4 (omega arith) (λ m e. fault-range m _ c.cost_of-c.ensures.0 (sym k.ensures ∙ not-true k.result c.if-not-at_most.true))
+    taken-fault _ (line-is (goal.at.returns-then-not-at_most c).After-cost_of-c) 4 (omega arith) (λ m e. fault-range m _ c.cost_of-c.ensures.0 (sym k.ensures ∙ c.if-not-at_most.true))
 
 -- no figure is above the most
 small : (c : Else-not-at_most) → at_most_b c.cost_of-c.result (replicate 3 most_figure) ≡ true
-small c = sym c.at_most.ensures ∙ not-false c.at_most.result c.if-not-at_most.false
+small c = sym c.at_most.ensures ∙ c.if-not-at_most.false
 
 pub returns-then-n-eq-MOST_LINES : goal.returns-then-n-eq-MOST_LINES
 returns-then-n-eq-MOST_LINES c =
