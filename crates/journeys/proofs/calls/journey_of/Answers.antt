@@ -64,5 +64,5 @@ pub returns : goal.returns
 returns c =
     let k = c.nth_front-o in
     let l = c.lay_path in
-    ap (λ (xs : List ℕ). journey_end (record { refusal = 0; line = 0; cost = k.result.cost; arrival = k.result.step.0 }) xs l.new.1.1.1.1.1.1.1.0) (l.ensures.0 ∙ k.ensures.kept)
+    ap (λ (xs : List ℕ). journey_end (record { refusal = 0; line = 0; cost = k.result.cost; arrival = k.result.step.0 }) xs l.new.path) (l.ensures.0 ∙ k.ensures.kept)
     ∙ journey-end (ready (goal.at.returns c).Else-not-r) (head-number c.requires.store 3 (omega arith)) (c.counting_of-counting.ensures.of _ c.requires) k.ensures.numbered c.args.path.now (not-false k.result.found c.if-not-o.false) c.if-path-arrival.false l.ensures.1

@@ -37,6 +37,6 @@ returns c =
     let e = l.ensures.listed ∙ ap (λ (xs : List ℕ). filled (length z.list.now) (offered_rows (goal_rows z.v.0 z.counting.now z.n xs))) k.ensures.kept in
     record {
       of = λ s before p a b.
-          ap (λ (xs : List ℕ). front_end (record { refusal = 0; line = 0; costs = k.result; arrivals = z.n }) xs l.new.1.1.1.1.0) (l.ensures.kept ∙ k.ensures.kept)
+          ap (λ (xs : List ℕ). front_end (record { refusal = 0; line = 0; costs = k.result; arrivals = z.n }) xs l.new.list) (l.ensures.kept ∙ k.ensures.kept)
           ∙ front-end p a b z.list.now k.ensures.counted e c.if-list-costs.false;
     }
