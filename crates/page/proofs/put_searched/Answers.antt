@@ -1,0 +1,32 @@
+-- `page::put_searched` meets its contract: where the front is refused, the page is the refusal; otherwise it is the counts and then the lines of the
+-- front costs, off the table and the list that the front left.
+-- Assumes nothing.
+use mathlib.Core.Path.{sym}
+use native.Mathlib.Omega.{arith}
+use lib.Seq.{length-take-le}
+use borrow.Author.Rules.{rules}
+use Rattle.sheet.specs.Laws.Puts.{puts-as}
+use Rattle.page.specs.Laws.Room.{two-long}
+use Rattle.page.specs.Laws.Whole.{refused-on, few, served-offers, served-whole}
+use Rattle.page.proofs.put_searched.Goals as goal
+
+pub returns-then-r-ne0 : goal.returns-then-r-ne0
+returns-then-r-ne0 c = puts-as (sym (refused-on _ _ _ _ c.requires.lent c.front_of-r.result c.front_of-r.new.table c.front_of-r.new.list c.front_of-r.ensures c.if-r-ne0.true)) c.put_refusal.ensures
+
+pub put_line-next-requires : goal.put_line-next-requires
+put_line-next-requires c = let r = c.front_of-r.result in omega (arith, c.requires.lent.out-room, two-long 70 r.costs r.arrivals)
+
+pub overflow_mul-e : goal.overflow_mul-e
+overflow_mul-e c = omega (arith, few c.requires c.front_of-r.result c.front_of-r.new.table c.front_of-r.new.list c.front_of-r.ensures c.if-r-ne0.false)
+
+pub slice_bounds-put_journeys-end : goal.slice_bounds-put_journeys-end
+slice_bounds-put_journeys-end c = omega (arith, few c.requires c.front_of-r.result c.front_of-r.new.table c.front_of-r.new.list c.front_of-r.ensures c.if-r-ne0.false, c.front_of-r.auto.list, c.requires.lent.list-room)
+
+pub slice_bounds-put_journeys-end-2 : goal.slice_bounds-put_journeys-end-2
+slice_bounds-put_journeys-end-2 c = sym (length-take-le _ _ (omega (arith, few c.requires c.front_of-r.result c.front_of-r.new.table c.front_of-r.new.list c.front_of-r.ensures c.if-r-ne0.false, c.front_of-r.auto.list, c.requires.lent.list-room)))
+
+pub put_journeys-requires : goal.put_journeys-requires
+put_journeys-requires c = served-offers c.requires c.front_of-r.result c.front_of-r.new.table c.front_of-r.new.list c.front_of-r.ensures c.if-r-ne0.false c.put_line-next.ensures
+
+pub returns : goal.returns
+returns c = served-whole c.requires c.front_of-r.result c.front_of-r.new.table c.front_of-r.new.list c.front_of-r.ensures c.if-r-ne0.false c.put_line-next.ensures c.put_journeys.ensures.1
