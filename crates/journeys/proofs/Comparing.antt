@@ -11,7 +11,7 @@ use native.Mathlib.Numerals.{add-one}
 use lib.Dec.{eqb, ltb}
 use lib.ListN.{length, get_or}
 use borrow.Author.Tests.{eqb-true, eqb-false, eq-eqb, ltb-true, lt-ltb, not-true}
-use Rattle.sheet.specs.Lists.{◌∈◌, keep, all, filter, Lex}
+use Rattle.sheet.specs.Lists.{◌∈◌, keep, filter, Lex}
 use Rattle.sheet.specs.Computed.{lexb}
 use Rattle.sheet.specs.Sorting.{Ascending, sortUnique}
 use Rattle.sheet.specs.Laws.Order.{and-true, true-and, Lex-irrefl, lexb-true, Lex-lexb}

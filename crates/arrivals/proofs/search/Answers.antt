@@ -2,7 +2,6 @@
 -- definition says.
 -- Assumes nothing.
 use native.Mathlib.Omega.{arith}
-use borrow.Author.Rules.{rules}
 use Rattle.intervals.specs.FirstSteps.{some-derived}
 use Rattle.arrivals.specs.Inner.Ending.{ends_as, search-end}
 use Rattle.arrivals.specs.Inner.Lent.{given-linked}

@@ -3,7 +3,7 @@
 use Rattle.std.specs.Prelude.{◌≡◌, refl, Bool, true, List, [], ◌∷◌, ℕ, zero, suc, ◌+◌, ◌*◌, ◌-◌, ◌≤◌, ◌<◌, length}
 use Rattle.std.proofs.Common.{sym, ap, ◌∙◌, subst, inl, inr, ⊎_elim, arith, add-mul, one-mul, add-one}
 use Rattle.sheet.specs.Sheet.{Sheet, steps, start}
-use Rattle.sheet.specs.Laws.Decided.{lt-or-le, All, In, there, none, more, any-cons, any-nil, all_head, all_tail, all_map, any-map, any-all, any-find, in_all}
+use Rattle.sheet.specs.Laws.Decided.{lt-or-le, All, In, none, more, any-cons, any-nil, all_head, all_tail, all_map, any-map, any-all, any-find, in_all}
 use Rattle.costs.specs.Costs.{Cost, fig, zero_cost, add, times, AtMost}
 use Rattle.costs.specs.Laws.Figures.{fig-add, fig-times, at-most-trans, same?, at-most-not-Lex}
 use Rattle.costs.specs.Moves.{wait_of, Crossing}

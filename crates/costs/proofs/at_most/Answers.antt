@@ -2,9 +2,9 @@
 -- figure of a is greater. Numbers joined are below 2^32 exactly where each is. The loop's invariant: what is joined is below 2^32 and the first i
 -- figures are at most b's, or it is 2^32 or more and a figure is greater. The measure is what is left of the three figures.
 -- Assumes nothing.
-use mathlib.Core.Logic.{◌⊎◌, inl, inr, ⊎_elim}
+use mathlib.Core.Logic.{inl, inr, ⊎_elim}
 use mathlib.Core.Path.{◌∙◌, sym}
-use Prim.Native.Nat.{ℕ, ◌-◌, ◌≤◌, ◌<◌}
+use Prim.Native.Nat.{ℕ, ◌≤◌, ◌<◌}
 use native.Mathlib.Omega.{arith}
 use borrow.Author.Count.{below_more}
 use borrow.Author.Rules.{rules}
@@ -14,7 +14,7 @@ use mir.Syntax.{w32}
 use mir.Val.{Fits}
 use Rattle.sheet.specs.Laws.Decided.{lt-or-le}
 use Rattle.costs.specs.Costs.{fig}
-use Rattle.costs.specs.Laws.Figures.{Greater, at_most_b-not, at-most-at_most_b, is-at-most}
+use Rattle.costs.specs.Laws.Figures.{at_most_b-not, at-most-at_most_b, is-at-most}
 use Rattle.costs.proofs.at_most.Goals as goal
 
 -- neither of two numbers is greater than the two joined

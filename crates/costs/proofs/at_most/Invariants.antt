@@ -2,19 +2,10 @@
 -- figure of a is greater. Numbers joined are below 2^32 exactly where each is. The loop's invariant: what is joined is below 2^32 and the first i
 -- figures are at most b's, or it is 2^32 or more and a figure is greater. The measure is what is left of the three figures.
 -- Assumes nothing.
-use mathlib.Core.Logic.{◌⊎◌, inl, inr, ⊎_elim}
-use mathlib.Core.Path.{◌∙◌, sym}
+use mathlib.Core.Logic.{◌⊎◌}
 use Prim.Native.Nat.{ℕ, ◌-◌, ◌≤◌, ◌<◌}
-use native.Mathlib.Omega.{arith}
-use borrow.Author.Count.{below_more}
-use borrow.Author.Rules.{rules}
-use borrow.Author.Tests.{lt-ltb, le-ltb}
-use lib.Bits.{bit_or, or_lt, or_add_and, and_le_l, and_le_r}
-use mir.Syntax.{w32}
-use mir.Val.{Fits}
-use Rattle.sheet.specs.Laws.Decided.{lt-or-le}
 use Rattle.costs.specs.Costs.{fig}
-use Rattle.costs.specs.Laws.Figures.{Greater, at_most_b-not, at-most-at_most_b, is-at-most}
+use Rattle.costs.specs.Laws.Figures.{Greater}
 use Rattle.costs.proofs.at_most.Given as goal
 
 abbrev pub invariant-loop-i : goal.invariant-loop-i

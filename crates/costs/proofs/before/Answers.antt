@@ -1,15 +1,14 @@
 -- `costs::before` meets its contract. The loop's invariant: the first i figures of a are those of b.
 -- The measure is what is left of the three figures.
 -- Assumes nothing.
-use mathlib.Core.Path.{◌≡◌, sym, subst}
+use mathlib.Core.Path.{sym, subst}
 use mathlib.Core.List.{List}
-use Prim.Native.Nat.{ℕ, ◌-◌, ◌≤◌, ◌<◌}
+use Prim.Native.Nat.{ℕ}
 use native.Mathlib.Omega.{arith}
 use borrow.Author.Count.{below_more}
 use borrow.Author.Rules.{rules}
 use Rattle.sheet.specs.Lists.{Lex}
 use Rattle.sheet.specs.Laws.Order.{Lex-lexb, Lex-irrefl}
-use Rattle.costs.specs.Costs.{fig}
 use Rattle.costs.specs.Laws.Figures.{Lex-asym, lexb-not, is_same, is-Lex}
 use Rattle.costs.proofs.before.Goals as goal
 

@@ -1,12 +1,9 @@
 -- `costs::cost_from` meets its contract. The loop's invariant: the first n figures of r are the numbers from `at` on.
 -- The measure is what is left of the three figures.
 -- Assumes nothing.
-use mathlib.Core.Path.{refl}
 use Prim.Native.Nat.{◌+◌, ◌-◌, ◌≤◌}
-use native.Mathlib.Omega.{arith}
-use borrow.Author.Rules.{rules}
 use Rattle.sheet.specs.Lists.{number}
-use Rattle.costs.specs.Laws.Figures.{Stored, stored-none, stored_more, stored-all, is-from}
+use Rattle.costs.specs.Laws.Figures.{Stored}
 use Rattle.costs.proofs.cost_from.Given as goal
 
 abbrev pub invariant-loop-n : goal.invariant-loop-n

@@ -2,10 +2,8 @@
 -- The measure is what is left of the three figures.
 -- Assumes nothing.
 use mathlib.Core.Path.{refl}
-use Prim.Native.Nat.{◌-◌, ◌≤◌}
 use native.Mathlib.Omega.{arith}
-use Rattle.costs.specs.Costs.{fig}
-use Rattle.costs.specs.Laws.Figures.{Stored, stored-none, stored_more, stored-all, is-less}
+use Rattle.costs.specs.Laws.Figures.{stored-none, stored_more, stored-all, is-less}
 use borrow.Author.Rules.{rules}
 use Rattle.costs.proofs.less.Goals as goal
 

@@ -1,12 +1,9 @@
 -- `costs::less` meets its contract. The loop's invariant: the first f figures of r are what is left of h's.
 -- The measure is what is left of the three figures.
 -- Assumes nothing.
-use mathlib.Core.Path.{refl}
 use Prim.Native.Nat.{◌-◌, ◌≤◌}
-use native.Mathlib.Omega.{arith}
 use Rattle.costs.specs.Costs.{fig}
-use Rattle.costs.specs.Laws.Figures.{Stored, stored-none, stored_more, stored-all, is-less}
-use borrow.Author.Rules.{rules}
+use Rattle.costs.specs.Laws.Figures.{Stored}
 use Rattle.costs.proofs.less.Given as goal
 
 abbrev pub invariant-loop-f : goal.invariant-loop-f

@@ -2,12 +2,10 @@
 -- The measure is what is left of the three figures.
 -- Assumes nothing.
 use mathlib.Core.Path.{refl}
-use Prim.Native.Nat.{◌*◌, ◌-◌, ◌≤◌}
 use native.Mathlib.Omega.{arith}
 use native.Mathlib.Nat.{mul-le-mul}
 use borrow.Author.Rules.{rules}
-use Rattle.costs.specs.Costs.{fig}
-use Rattle.costs.specs.Laws.Figures.{Stored, stored-none, stored_more, stored-all, is-times}
+use Rattle.costs.specs.Laws.Figures.{stored-none, stored_more, stored-all, is-times}
 use Rattle.costs.proofs.multiple.Goals as goal
 
 pub loop-k-init : goal.loop-k-init

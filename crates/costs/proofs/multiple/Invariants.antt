@@ -1,13 +1,9 @@
 -- `costs::multiple` meets its contract. The loop's invariant: the first k figures of r are n times those of w.
 -- The measure is what is left of the three figures.
 -- Assumes nothing.
-use mathlib.Core.Path.{refl}
 use Prim.Native.Nat.{◌*◌, ◌-◌, ◌≤◌}
-use native.Mathlib.Omega.{arith}
-use native.Mathlib.Nat.{mul-le-mul}
-use borrow.Author.Rules.{rules}
 use Rattle.costs.specs.Costs.{fig}
-use Rattle.costs.specs.Laws.Figures.{Stored, stored-none, stored_more, stored-all, is-times}
+use Rattle.costs.specs.Laws.Figures.{Stored}
 use Rattle.costs.proofs.multiple.Given as goal
 
 abbrev pub invariant-loop-k : goal.invariant-loop-k

@@ -2,11 +2,9 @@
 -- The measure is what is left of the three figures.
 -- Assumes nothing.
 use mathlib.Core.Path.{refl}
-use Prim.Native.Nat.{◌+◌, ◌-◌, ◌≤◌}
 use native.Mathlib.Omega.{arith}
 use borrow.Author.Rules.{rules}
-use Rattle.costs.specs.Costs.{fig}
-use Rattle.costs.specs.Laws.Figures.{Stored, stored-none, stored_more, stored-all, is-add}
+use Rattle.costs.specs.Laws.Figures.{stored-none, stored_more, stored-all, is-add}
 use Rattle.costs.proofs.sum.Goals as goal
 
 pub loop-j-init : goal.loop-j-init

@@ -1,12 +1,9 @@
 -- `costs::sum` meets its contract. The loop's invariant: the first j figures of r are the sums of those of a and b.
 -- The measure is what is left of the three figures.
 -- Assumes nothing.
-use mathlib.Core.Path.{refl}
 use Prim.Native.Nat.{◌+◌, ◌-◌, ◌≤◌}
-use native.Mathlib.Omega.{arith}
-use borrow.Author.Rules.{rules}
 use Rattle.costs.specs.Costs.{fig}
-use Rattle.costs.specs.Laws.Figures.{Stored, stored-none, stored_more, stored-all, is-add}
+use Rattle.costs.specs.Laws.Figures.{Stored}
 use Rattle.costs.proofs.sum.Given as goal
 
 abbrev pub invariant-loop-j : goal.invariant-loop-j

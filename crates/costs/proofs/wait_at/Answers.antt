@@ -2,7 +2,6 @@
 -- Assumes nothing.
 use mathlib.Core.Path.{◌∙◌}
 use native.Mathlib.Omega.{arith}
-use borrow.Author.Rules.{rules}
 use Rattle.costs.proofs.Crossings.{whole-store, wait-cost}
 use Rattle.costs.proofs.wait_at.Goals as goal
 

@@ -1,10 +1,9 @@
 -- `intervals::clear` meets its contract. The loop's invariant: the first i entries are 0.
 -- The measure is what is left of the entries.
 -- Assumes nothing.
-use Prim.Native.Nat.{◌-◌, ◌≤◌}
 use native.Mathlib.Omega.{arith}
 use borrow.Author.Rules.{rules}
-use Rattle.costs.specs.Laws.Figures.{Stored, stored-none, stored_more}
+use Rattle.costs.specs.Laws.Figures.{stored-none, stored_more}
 use Rattle.intervals.proofs.clear.Goals as goal
 
 pub loop-i-init : goal.loop-i-init

@@ -2,9 +2,7 @@
 -- The measure is what is left of the entries.
 -- Assumes nothing.
 use Prim.Native.Nat.{◌-◌, ◌≤◌}
-use native.Mathlib.Omega.{arith}
-use borrow.Author.Rules.{rules}
-use Rattle.costs.specs.Laws.Figures.{Stored, stored-none, stored_more}
+use Rattle.costs.specs.Laws.Figures.{Stored}
 use Rattle.intervals.proofs.clear.Given as goal
 
 abbrev pub invariant-loop-i : goal.invariant-loop-i

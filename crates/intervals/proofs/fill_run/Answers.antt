@@ -2,10 +2,9 @@
 -- is changed. The measure is what is left of the row.
 -- Assumes nothing.
 use mathlib.Core.Logic.{inl, inr}
-use Prim.Native.Nat.{◌-◌, ◌≤◌}
 use native.Mathlib.Omega.{arith}
 use borrow.Author.Rules.{rules}
-use Rattle.intervals.proofs.Fill.{Filling, filling-none, filling-more, run-filled, run_none}
+use Rattle.intervals.proofs.Fill.{filling-none, filling-more, run-filled, run_none}
 use Rattle.intervals.proofs.fill_run.Goals as goal
 use Rattle.intervals.proofs.fill_run.Goals.{Else-since-row-ne256}
 

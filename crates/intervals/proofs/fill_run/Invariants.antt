@@ -1,11 +1,8 @@
 -- `intervals::fill_run` meets its contract. The loop's invariant: the steps before t from the first on were not marked and are written, and nothing else
 -- is changed. The measure is what is left of the row.
 -- Assumes nothing.
-use mathlib.Core.Logic.{inl, inr}
 use Prim.Native.Nat.{◌-◌, ◌≤◌}
-use native.Mathlib.Omega.{arith}
-use borrow.Author.Rules.{rules}
-use Rattle.intervals.proofs.Fill.{Filling, filling-none, filling-more, run-filled, run_none}
+use Rattle.intervals.proofs.Fill.{Filling}
 use Rattle.intervals.proofs.fill_run.Given as goal
 
 abbrev pub invariant-loop-t : goal.invariant-loop-t

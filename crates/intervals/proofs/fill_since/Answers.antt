@@ -1,6 +1,5 @@
 -- `intervals::fill_since` meets its contract: a table of zeros is marked, and the marked table filled.
 -- Assumes nothing.
-use borrow.Author.Rules.{rules}
 use Rattle.intervals.proofs.fill_since.Goals as goal
 
 pub returns : goal.returns

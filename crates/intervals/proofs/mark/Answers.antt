@@ -1,10 +1,10 @@
 -- `intervals::mark` meets its contract. The loop's invariant: the line's steps before t are marked, and nothing else is changed.
 -- The measure is what is left of the line's steps.
 -- Assumes nothing.
-use Prim.Native.Nat.{◌+◌, ◌*◌, ◌-◌, ◌≤◌}
+use Prim.Native.Nat.{◌+◌, ◌*◌}
 use native.Mathlib.Omega.{arith}
 use borrow.Author.Rules.{rules}
-use Rattle.intervals.proofs.Tables.{Steps, steps-none, steps-more, line_marked}
+use Rattle.intervals.proofs.Tables.{steps-none, steps-more, line_marked}
 use Rattle.intervals.proofs.mark.Goals as goal
 
 pub overflow_cast-t : goal.overflow_cast-t

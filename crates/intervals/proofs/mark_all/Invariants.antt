@@ -1,13 +1,10 @@
 -- `intervals::mark_all` meets its contract. The loop's invariant: the entries of the first k lines are marked, and the others are 0.
 -- The measure is what is left of the lines.
 -- Assumes nothing.
-use mathlib.Core.Path.{◌≡◌, subst}
-use Prim.Native.Nat.{ℕ, ◌-◌, ◌/◌, ◌≤◌}
-use native.Mathlib.Omega.{arith}
+use mathlib.Core.Path.{◌≡◌}
+use Prim.Native.Nat.{◌-◌, ◌≤◌}
 use lib.ListN.{length}
-use borrow.Author.Rules.{rules}
 use Rattle.intervals.specs.Inner.{Marked}
-use Rattle.intervals.proofs.Tables.{markable, marked-none, marked_more}
 use Rattle.intervals.proofs.mark_all.Given as goal
 
 abbrev pub invariant-loop-k : goal.invariant-loop-k

@@ -1,13 +1,10 @@
 -- `intervals::turn` meets its contract. The loop's invariant: the runs after the first k lines are written.
 -- The measure is what is left of the lines.
 -- Assumes nothing.
-use mathlib.Core.Path.{◌≡◌, subst}
-use Prim.Native.Nat.{ℕ, ◌-◌, ◌/◌, ◌≤◌}
-use native.Mathlib.Omega.{arith}
+use mathlib.Core.Path.{◌≡◌}
+use Prim.Native.Nat.{◌-◌, ◌≤◌}
 use lib.ListN.{length}
-use borrow.Author.Rules.{rules}
-use Rattle.intervals.proofs.Tables.{markable}
-use Rattle.intervals.proofs.Fill.{Filled, filled_none, filled_more, filled-all}
+use Rattle.intervals.proofs.Fill.{Filled}
 use Rattle.intervals.proofs.turn.Given as goal
 
 abbrev pub invariant-loop-k : goal.invariant-loop-k

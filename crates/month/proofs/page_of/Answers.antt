@@ -1,6 +1,5 @@
 -- `month::page_of` meets its contract: the page is written to a buffer of zeros.
 -- Assumes nothing.
-use borrow.Author.Rules.{rules}
 use Rattle.month.proofs.Printing.{page-held}
 use Rattle.month.proofs.page_of.Goals as goal
 

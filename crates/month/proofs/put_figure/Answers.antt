@@ -4,7 +4,6 @@ use mathlib.Core.Path.{◌∙◌, ap}
 use mathlib.Core.List.{[], ◌∷◌}
 use Prim.Native.Nat.{ℕ, ◌+◌}
 use native.Mathlib.Omega.{arith}
-use borrow.Author.Rules.{rules}
 use Rattle.sheet.specs.Text.{printed}
 use Rattle.sheet.specs.Laws.Printed.{printed-most}
 use Rattle.sheet.specs.Laws.Puts.{puts-as}

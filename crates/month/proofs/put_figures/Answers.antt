@@ -1,13 +1,10 @@
 -- `month::put_figures` meets its contract. The loop's invariant: the lines of the first i figures are written, of at most 62 bytes each.
 -- The measure is what is left of the three figures.
 -- Assumes nothing.
-use mathlib.Core.Path.{◌≡◌, refl}
-use Prim.Native.Nat.{◌-◌, ◌≤◌}
+use mathlib.Core.Path.{refl}
 use native.Mathlib.Omega.{arith}
-use lib.ListN.{length}
 use borrow.Author.Rules.{rules}
-use Rattle.month.specs.Inner.{sums}
-use Rattle.month.proofs.Printing.{PutsUpTo, none-put, more-put, all-put}
+use Rattle.month.proofs.Printing.{none-put, more-put, all-put}
 use Rattle.month.proofs.put_figures.Goals as goal
 
 pub loop-i-init : goal.loop-i-init

@@ -1,13 +1,11 @@
 -- `month::put_figures` meets its contract. The loop's invariant: the lines of the first i figures are written, of at most 62 bytes each.
 -- The measure is what is left of the three figures.
 -- Assumes nothing.
-use mathlib.Core.Path.{◌≡◌, refl}
+use mathlib.Core.Path.{◌≡◌}
 use Prim.Native.Nat.{◌-◌, ◌≤◌}
-use native.Mathlib.Omega.{arith}
 use lib.ListN.{length}
-use borrow.Author.Rules.{rules}
 use Rattle.month.specs.Inner.{sums}
-use Rattle.month.proofs.Printing.{PutsUpTo, none-put, more-put, all-put}
+use Rattle.month.proofs.Printing.{PutsUpTo}
 use Rattle.month.proofs.put_figures.Given as goal
 
 abbrev pub invariant-loop-i : goal.invariant-loop-i

@@ -2,7 +2,6 @@
 -- Assumes nothing.
 use mathlib.Core.Path.{sym}
 use native.Mathlib.Omega.{arith}
-use borrow.Author.Rules.{rules}
 use Rattle.sheet.specs.Laws.Puts.{puts-as}
 use Rattle.month.proofs.Holding.{none-gathered}
 use Rattle.month.proofs.Reading.{reached-gathered}

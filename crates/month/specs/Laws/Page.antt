@@ -3,7 +3,7 @@
 use Rattle.std.specs.Prelude.{◌≡◌, List, [], ◌∷◌, ℕ, suc, ◌*◌, ◌≤◌, length}
 use Rattle.std.proofs.Common.{sym, subst, arith, mul-le-mul_right}
 use Rattle.sheet.specs.Lists.{number, ◌∈◌}
-use Rattle.sheet.specs.Text.{printed, refusal_line}
+use Rattle.sheet.specs.Text.{refusal_line}
 use Rattle.sheet.specs.Laws.Stores.{length-filled}
 use Rattle.sheet.specs.Laws.Printed.{bind-long, printed-most, refusal-long}
 use Rattle.costs.specs.Costs.{Cost}

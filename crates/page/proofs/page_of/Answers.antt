@@ -1,6 +1,5 @@
 -- `page::page_of` meets its contract: the page stands at the start of a buffer of zeros.
 -- Assumes nothing.
-use borrow.Author.Rules.{rules}
 use Rattle.page.specs.Laws.Whole.{page-held}
 use Rattle.page.proofs.page_of.Goals as goal
 

@@ -4,7 +4,6 @@
 use mathlib.Core.Path.{sym}
 use native.Mathlib.Omega.{arith}
 use lib.Seq.{length-take-le}
-use borrow.Author.Rules.{rules}
 use Rattle.sheet.specs.Laws.Puts.{puts-as}
 use Rattle.page.specs.Laws.Room.{two-long}
 use Rattle.page.specs.Laws.Whole.{refused-on, few, served-offers, served-whole}

@@ -1,7 +1,6 @@
 -- `arrivals::by_lists::add_new` meets its contract: where there is room, the costs of the new rows stand after those of the list, and their number is noted.
 -- Assumes nothing.
 use native.Mathlib.Omega.{arith}
-use borrow.Author.Rules.{rules}
 use Rattle.costs.specs.Laws.Figures.{within-times}
 use Rattle.arrivals.specs.Inner.Facts.{within_of}
 use Rattle.arrivals.specs.Inner.Standing.{new_in, new_none}

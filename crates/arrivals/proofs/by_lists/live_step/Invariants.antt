@@ -2,19 +2,13 @@
 -- lists of those with new rows are settled. The loop's invariant: all is filled in before place v at step t, and v is free, or there is no place left; what
 -- corridors lead to from the rows of this step is in `onward`; and the lists stand for the rows before the step, the new rows of the places in `grown` beside.
 -- Assumes nothing.
-use mathlib.Core.Path.{◌≡◌, refl, sym, ◌∙◌, subst}
+use mathlib.Core.Path.{◌≡◌}
 use Prim.Native.Nat.{ℕ, ◌+◌, ◌*◌, ◌-◌, ◌<◌}
-use native.Mathlib.Omega.{arith}
 use lib.ListN.{length, get_or}
-use borrow.Author.Rules.{rules}
-use borrow.Author.Tests.{not-false}
-use Rattle.sheet.specs.Laws.Decided.{false-not-true}
-use Rattle.arrivals.specs.Inner.Due.{Lookout, Onward, lookout, lookout-on, onward-none, onward-on}
-use Rattle.arrivals.specs.Inner.Filling.{filled-end, result-done}
-use Rattle.arrivals.specs.Inner.Lists.{AllSettleable, LiveStepped}
+use Rattle.arrivals.specs.Inner.Due.{Lookout, Onward}
 use Rattle.arrivals.specs.Inner.Network.{case_of, places_of, Vacant}
-use Rattle.arrivals.specs.Inner.Standing.{Gathering, all-settleable, gathering-end, gathering-first, gathering-on, gathering-past}
-use Rattle.arrivals.specs.Inner.Walking.{Walking, walking-first, walking_on, walking-visiting}
+use Rattle.arrivals.specs.Inner.Standing.{Gathering}
+use Rattle.arrivals.specs.Inner.Walking.{Walking}
 use Rattle.arrivals.proofs.by_lists.live_step.Given as goal
 
 abbrev pub invariant-loop-v : goal.invariant-loop-v

@@ -1,19 +1,14 @@
 -- `arrivals::by_lists::live_steps` meets its contract: the steps are filled in one after another, unless one gives up. The loop's invariant: all is filled in
 -- before step t, the lists stand for the rows, and what corridors lead to from the rows of the step before is in `next`.
 -- Assumes nothing.
-use mathlib.Core.Path.{◌≡◌, refl}
-use Prim.Native.Nat.{◌*◌, ◌+◌, ◌-◌, ◌≤◌}
+use mathlib.Core.Path.{refl}
 use native.Mathlib.Omega.{arith}
-use lib.ListN.{length}
 use borrow.Author.Rules.{rules}
-use borrow.Author.Tests.{not-false}
 use Rattle.sheet.specs.Laws.Decided.{false-not-true}
-use Rattle.arrivals.specs.Inner.Due.{Onward, onward-all}
-use Rattle.arrivals.specs.Inner.Filling.{Filled, filled-as, filled-last, result-done}
-use Rattle.arrivals.specs.Inner.Lists.{Sourcing}
+use Rattle.arrivals.specs.Inner.Due.{onward-all}
+use Rattle.arrivals.specs.Inner.Filling.{filled-as, filled-last, result-done}
 use Rattle.arrivals.specs.Inner.Lent.{given-linked}
-use Rattle.arrivals.specs.Inner.Network.{case_of}
-use Rattle.arrivals.specs.Inner.Rows.{rows_of, rows-kept}
+use Rattle.arrivals.specs.Inner.Rows.{rows-kept}
 use Rattle.arrivals.proofs.by_lists.live_steps.Goals as goal
 
 pub loop-t-init : goal.loop-t-init

@@ -2,7 +2,6 @@
 -- any other is put in.
 -- Assumes nothing.
 use mathlib.Core.Path.{subst, sym}
-use borrow.Author.Rules.{rules}
 use Rattle.sheet.specs.Laws.Decided.{no_of, yes_of}
 use Rattle.costs.specs.Costs.{Cost}
 use Rattle.arrivals.specs.Inner.Entering.{LedAt}

@@ -1,17 +1,11 @@
 -- `arrivals::by_lists::over_links` meets its contract: the corridors into the place are gone through from the last. The loop's invariant: what comes over those
 -- from j on is offered.
 -- Assumes nothing.
-use mathlib.Core.Bool.{true}
-use mathlib.Core.Path.{◌∙◌, ◌≡◌, refl}
-use Prim.Native.Nat.{◌≤◌}
+use mathlib.Core.Path.{◌∙◌, refl}
 use native.Mathlib.Omega.{arith}
-use lib.ListN.{length}
 use borrow.Author.Rules.{rules}
-use borrow.Author.Tests.{not-false}
-use Rattle.arrivals.specs.Inner.Entering.{Entry}
-use Rattle.arrivals.specs.Inner.Network.{case_of, count_of}
 use Rattle.arrivals.specs.Inner.Offering.{swept-full, swept_none, swept-ok}
-use Rattle.arrivals.specs.Inner.Sweeps.{Over, SweptAt, over-end, over_none, over-step, reaching-kept}
+use Rattle.arrivals.specs.Inner.Sweeps.{over-end, over_none, over-step, reaching-kept}
 use Rattle.arrivals.specs.Inner.Turning.{placeable-kept, placeable-none, shows_kept, sources-kept}
 use Rattle.arrivals.proofs.by_lists.over_links.Goals as goal
 

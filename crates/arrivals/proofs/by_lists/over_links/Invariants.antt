@@ -2,17 +2,12 @@
 -- from j on is offered.
 -- Assumes nothing.
 use mathlib.Core.Bool.{true}
-use mathlib.Core.Path.{◌∙◌, ◌≡◌, refl}
+use mathlib.Core.Path.{◌≡◌}
 use Prim.Native.Nat.{◌≤◌}
-use native.Mathlib.Omega.{arith}
 use lib.ListN.{length}
-use borrow.Author.Rules.{rules}
-use borrow.Author.Tests.{not-false}
 use Rattle.arrivals.specs.Inner.Entering.{Entry}
 use Rattle.arrivals.specs.Inner.Network.{case_of, count_of}
-use Rattle.arrivals.specs.Inner.Offering.{swept-full, swept_none, swept-ok}
-use Rattle.arrivals.specs.Inner.Sweeps.{Over, SweptAt, over-end, over_none, over-step, reaching-kept}
-use Rattle.arrivals.specs.Inner.Turning.{placeable-kept, placeable-none, shows_kept, sources-kept}
+use Rattle.arrivals.specs.Inner.Sweeps.{Over, SweptAt}
 use Rattle.arrivals.proofs.by_lists.over_links.Given as goal
 
 abbrev pub invariant-loop-j : goal.invariant-loop-j

@@ -3,8 +3,6 @@
 -- Assumes nothing.
 use mathlib.Core.Path.{refl}
 use native.Mathlib.Omega.{arith}
-use borrow.Author.Rules.{rules}
-use borrow.Author.Tests.{not-false}
 use Rattle.sheet.specs.Laws.Decided.{false-not-true}
 use Rattle.arrivals.specs.Inner.Filling.{visiting-reach, visiting-stands}
 use Rattle.arrivals.specs.Inner.Gather.{fresh-of, swept-filled}

@@ -1,9 +1,7 @@
 -- `arrivals::expand::fresh_before` meets its contract: the departures are gone through downwards. The loop's invariant: a is before step t.
 -- Assumes nothing.
 use mathlib.Core.Path.{◌∙◌, sym}
-use Prim.Native.Nat.{◌<◌}
 use native.Mathlib.Omega.{arith}
-use borrow.Author.Rules.{rules}
 use Rattle.arrivals.specs.Inner.Pruning.{fresh_at, fresh-none}
 use Rattle.arrivals.proofs.expand.fresh_before.Goals as goal
 

@@ -4,8 +4,6 @@
 use mathlib.Core.Path.{◌∙◌, ◌≡◌, ap, subst, sym}
 use Prim.Native.Nat.{ℕ}
 use native.Mathlib.Omega.{arith}
-use borrow.Author.Rules.{rules}
-use borrow.Author.Tests.{not-false, not-true}
 use Rattle.sheet.specs.Laws.Decided.{false-not-true}
 use Rattle.arrivals.specs.Inner.Index.{Covers, newest_of, none_after}
 use Rattle.arrivals.specs.Inner.Network.{wait_in}

@@ -1,18 +1,12 @@
 -- `arrivals::expand::from_links` meets its contract: the corridors into the place are gone through from the last. The loop's invariant: what
 -- comes over those from j on is offered.
 -- Assumes nothing.
-use mathlib.Core.Bool.{true}
-use mathlib.Core.Path.{◌∙◌, ◌≡◌, refl}
-use Prim.Native.Nat.{◌≤◌}
+use mathlib.Core.Path.{◌∙◌, refl}
 use native.Mathlib.Omega.{arith}
-use lib.ListN.{length}
 use borrow.Author.Rules.{rules}
-use borrow.Author.Tests.{not-false}
-use Rattle.arrivals.specs.Inner.Entering.{Entry}
-use Rattle.arrivals.specs.Inner.Network.{case_of, count_of}
 use Rattle.arrivals.specs.Inner.Index.{covers_kept}
 use Rattle.arrivals.specs.Inner.Offering.{swept-full, swept_none, swept-ok}
-use Rattle.arrivals.specs.Inner.Sweeps.{Over, SweptAt, over-end, over_none, over-step, reaching-kept, sweepable-kept, sweepable-none}
+use Rattle.arrivals.specs.Inner.Sweeps.{over-end, over_none, over-step, reaching-kept, sweepable-kept, sweepable-none}
 use Rattle.arrivals.proofs.expand.from_links.Goals as goal
 
 pub last_link-j-requires : goal.last_link-j-requires

@@ -1,16 +1,12 @@
 -- `arrivals::expand::from_place` meets its contract: the rows of the source from its floor on are offered, group by group. The loop's invariant:
 -- those at step s or later have been.
 -- Assumes nothing.
-use mathlib.Core.Bool.{true}
-use mathlib.Core.Path.{◌∙◌, ◌≡◌, refl}
-use Prim.Native.Nat.{◌≤◌}
+use mathlib.Core.Path.{◌∙◌, refl}
 use native.Mathlib.Omega.{arith}
-use lib.ListN.{length}
 use borrow.Author.Rules.{rules}
-use borrow.Author.Tests.{not-false}
-use Rattle.arrivals.specs.Inner.Index.{room_of, older-most}
+use Rattle.arrivals.specs.Inner.Index.{older-most}
 use Rattle.arrivals.specs.Inner.Offering.{swept-full, swept_none, swept-ok}
-use Rattle.arrivals.specs.Inner.Sweeps.{SweptAt, Via, before_of, from-as, sweepable-kept, via-end, via-start, via-step}
+use Rattle.arrivals.specs.Inner.Sweeps.{before_of, from-as, sweepable-kept, via-end, via-start, via-step}
 use Rattle.arrivals.proofs.expand.from_place.Goals as goal
 
 pub latest-last-requires : goal.latest-last-requires

@@ -2,15 +2,11 @@
 -- those at step s or later have been.
 -- Assumes nothing.
 use mathlib.Core.Bool.{true}
-use mathlib.Core.Path.{◌∙◌, ◌≡◌, refl}
+use mathlib.Core.Path.{◌≡◌}
 use Prim.Native.Nat.{◌≤◌}
-use native.Mathlib.Omega.{arith}
 use lib.ListN.{length}
-use borrow.Author.Rules.{rules}
-use borrow.Author.Tests.{not-false}
-use Rattle.arrivals.specs.Inner.Index.{room_of, older-most}
-use Rattle.arrivals.specs.Inner.Offering.{swept-full, swept_none, swept-ok}
-use Rattle.arrivals.specs.Inner.Sweeps.{SweptAt, Via, before_of, from-as, sweepable-kept, via-end, via-start, via-step}
+use Rattle.arrivals.specs.Inner.Index.{room_of}
+use Rattle.arrivals.specs.Inner.Sweeps.{SweptAt, Via}
 use Rattle.arrivals.proofs.expand.from_place.Given as goal
 
 abbrev pub invariant-loop-s : goal.invariant-loop-s

@@ -2,17 +2,10 @@
 -- is offered.
 -- Assumes nothing.
 use mathlib.Core.Bool.{true}
-use mathlib.Core.Path.{◌∙◌, ◌≡◌, refl, subst, sym}
-use Prim.Native.Nat.{◌-◌, ◌<◌, ◌≤◌}
-use native.Mathlib.Omega.{arith}
+use mathlib.Core.Path.{◌≡◌}
+use Prim.Native.Nat.{◌-◌, ◌≤◌}
 use lib.ListN.{length}
-use borrow.Author.Rules.{rules}
-use borrow.Author.Tests.{not-false}
-use Rattle.arrivals.specs.Inner.Offering.{swept-full, swept_none, swept-ok}
-use Rattle.arrivals.specs.Inner.Rows.{Bounded, all-at}
-use Rattle.arrivals.specs.Inner.Sweeps.{From, SweptAt, from_end, from_more, from-none, ready-kept, sweepable-kept}
-use Rattle.arrivals.specs.Laws.Rows.{row_kept}
-use Rattle.arrivals.specs.Rows.{Row}
+use Rattle.arrivals.specs.Inner.Sweeps.{From, SweptAt}
 use Rattle.arrivals.proofs.expand.from_rows.Given as goal
 
 abbrev pub invariant-loop-i : goal.invariant-loop-i

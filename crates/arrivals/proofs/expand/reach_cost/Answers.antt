@@ -4,7 +4,6 @@ use mathlib.Core.List.{List}
 use mathlib.Core.Path.{◌∙◌, ap, ap₂}
 use Prim.Native.Nat.{ℕ}
 use native.Mathlib.Omega.{arith}
-use borrow.Author.Rules.{rules}
 use Rattle.costs.specs.Costs.{add}
 use Rattle.costs.specs.Laws.Figures.{within-add, within_more, within-times}
 use Rattle.arrivals.specs.Inner.Facts.{within_of}

@@ -2,7 +2,6 @@
 -- Assumes nothing.
 use mathlib.Core.Path.{◌≡◌, sym, ap, ◌∙◌}
 use native.Mathlib.Omega.{arith}
-use borrow.Author.Rules.{rules}
 use Rattle.arrivals.specs.Inner.Lent.{given-linked}
 use Rattle.arrivals.specs.Inner.Network.{wait_in}
 use Rattle.arrivals.specs.Inner.Pruning.{sourced}

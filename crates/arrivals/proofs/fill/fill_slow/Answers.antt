@@ -1,7 +1,6 @@
 -- `arrivals::fill::fill_slow` meets its contract: the rows are chosen one after another.
 -- Assumes nothing.
 use native.Mathlib.Omega.{arith}
-use borrow.Author.Rules.{rules}
 use Rattle.arrivals.specs.Inner.Filling.{visiting-stands}
 use Rattle.arrivals.proofs.fill.fill_slow.Goals as goal
 

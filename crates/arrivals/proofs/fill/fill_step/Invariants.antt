@@ -1,18 +1,12 @@
 -- `arrivals::fill::fill_step` meets its contract: the places of the step's set that are free are visited one after another. The loop's invariant: all is
 -- filled in before place v at step t, and v is free, or there is no place left; and what corridors lead to from the rows of this step is in `onward`.
 -- Assumes nothing.
-use mathlib.Core.Path.{◌≡◌, refl, sym, subst}
+use mathlib.Core.Path.{◌≡◌}
 use Prim.Native.Nat.{◌+◌, ◌-◌, ◌<◌}
-use native.Mathlib.Omega.{arith}
 use lib.ListN.{length}
-use borrow.Author.Rules.{rules}
-use borrow.Author.Tests.{not-false, not-true}
-use Rattle.sheet.specs.Laws.Decided.{false-not-true}
-use Rattle.arrivals.specs.Inner.Due.{IndexedShort, Lookout, Onward, SteppedOn, lookout, lookout-on, onward-none, onward-on}
-use Rattle.arrivals.specs.Inner.Filling.{crowded-step, filled-end, result-done, result-full}
+use Rattle.arrivals.specs.Inner.Due.{IndexedShort, Lookout, Onward}
 use Rattle.arrivals.specs.Inner.Network.{case_of, places_of, Vacant}
-use Rattle.arrivals.specs.Inner.Settling.{walking-settling}
-use Rattle.arrivals.specs.Inner.Walking.{Walking, walking-first, walking_on}
+use Rattle.arrivals.specs.Inner.Walking.{Walking}
 use Rattle.arrivals.proofs.fill.fill_step.Given as goal
 
 abbrev pub invariant-loop-v : goal.invariant-loop-v

@@ -1,16 +1,11 @@
 -- `arrivals::fill::fill_steps` meets its contract: the steps are filled in one after another. The loop's invariant: all is filled in before step
 -- t, and what corridors lead to from the rows of the step before is in `next`.
 -- Assumes nothing.
-use mathlib.Core.Path.{◌≡◌, refl, subst}
+use mathlib.Core.Path.{◌≡◌}
 use Prim.Native.Nat.{◌*◌, ◌+◌, ◌-◌, ◌≤◌}
-use native.Mathlib.Omega.{arith}
 use lib.ListN.{length}
-use borrow.Author.Rules.{rules}
-use borrow.Author.Tests.{not-false, not-true}
-use Rattle.arrivals.specs.Inner.Due.{IndexedShort, Onward, onward-all}
-use Rattle.arrivals.specs.Inner.Filling.{Filled, crowded-last, filled-last, result-done, result-full}
-use Rattle.arrivals.specs.Inner.Index.{Indexed, indexed-step}
-use Rattle.arrivals.specs.Inner.Lent.{given-linked}
+use Rattle.arrivals.specs.Inner.Due.{IndexedShort, Onward}
+use Rattle.arrivals.specs.Inner.Filling.{Filled}
 use Rattle.arrivals.specs.Inner.Network.{case_of}
 use Rattle.arrivals.specs.Inner.Rows.{rows_of}
 use Rattle.arrivals.proofs.fill.fill_steps.Given as goal

@@ -3,7 +3,6 @@
 use mathlib.Core.Path.{refl}
 use Prim.Native.Nat.{◌<◌}
 use native.Mathlib.Omega.{arith}
-use borrow.Author.Rules.{rules}
 use Rattle.sheet.specs.Laws.Decided.{false-not-true}
 use Rattle.costs.specs.Costs.{zero_cost}
 use Rattle.arrivals.specs.Inner.Filling.{crowded-first, filled-as, filled_none, filled-start, result-done, result-full, start-since}

@@ -1,11 +1,7 @@
 -- `arrivals::fill::next_place` meets its contract. The loop's invariant: the places from v to u are passed over.
 -- Assumes nothing.
-use mathlib.Core.List.{List}
-use Prim.Native.Nat.{ℕ, ◌-◌, ◌≤◌}
 use native.Mathlib.Omega.{arith}
-use Rattle.arrivals.specs.Inner.Due.{Lookout}
-use Rattle.arrivals.specs.Inner.Network.{places_of}
-use Rattle.arrivals.specs.Inner.Walking.{Walking, pass-to, pass-occupied}
+use Rattle.arrivals.specs.Inner.Walking.{pass-to, pass-occupied}
 use Rattle.arrivals.proofs.fill.next_place.Goals as goal
 
 pub places_of-places-requires : goal.places_of-places-requires

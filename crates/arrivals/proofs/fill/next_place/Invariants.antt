@@ -2,10 +2,9 @@
 -- Assumes nothing.
 use mathlib.Core.List.{List}
 use Prim.Native.Nat.{ℕ, ◌-◌, ◌≤◌}
-use native.Mathlib.Omega.{arith}
 use Rattle.arrivals.specs.Inner.Due.{Lookout}
 use Rattle.arrivals.specs.Inner.Network.{places_of}
-use Rattle.arrivals.specs.Inner.Walking.{Walking, pass-to, pass-occupied}
+use Rattle.arrivals.specs.Inner.Walking.{Walking}
 use Rattle.arrivals.proofs.fill.next_place.Given as goal
 
 abbrev pub invariant-loop-u : goal.invariant-loop-u

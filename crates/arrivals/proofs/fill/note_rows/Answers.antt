@@ -1,11 +1,10 @@
 -- `arrivals::fill::note_rows` meets its contract: the rows are noted step by step, and what a later row undercuts is left out after each step. The loop's
 -- invariant: the rows below k are those of so many steps, and are noted.
 -- Assumes nothing.
-use mathlib.Core.Path.{◌≡◌, refl}
-use Prim.Native.Nat.{◌-◌, ◌<◌}
+use mathlib.Core.Path.{refl}
+use Prim.Native.Nat.{◌<◌}
 use native.Mathlib.Omega.{arith}
-use lib.ListN.{length}
-use Rattle.arrivals.specs.Inner.Renoting.{Renoted, renoted-none, renoted-next, renoted-settling, renoted-more, renoted-all}
+use Rattle.arrivals.specs.Inner.Renoting.{renoted-none, renoted-next, renoted-settling, renoted-more, renoted-all}
 use Rattle.arrivals.proofs.fill.note_rows.Goals as goal
 
 pub loop-k-init : goal.loop-k-init

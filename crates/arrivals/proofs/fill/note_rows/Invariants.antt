@@ -1,11 +1,10 @@
 -- `arrivals::fill::note_rows` meets its contract: the rows are noted step by step, and what a later row undercuts is left out after each step. The loop's
 -- invariant: the rows below k are those of so many steps, and are noted.
 -- Assumes nothing.
-use mathlib.Core.Path.{◌≡◌, refl}
-use Prim.Native.Nat.{◌-◌, ◌<◌}
-use native.Mathlib.Omega.{arith}
+use mathlib.Core.Path.{◌≡◌}
+use Prim.Native.Nat.{◌-◌}
 use lib.ListN.{length}
-use Rattle.arrivals.specs.Inner.Renoting.{Renoted, renoted-none, renoted-next, renoted-settling, renoted-more, renoted-all}
+use Rattle.arrivals.specs.Inner.Renoting.{Renoted}
 use Rattle.arrivals.proofs.fill.note_rows.Given as goal
 
 abbrev pub invariant-loop-k : goal.invariant-loop-k

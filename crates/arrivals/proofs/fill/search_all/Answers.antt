@@ -1,6 +1,5 @@
 -- `arrivals::fill::search_all` meets its contract: what the search by lists finds stands; where it gives up, the search by the index goes on.
 -- Assumes nothing.
-use borrow.Author.Rules.{rules}
 use Rattle.arrivals.proofs.fill.search_all.Goals as goal
 
 pub search_lists-r-requires : goal.search_lists-r-requires

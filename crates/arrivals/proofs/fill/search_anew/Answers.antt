@@ -1,7 +1,6 @@
 -- `arrivals::fill::search_anew` meets its contract: the row of the start, then every step.
 -- Assumes nothing.
 use native.Mathlib.Omega.{arith}
-use borrow.Author.Rules.{rules}
 use Rattle.arrivals.specs.Inner.Filling.{crowded-last, result-full}
 use Rattle.arrivals.proofs.fill.search_anew.Goals as goal
 

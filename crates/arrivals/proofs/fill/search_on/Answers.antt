@@ -1,12 +1,9 @@
 -- `arrivals::fill::search_on` meets its contract: the rows so far are noted in the index, and the search goes on.
 -- Assumes nothing.
-use mathlib.Core.Path.{sym, ap, subst}
+use mathlib.Core.Path.{sym, subst}
 use mathlib.Core.List.{List}
-use mathlib.Core.Logic.{⊎_elim}
 use Prim.Native.Nat.{ℕ, ◌-◌}
 use native.Mathlib.Omega.{arith}
-use lib.ListN.{length}
-use borrow.Author.Rules.{rules}
 use Rattle.arrivals.specs.Inner.Due.{IndexedShort}
 use Rattle.arrivals.specs.Inner.Renoting.{filled-early, filled-noteable, noted-before}
 use Rattle.arrivals.proofs.fill.search_on.Goals as goal
@@ -38,8 +35,8 @@ fill_steps-requires c =
     let a = c.args in (
       record { given = p.0.given; inside = omega (arith, p.0.given.start); first = p.3; last = omega (arith, p.0.day, h.upto); room = h.room; filled = h.filled },
       elim c.if-table-le41943039.branch [
-        then-table-le41943039 w ↦ subst (λ (iy : List ℕ). IndexedShort a.table.now a.halt.rows iy (a.halt.step.0 - 1) a.halt.step.0 a.net.now) (sym w.ix-is) (noted-before a.net.now p.3 w.note_rows.ensures)
-      | else-table-le41943039 w ↦ λ short. absurd (omega (arith, w.if-table-le41943039.false))
+        | then-table-le41943039 w ↦ subst (λ (iy : List ℕ). IndexedShort a.table.now a.halt.rows iy (a.halt.step.0 - 1) a.halt.step.0 a.net.now) (sym w.ix-is) (noted-before a.net.now p.3 w.note_rows.ensures)
+        | else-table-le41943039 w ↦ λ short. absurd (omega (arith, w.if-table-le41943039.false))
       ],
       p.0.day,
       omega (arith, h.upto),

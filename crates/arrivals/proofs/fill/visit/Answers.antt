@@ -2,7 +2,6 @@
 -- Assumes nothing.
 use Prim.Native.Nat.{◌<◌}
 use native.Mathlib.Omega.{arith}
-use borrow.Author.Rules.{rules}
 use Rattle.arrivals.specs.Inner.Gather.{noted-covers, noted_more, noted-none, covers-none}
 use Rattle.arrivals.specs.Inner.Walking.{walking-visiting}
 use Rattle.arrivals.proofs.fill.visit.Goals as goal

@@ -1,10 +1,8 @@
 -- `arrivals::index::group_end` meets its contract: rows are passed until one is of another place or step. The loop's invariant: the rows from k to i are of
 -- one place and step.
 -- Assumes nothing.
-use Prim.Native.Nat.{◌-◌, ◌≤◌, ◌<◌}
 use native.Mathlib.Omega.{arith}
-use borrow.Author.Rules.{rules}
-use Rattle.arrivals.specs.Inner.Renoting.{Same, same-one, same_more}
+use Rattle.arrivals.specs.Inner.Renoting.{same-one, same_more}
 use Rattle.arrivals.proofs.index.group_end.Goals as goal
 
 pub loop-i-init : goal.loop-i-init

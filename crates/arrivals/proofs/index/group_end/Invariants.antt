@@ -2,9 +2,7 @@
 -- one place and step.
 -- Assumes nothing.
 use Prim.Native.Nat.{◌-◌, ◌≤◌, ◌<◌}
-use native.Mathlib.Omega.{arith}
-use borrow.Author.Rules.{rules}
-use Rattle.arrivals.specs.Inner.Renoting.{Same, same-one, same_more}
+use Rattle.arrivals.specs.Inner.Renoting.{Same}
 use Rattle.arrivals.proofs.index.group_end.Given as goal
 
 abbrev pub invariant-loop-i : goal.invariant-loop-i

@@ -3,7 +3,6 @@
 use mathlib.Core.Logic.{inl, inr}
 use mathlib.Core.Path.{refl}
 use native.Mathlib.Omega.{arith}
-use borrow.Author.Rules.{rules}
 use Rattle.arrivals.proofs.index.latest.Goals as goal
 
 pub returns-then-s-t : goal.returns-then-s-t

@@ -1,9 +1,8 @@
 -- `arrivals::index::note_step` meets its contract: the groups of the step are noted one after another. The loop's invariant: the rows from k to i are noted,
 -- and a group begins at i.
 -- Assumes nothing.
-use Prim.Native.Nat.{◌-◌}
 use native.Mathlib.Omega.{arith}
-use Rattle.arrivals.specs.Inner.Renoting.{Noting, noting-none, noting-more, noting-done}
+use Rattle.arrivals.specs.Inner.Renoting.{noting-none, noting-more, noting-done}
 use Rattle.arrivals.proofs.index.note_step.Goals as goal
 
 pub overflow_mul-step : goal.overflow_mul-step

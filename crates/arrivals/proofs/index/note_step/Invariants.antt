@@ -2,8 +2,7 @@
 -- and a group begins at i.
 -- Assumes nothing.
 use Prim.Native.Nat.{◌-◌}
-use native.Mathlib.Omega.{arith}
-use Rattle.arrivals.specs.Inner.Renoting.{Noting, noting-none, noting-more, noting-done}
+use Rattle.arrivals.specs.Inner.Renoting.{Noting}
 use Rattle.arrivals.proofs.index.note_step.Given as goal
 
 abbrev pub invariant-loop-i : goal.invariant-loop-i

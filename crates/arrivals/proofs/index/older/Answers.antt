@@ -5,7 +5,6 @@ use mathlib.Core.Path.{refl, ap, subst}
 use Prim.Native.Nat.{ℕ, ◌+◌, ◌/◌, ◌%◌, ◌<◌}
 use native.Mathlib.Omega.{arith}
 use lib.ListN.{get_or}
-use borrow.Author.Rules.{rules}
 use Rattle.arrivals.proofs.index.older.Goals as goal
 
 pub overflow_add-packed : goal.overflow_add-packed

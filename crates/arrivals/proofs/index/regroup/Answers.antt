@@ -2,7 +2,6 @@
 -- Assumes nothing.
 use native.Mathlib.Omega.{arith}
 use lib.ListN.{length-set}
-use borrow.Author.Rules.{rules}
 use Rattle.arrivals.specs.Inner.Index.{regrouped}
 use Rattle.arrivals.proofs.index.regroup.Goals as goal
 

@@ -2,15 +2,11 @@
 -- is kept.
 -- Assumes nothing.
 use mathlib.Core.Logic.{inl, inr}
-use mathlib.Core.Path.{◌∙◌, ◌≡◌, refl, subst}
-use Prim.Native.Nat.{◌*◌, ◌+◌, ◌-◌, ◌≤◌}
+use mathlib.Core.Path.{◌∙◌, refl, subst}
 use native.Mathlib.Omega.{arith}
-use Rattle.arrivals.specs.Inner.Chains.{by_place, past_of, Chained, chained-none}
+use Rattle.arrivals.specs.Inner.Chains.{Chained, chained-none}
 use Rattle.arrivals.specs.Inner.Laying.{linked-kept}
-use Rattle.arrivals.specs.Inner.Lent.{Linked}
-use Rattle.arrivals.specs.Rows.{Besides}
 use Rattle.arrivals.specs.Laws.Rows.{besides-none, besides-then}
-use Rattle.arrivals.specs.Inner.Network.{count_of}
 use Rattle.arrivals.proofs.lay.chain.Goals as goal
 
 pub count_of-j-end-requires : goal.count_of-j-end-requires

@@ -1,15 +1,11 @@
 -- `arrivals::lay::chain` meets its contract: the corridors are chained one after another. The loop's invariant: those below j are, and all else
 -- is kept.
 -- Assumes nothing.
-use mathlib.Core.Logic.{inl, inr}
-use mathlib.Core.Path.{◌∙◌, ◌≡◌, refl, subst}
+use mathlib.Core.Path.{◌≡◌}
 use Prim.Native.Nat.{◌*◌, ◌+◌, ◌-◌, ◌≤◌}
-use native.Mathlib.Omega.{arith}
-use Rattle.arrivals.specs.Inner.Chains.{by_place, past_of, Chained, chained-none}
-use Rattle.arrivals.specs.Inner.Laying.{linked-kept}
+use Rattle.arrivals.specs.Inner.Chains.{by_place, past_of, Chained}
 use Rattle.arrivals.specs.Inner.Lent.{Linked}
 use Rattle.arrivals.specs.Rows.{Besides}
-use Rattle.arrivals.specs.Laws.Rows.{besides-none, besides-then}
 use Rattle.arrivals.specs.Inner.Network.{count_of}
 use Rattle.arrivals.proofs.lay.chain.Given as goal
 

@@ -2,7 +2,6 @@
 -- Assumes nothing.
 use mathlib.Core.Path.{◌∙◌, ap₂}
 use native.Mathlib.Omega.{arith}
-use borrow.Author.Rules.{rules}
 use Rattle.arrivals.specs.Inner.Chains.{cell}
 use Rattle.arrivals.specs.Inner.Laying.{closure-chained}
 use Rattle.arrivals.proofs.lay.chain_closure.Goals as goal

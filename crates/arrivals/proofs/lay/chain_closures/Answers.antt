@@ -2,15 +2,11 @@
 -- else is kept.
 -- Assumes nothing.
 use mathlib.Core.Logic.{inl, inr}
-use mathlib.Core.Path.{◌∙◌, ◌≡◌, refl, subst}
-use Prim.Native.Nat.{◌-◌, ◌≤◌}
+use mathlib.Core.Path.{◌∙◌, refl, subst}
 use native.Mathlib.Omega.{arith}
-use borrow.Author.Rules.{rules}
-use Rattle.arrivals.specs.Inner.Chains.{by_cell, Chained, chained-none}
-use Rattle.arrivals.specs.Inner.Laying.{Celled, celled-kept}
-use Rattle.arrivals.specs.Rows.{Besides}
+use Rattle.arrivals.specs.Inner.Chains.{Chained, chained-none}
+use Rattle.arrivals.specs.Inner.Laying.{celled-kept}
 use Rattle.arrivals.specs.Laws.Rows.{besides-none, besides-then}
-use Rattle.arrivals.specs.Inner.Network.{closures_of}
 use Rattle.arrivals.proofs.lay.chain_closures.Goals as goal
 
 pub bounds-net-2115 : goal.bounds-net-2115

@@ -1,15 +1,11 @@
 -- `arrivals::lay::chain_closures` meets its contract: the closures are chained one after another. The loop's invariant: those below x are, and all
 -- else is kept.
 -- Assumes nothing.
-use mathlib.Core.Logic.{inl, inr}
-use mathlib.Core.Path.{◌∙◌, ◌≡◌, refl, subst}
+use mathlib.Core.Path.{◌≡◌}
 use Prim.Native.Nat.{◌-◌, ◌≤◌}
-use native.Mathlib.Omega.{arith}
-use borrow.Author.Rules.{rules}
-use Rattle.arrivals.specs.Inner.Chains.{by_cell, Chained, chained-none}
-use Rattle.arrivals.specs.Inner.Laying.{Celled, celled-kept}
+use Rattle.arrivals.specs.Inner.Chains.{by_cell, Chained}
+use Rattle.arrivals.specs.Inner.Laying.{Celled}
 use Rattle.arrivals.specs.Rows.{Besides}
-use Rattle.arrivals.specs.Laws.Rows.{besides-none, besides-then}
 use Rattle.arrivals.specs.Inner.Network.{closures_of}
 use Rattle.arrivals.proofs.lay.chain_closures.Given as goal
 

@@ -2,7 +2,6 @@
 -- Assumes nothing.
 use native.Mathlib.Omega.{arith}
 use lib.ListN.{length-set}
-use borrow.Author.Rules.{rules}
 use Rattle.arrivals.proofs.lay.chain_item.Goals as goal
 
 pub bounds-net-at-2 : goal.bounds-net-at-2

@@ -1,7 +1,6 @@
 -- `arrivals::lay::chain_link` meets its contract: one corridor more in the chain of its place.
 -- Assumes nothing.
 use native.Mathlib.Omega.{arith}
-use borrow.Author.Rules.{rules}
 use Rattle.arrivals.specs.Inner.Laying.{link-chained}
 use Rattle.arrivals.proofs.lay.chain_link.Goals as goal
 

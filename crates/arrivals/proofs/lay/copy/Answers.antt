@@ -1,13 +1,9 @@
 -- `arrivals::lay::copy` meets its contract: the numbers are copied one after another. The loop's invariant: those below i are, and all else is kept.
 -- Assumes nothing.
-use mathlib.Core.Path.{◌≡◌}
-use Prim.Native.Nat.{ℕ, ◌+◌, ◌-◌, ◌<◌, ◌≤◌}
+use Prim.Native.Nat.{◌+◌}
 use native.Mathlib.Omega.{arith}
-use lib.ListN.{get_or}
-use borrow.Author.Rules.{rules}
 use Rattle.sheet.specs.Lists.{number}
 use Rattle.sheet.specs.Laws.Decided.{fill-from}
-use Rattle.arrivals.specs.Rows.{Besides}
 use Rattle.arrivals.specs.Laws.Rows.{besides-none, besides-set, besides-then}
 use Rattle.arrivals.proofs.lay.copy.Goals as goal
 

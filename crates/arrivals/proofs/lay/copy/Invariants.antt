@@ -2,13 +2,8 @@
 -- Assumes nothing.
 use mathlib.Core.Path.{◌≡◌}
 use Prim.Native.Nat.{ℕ, ◌+◌, ◌-◌, ◌<◌, ◌≤◌}
-use native.Mathlib.Omega.{arith}
 use lib.ListN.{get_or}
-use borrow.Author.Rules.{rules}
-use Rattle.sheet.specs.Lists.{number}
-use Rattle.sheet.specs.Laws.Decided.{fill-from}
 use Rattle.arrivals.specs.Rows.{Besides}
-use Rattle.arrivals.specs.Laws.Rows.{besides-none, besides-set, besides-then}
 use Rattle.arrivals.proofs.lay.copy.Given as goal
 
 abbrev pub invariant-loop-i : goal.invariant-loop-i

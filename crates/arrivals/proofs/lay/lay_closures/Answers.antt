@@ -1,7 +1,6 @@
 -- `arrivals::lay::lay_closures` meets its contract: the numbers of the closures are copied.
 -- Assumes nothing.
 use native.Mathlib.Omega.{arith}
-use borrow.Author.Rules.{rules}
 use Rattle.arrivals.specs.Inner.OfSheet.{closures-copied, few-closures, kinds-counted, whole-store}
 use Rattle.arrivals.proofs.lay.lay_closures.Goals as goal
 

@@ -2,7 +2,6 @@
 -- Assumes nothing.
 use native.Mathlib.Omega.{arith}
 use lib.ListN.{length-set}
-use borrow.Author.Rules.{rules}
 use Rattle.arrivals.specs.Inner.Laying.{counted}
 use Rattle.arrivals.proofs.lay.lay_counts.Goals as goal
 

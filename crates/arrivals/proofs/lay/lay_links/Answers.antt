@@ -1,7 +1,6 @@
 -- `arrivals::lay::lay_links` meets its contract: the numbers of the corridors are copied.
 -- Assumes nothing.
 use native.Mathlib.Omega.{arith}
-use borrow.Author.Rules.{rules}
 use Rattle.arrivals.specs.Inner.OfSheet.{few-lines, kinds-counted, links-copied, whole-store}
 use Rattle.arrivals.proofs.lay.lay_links.Goals as goal
 

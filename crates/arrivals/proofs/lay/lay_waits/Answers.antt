@@ -2,14 +2,9 @@
 -- all else is kept.
 -- Assumes nothing.
 use mathlib.Core.Path.{subst}
-use Prim.Native.Nat.{◌-◌, ◌≤◌}
 use native.Mathlib.Omega.{arith}
-use borrow.Author.Rules.{rules}
-use Rattle.sheet.specs.Lists.{number}
-use Rattle.sheet.specs.Store.{sheet_in}
 use Rattle.arrivals.specs.Inner.Laying.{WaitsTo, waits-more}
 use Rattle.arrivals.specs.Inner.OfSheet.{whole-store, head_at, few-places}
-use Rattle.arrivals.specs.Rows.{Besides}
 use Rattle.arrivals.specs.Laws.Rows.{besides-none, besides-then, besides-wide}
 use Rattle.arrivals.proofs.lay.lay_waits.Goals as goal
 

@@ -1,16 +1,11 @@
 -- `arrivals::lay::lay_waits` meets its contract: the costs are stored place by place. The loop's invariant: those of the places below v are, and
 -- all else is kept.
 -- Assumes nothing.
-use mathlib.Core.Path.{subst}
 use Prim.Native.Nat.{◌-◌, ◌≤◌}
-use native.Mathlib.Omega.{arith}
-use borrow.Author.Rules.{rules}
 use Rattle.sheet.specs.Lists.{number}
 use Rattle.sheet.specs.Store.{sheet_in}
-use Rattle.arrivals.specs.Inner.Laying.{WaitsTo, waits-more}
-use Rattle.arrivals.specs.Inner.OfSheet.{whole-store, head_at, few-places}
+use Rattle.arrivals.specs.Inner.Laying.{WaitsTo}
 use Rattle.arrivals.specs.Rows.{Besides}
-use Rattle.arrivals.specs.Laws.Rows.{besides-none, besides-then, besides-wide}
 use Rattle.arrivals.proofs.lay.lay_waits.Given as goal
 
 abbrev pub invariant-loop-v : goal.invariant-loop-v

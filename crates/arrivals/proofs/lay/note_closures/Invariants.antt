@@ -1,17 +1,11 @@
 -- `arrivals::lay::note_closures` meets its contract: the closures are gone through one after another. The loop's invariant: the places of those below x
 -- are noted, and all else is kept.
 -- Assumes nothing.
-use mathlib.Core.Logic.{inl, inr}
-use mathlib.Core.List.{List}
-use mathlib.Core.Path.{◌∙◌, ◌≡◌, refl, sym, subst}
-use Prim.Native.Nat.{ℕ, ◌-◌, ◌+◌, ◌*◌, ◌≤◌, ◌<◌}
-use native.Mathlib.Omega.{arith}
-use borrow.Author.Rules.{rules}
-use lib.ListN.{set}
-use Rattle.arrivals.specs.Inner.Laying.{Celled, NotedTo, note-besides, noted_more}
+use mathlib.Core.Path.{◌≡◌}
+use Prim.Native.Nat.{◌-◌, ◌≤◌}
+use Rattle.arrivals.specs.Inner.Laying.{Celled, NotedTo}
 use Rattle.arrivals.specs.Rows.{Besides}
-use Rattle.arrivals.specs.Laws.Rows.{besides-none, besides-then}
-use Rattle.arrivals.specs.Inner.Network.{closures_of, closure_of}
+use Rattle.arrivals.specs.Inner.Network.{closures_of}
 use Rattle.arrivals.proofs.lay.note_closures.Given as goal
 
 abbrev pub invariant-loop-x : goal.invariant-loop-x

@@ -2,14 +2,10 @@
 -- is kept.
 -- Assumes nothing.
 use mathlib.Core.Logic.{inl, inr}
-use mathlib.Core.Path.{◌∙◌, ◌≡◌, refl, subst}
-use Prim.Native.Nat.{◌-◌, ◌≤◌}
+use mathlib.Core.Path.{◌∙◌, refl, subst}
 use native.Mathlib.Omega.{arith}
 use Rattle.arrivals.specs.Inner.Laying.{WeighedTo, linked-kept}
-use Rattle.arrivals.specs.Inner.Lent.{Linked}
-use Rattle.arrivals.specs.Rows.{Besides}
 use Rattle.arrivals.specs.Laws.Rows.{besides-none, besides-then}
-use Rattle.arrivals.specs.Inner.Network.{count_of}
 use Rattle.arrivals.proofs.lay.weigh.Goals as goal
 
 pub count_of-j-end-requires : goal.count_of-j-end-requires

@@ -1,14 +1,11 @@
 -- `arrivals::lay::weigh` meets its contract: the corridors are weighed one after another. The loop's invariant: those below j are, and all else
 -- is kept.
 -- Assumes nothing.
-use mathlib.Core.Logic.{inl, inr}
-use mathlib.Core.Path.{◌∙◌, ◌≡◌, refl, subst}
+use mathlib.Core.Path.{◌≡◌}
 use Prim.Native.Nat.{◌-◌, ◌≤◌}
-use native.Mathlib.Omega.{arith}
-use Rattle.arrivals.specs.Inner.Laying.{WeighedTo, linked-kept}
+use Rattle.arrivals.specs.Inner.Laying.{WeighedTo}
 use Rattle.arrivals.specs.Inner.Lent.{Linked}
 use Rattle.arrivals.specs.Rows.{Besides}
-use Rattle.arrivals.specs.Laws.Rows.{besides-none, besides-then}
 use Rattle.arrivals.specs.Inner.Network.{count_of}
 use Rattle.arrivals.proofs.lay.weigh.Given as goal
 

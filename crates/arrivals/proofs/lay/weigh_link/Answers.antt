@@ -2,7 +2,6 @@
 -- Assumes nothing.
 use mathlib.Core.Path.{◌∙◌, sym}
 use native.Mathlib.Omega.{arith}
-use borrow.Author.Rules.{rules}
 use Rattle.costs.specs.Laws.Figures.{at_most_b-true}
 use Rattle.arrivals.specs.Inner.Laying.{cheap-of, weighed-at, weighed-cheap}
 use Rattle.arrivals.specs.Laws.Rows.{besides-none}

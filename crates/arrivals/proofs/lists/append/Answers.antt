@@ -2,13 +2,11 @@
 -- Assumes nothing.
 use mathlib.Core.List.{List}
 use mathlib.Core.Path.{◌∙◌, ap, refl}
-use Prim.Native.Nat.{ℕ, ◌-◌, ◌≤◌}
+use Prim.Native.Nat.{ℕ}
 use native.Mathlib.Omega.{arith}
-use borrow.Author.Rules.{rules}
 use Rattle.costs.specs.Costs.{add}
 use Rattle.arrivals.specs.Inner.Facts.{within_of}
 use Rattle.arrivals.specs.Inner.Keeping.{appended-end, appended-more, appended-none, figures-as}
-use Rattle.arrivals.specs.Inner.Lists.{Appended}
 use Rattle.arrivals.proofs.lists.append.Goals as goal
 
 pub loop-i-init : goal.loop-i-init

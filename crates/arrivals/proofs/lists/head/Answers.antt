@@ -2,7 +2,6 @@
 -- Assumes nothing.
 use native.Mathlib.Omega.{arith}
 use lib.ListN.{length-set}
-use borrow.Author.Rules.{rules}
 use Rattle.arrivals.specs.Inner.Settled.{headed-set}
 use Rattle.arrivals.proofs.lists.head.Goals as goal
 

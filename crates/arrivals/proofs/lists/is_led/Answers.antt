@@ -2,9 +2,8 @@
 -- Assumes nothing.
 use mathlib.Core.List.{List}
 use mathlib.Core.Path.{subst, sym}
-use Prim.Native.Nat.{ℕ, ◌-◌, ◌<◌, ◌≤◌}
+use Prim.Native.Nat.{ℕ}
 use native.Mathlib.Omega.{arith}
-use borrow.Author.Rules.{rules}
 use Rattle.sheet.specs.Laws.Decided.{fails, holds, no_of, yes_of}
 use Rattle.costs.specs.Costs.{AtMost}
 use Rattle.arrivals.specs.Inner.Facts.{at-most-decided}

@@ -2,7 +2,6 @@
 -- Assumes nothing.
 use mathlib.Core.Logic.{inl, inr}
 use mathlib.Core.Path.{refl}
-use borrow.Author.Rules.{rules}
 use Rattle.arrivals.proofs.lists.own_of.Goals as goal
 
 pub returns-then-live-v : goal.returns-then-live-v

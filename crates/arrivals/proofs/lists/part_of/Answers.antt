@@ -2,7 +2,6 @@
 -- Assumes nothing.
 use Prim.Native.Nat.{◌+◌}
 use native.Mathlib.Omega.{arith}
-use borrow.Author.Rules.{rules}
 use Rattle.sheet.specs.Laws.Decided.{false-not-true}
 use Rattle.arrivals.proofs.lists.part_of.Goals as goal
 

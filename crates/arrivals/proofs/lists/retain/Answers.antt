@@ -1,11 +1,8 @@
 -- `arrivals::lists::retain` meets its contract: cost after cost is kept or dropped. The loop's invariant: k of the first i costs are kept, and the others are
 -- led.
 -- Assumes nothing.
-use Prim.Native.Nat.{◌-◌, ◌≤◌}
 use native.Mathlib.Omega.{arith}
-use borrow.Author.Rules.{rules}
 use Rattle.arrivals.specs.Inner.Keeping.{retained-end, retained-more, retained-none}
-use Rattle.arrivals.specs.Inner.Lists.{RetainedTo}
 use Rattle.arrivals.proofs.lists.retain.Goals as goal
 
 pub loop-i-init : goal.loop-i-init

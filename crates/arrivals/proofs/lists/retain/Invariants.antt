@@ -2,9 +2,6 @@
 -- led.
 -- Assumes nothing.
 use Prim.Native.Nat.{◌-◌, ◌≤◌}
-use native.Mathlib.Omega.{arith}
-use borrow.Author.Rules.{rules}
-use Rattle.arrivals.specs.Inner.Keeping.{retained-end, retained-more, retained-none}
 use Rattle.arrivals.specs.Inner.Lists.{RetainedTo}
 use Rattle.arrivals.proofs.lists.retain.Given as goal
 

@@ -2,7 +2,6 @@
 -- Assumes nothing.
 use mathlib.Core.Logic.{inl, inr}
 use mathlib.Core.Path.{refl}
-use borrow.Author.Rules.{rules}
 use Rattle.sheet.specs.Laws.Decided.{yes_of}
 use Rattle.arrivals.specs.Inner.Keeping.{figures-as, led-as}
 use Rattle.arrivals.proofs.lists.retain_one.Goals as goal

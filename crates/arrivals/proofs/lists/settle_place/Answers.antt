@@ -3,7 +3,6 @@
 -- Assumes nothing.
 use mathlib.Core.Path.{◌∙◌}
 use native.Mathlib.Omega.{arith}
-use borrow.Author.Rules.{rules}
 use Rattle.arrivals.specs.Inner.Settled.{settled-anew, settled_on}
 use Rattle.arrivals.proofs.lists.settle_place.Goals as goal
 

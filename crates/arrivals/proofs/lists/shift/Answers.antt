@@ -1,10 +1,8 @@
 -- `arrivals::lists::shift` meets its contract: cost after cost is moved down, and as `to` is not above `from`, each is still the old one when it is read.
 -- The loop's invariant: the costs below i are moved, and all numbers besides them are the old ones.
 -- Assumes nothing.
-use Prim.Native.Nat.{◌-◌, ◌≤◌}
 use native.Mathlib.Omega.{arith}
-use borrow.Author.Rules.{rules}
-use Rattle.arrivals.specs.Inner.Settled.{Moved, moved_none, moved_more, moved_all, shifted_none}
+use Rattle.arrivals.specs.Inner.Settled.{moved_none, moved_more, moved_all, shifted_none}
 use Rattle.arrivals.proofs.lists.shift.Goals as goal
 
 pub returns-then-from-to : goal.returns-then-from-to

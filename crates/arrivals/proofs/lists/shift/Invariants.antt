@@ -2,9 +2,7 @@
 -- The loop's invariant: the costs below i are moved, and all numbers besides them are the old ones.
 -- Assumes nothing.
 use Prim.Native.Nat.{◌-◌, ◌≤◌}
-use native.Mathlib.Omega.{arith}
-use borrow.Author.Rules.{rules}
-use Rattle.arrivals.specs.Inner.Settled.{Moved, moved_none, moved_more, moved_all, shifted_none}
+use Rattle.arrivals.specs.Inner.Settled.{Moved}
 use Rattle.arrivals.proofs.lists.shift.Given as goal
 
 abbrev pub invariant-loop-i : goal.invariant-loop-i

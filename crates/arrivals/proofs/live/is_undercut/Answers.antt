@@ -6,7 +6,6 @@ use Rattle.sheet.specs.Laws.Decided.{yes_of}
 use Rattle.costs.specs.Costs.{Cost, add}
 use Rattle.costs.specs.Priced.{Within}
 use Rattle.arrivals.specs.Inner.Offering.{Beaten}
-use borrow.Author.Rules.{rules}
 use Rattle.arrivals.proofs.live.is_undercut.Goals as goal
 
 pub sum-requires : goal.sum-requires

@@ -1,11 +1,6 @@
 -- `arrivals::live::last_live` meets its contract. The loop's invariant: the rows of the span from k on are undercut.
 -- Assumes nothing.
-use mathlib.Core.Path.{◌≡◌, subst}
-use mathlib.Core.Logic.{⊎_elim}
-use Prim.Native.Nat.{ℕ, ◌-◌, ◌≤◌, ◌<◌}
-use native.Mathlib.Omega.{arith}
-use borrow.Author.Tests.{not-false}
-use Rattle.sheet.specs.Laws.Decided.{lt-or-le}
+use Prim.Native.Nat.{ℕ, ◌≤◌, ◌<◌}
 use Rattle.arrivals.specs.Inner.Settling.{Undercut}
 use Rattle.arrivals.proofs.live.last_live.Given as goal
 

@@ -1,14 +1,12 @@
 -- `arrivals::live::settle` meets its contract: place by place. The loop's invariant: the index has what it promises.
 -- Assumes nothing.
 use mathlib.Core.Path.{refl, ◌∙◌}
-use Prim.Native.Nat.{◌-◌, ◌≤◌}
 use native.Mathlib.Omega.{arith}
 use mathlib.Core.Bool.{not}
 use lib.Dec.{ltb}
 use lib.ListN.{length}
 use borrow.Author.Tests.{ltb-false}
 use Rattle.sheet.specs.Laws.Passed.{or-false}
-use Rattle.arrivals.specs.Inner.Settling.{Settles}
 use Rattle.arrivals.proofs.live.settle.Goals as goal
 
 pub returns-then-dear-table : goal.returns-then-dear-table

@@ -2,12 +2,11 @@
 -- The loop's invariant: the index has what it promises, and the listed rows of the place before step p begin below step s.
 -- Assumes nothing.
 use mathlib.Core.Path.{◌≡◌, refl, sym, ◌∙◌, subst}
-use Prim.Native.Nat.{ℕ, ◌+◌, ◌-◌, ◌≤◌, ◌<◌}
+use Prim.Native.Nat.{◌+◌, ◌-◌, ◌≤◌, ◌<◌}
 use Rattle.costs.specs.Priced.{Within}
 use native.Mathlib.Omega.{arith}
-use lib.ListN.{length}
 use Rattle.arrivals.specs.Inner.Index.{older-most, older-past}
-use Rattle.arrivals.specs.Inner.Settling.{Settling, Begins, rows_left, rows_none}
+use Rattle.arrivals.specs.Inner.Settling.{Begins, rows_left, rows_none}
 use Rattle.arrivals.proofs.live.settle_place.Goals as goal
 
 pub newest-last-requires : goal.newest-last-requires

@@ -1,13 +1,10 @@
 -- `arrivals::live::settle_place` meets its contract: the groups of the place are shortened from the newest on, and one that has no rows left is pointed past.
 -- The loop's invariant: the index has what it promises, and the listed rows of the place before step p begin below step s.
 -- Assumes nothing.
-use mathlib.Core.Path.{◌≡◌, refl, sym, ◌∙◌, subst}
-use Prim.Native.Nat.{ℕ, ◌+◌, ◌-◌, ◌≤◌, ◌<◌}
-use Rattle.costs.specs.Priced.{Within}
-use native.Mathlib.Omega.{arith}
+use mathlib.Core.Path.{◌≡◌}
+use Prim.Native.Nat.{ℕ, ◌≤◌}
 use lib.ListN.{length}
-use Rattle.arrivals.specs.Inner.Index.{older-most, older-past}
-use Rattle.arrivals.specs.Inner.Settling.{Settling, Begins, rows_left, rows_none}
+use Rattle.arrivals.specs.Inner.Settling.{Settling, Begins}
 use Rattle.arrivals.proofs.live.settle_place.Given as goal
 
 abbrev pub invariant-loop-s : goal.invariant-loop-s

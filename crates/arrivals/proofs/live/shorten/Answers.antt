@@ -3,7 +3,6 @@
 use mathlib.Core.Path.{refl}
 use native.Mathlib.Omega.{arith}
 use Rattle.arrivals.specs.Inner.Settling.{spans, spans-rest, shortened}
-use borrow.Author.Rules.{rules}
 use Rattle.arrivals.proofs.live.shorten.Goals as goal
 
 pub group-by-requires : goal.group-by-requires

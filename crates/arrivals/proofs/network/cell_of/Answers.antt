@@ -1,7 +1,6 @@
 -- `arrivals::network::cell_of` meets its contract: a place below 64, and one of its sixteen cells.
 -- Assumes nothing.
 use native.Mathlib.Omega.{arith}
-use borrow.Author.Rules.{rules}
 use Rattle.arrivals.proofs.network.cell_of.Goals as goal
 
 pub overflow_mul-v : goal.overflow_mul-v

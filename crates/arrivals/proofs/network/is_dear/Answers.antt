@@ -1,6 +1,5 @@
 -- `arrivals::network::is_dear` meets its contract: one test.
 -- Assumes nothing.
-use borrow.Author.Rules.{rules}
 use borrow.Author.Tests.{eqb-true, not-false}
 use Rattle.arrivals.proofs.network.is_dear.Goals as goal
 

@@ -1,6 +1,5 @@
 -- `arrivals::network::is_plain` meets its contract: one test.
 -- Assumes nothing.
-use borrow.Author.Rules.{rules}
 use borrow.Author.Tests.{eqb-true}
 use Rattle.arrivals.proofs.network.is_plain.Goals as goal
 

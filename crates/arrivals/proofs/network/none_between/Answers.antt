@@ -1,13 +1,12 @@
 -- `arrivals::network::none_between` meets its contract: the closures of the cell are gone through from the last. The loop's invariant: none of those
 -- from x on is of the corridor at step s. One that is of it is of the cell.
 -- Assumes nothing.
-use mathlib.Core.Path.{◌≡◌, ◌∙◌, sym, ap₂}
+use mathlib.Core.Path.{◌∙◌, sym, ap₂}
 use Prim.Native.Nat.{◌-◌}
 use native.Mathlib.Omega.{arith}
-use borrow.Author.Rules.{rules}
 use Rattle.sheet.specs.Laws.Decided.{no_of, yes_of}
-use Rattle.arrivals.specs.Inner.Chains.{by_cell, cell, Passed, passed-all, passed_first, passed-next}
-use Rattle.arrivals.specs.Inner.Network.{closures_of, Closes, open_of, shut-of}
+use Rattle.arrivals.specs.Inner.Chains.{cell, passed-all, passed_first, passed-next}
+use Rattle.arrivals.specs.Inner.Network.{open_of, shut-of}
 use Rattle.arrivals.proofs.network.none_between.Goals as goal
 
 pub cell_of-at-requires : goal.cell_of-at-requires

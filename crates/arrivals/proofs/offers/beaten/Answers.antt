@@ -3,14 +3,12 @@
 -- Assumes nothing.
 use mathlib.Core.List.{List}
 use mathlib.Core.Path.{subst, sym}
-use Prim.Native.Nat.{◌-◌, ◌≤◌, ℕ}
+use Prim.Native.Nat.{ℕ}
 use native.Mathlib.Omega.{arith}
-use borrow.Author.Rules.{rules}
 use Rattle.sheet.specs.Laws.Decided.{fails, holds, no_of, yes_of}
 use Rattle.costs.specs.Costs.{AtMost}
 use Rattle.arrivals.specs.Inner.Facts.{at-most-decided}
-use Rattle.arrivals.specs.Inner.Offering.{Beaten}
-use Rattle.arrivals.specs.Inner.Rows.{tail-any, tail_none, tail-none-end, tail-none-more, tail_of}
+use Rattle.arrivals.specs.Inner.Rows.{tail-any, tail_none, tail-none-end, tail-none-more}
 use Rattle.arrivals.proofs.offers.beaten.Goals as goal
 
 pub loop-i-init : goal.loop-i-init

@@ -1,16 +1,9 @@
 -- `arrivals::offers::beaten` meets its contract: a row of the group is nowhere above g, or none is. The loop's invariant: none of the first i
 -- rows is.
 -- Assumes nothing.
-use mathlib.Core.List.{List}
-use mathlib.Core.Path.{subst, sym}
-use Prim.Native.Nat.{◌-◌, ◌≤◌, ℕ}
-use native.Mathlib.Omega.{arith}
-use borrow.Author.Rules.{rules}
-use Rattle.sheet.specs.Laws.Decided.{fails, holds, no_of, yes_of}
-use Rattle.costs.specs.Costs.{AtMost}
-use Rattle.arrivals.specs.Inner.Facts.{at-most-decided}
+use Prim.Native.Nat.{◌-◌, ◌≤◌}
 use Rattle.arrivals.specs.Inner.Offering.{Beaten}
-use Rattle.arrivals.specs.Inner.Rows.{tail-any, tail_none, tail-none-end, tail-none-more, tail_of}
+use Rattle.arrivals.specs.Inner.Rows.{tail_of}
 use Rattle.arrivals.proofs.offers.beaten.Given as goal
 
 abbrev pub invariant-loop-i : goal.invariant-loop-i

@@ -1,12 +1,10 @@
 -- `arrivals::offers::insert` meets its contract: the rows move up by one, the last first. The loop's invariant: those from k on have, and the rest
 -- is as it was.
 -- Assumes nothing.
-use mathlib.Core.Path.{◌≡◌, refl}
-use Prim.Native.Nat.{◌≤◌}
+use mathlib.Core.Path.{refl}
 use native.Mathlib.Omega.{arith}
-use lib.ListN.{length}
 use borrow.Author.Rules.{rules}
-use Rattle.arrivals.specs.Inner.Offering.{Moved, moved-end, moved_more}
+use Rattle.arrivals.specs.Inner.Offering.{moved-end, moved_more}
 use Rattle.arrivals.proofs.offers.insert.Goals as goal
 
 pub loop-k-init : goal.loop-k-init

@@ -1,12 +1,10 @@
 -- `arrivals::offers::insert` meets its contract: the rows move up by one, the last first. The loop's invariant: those from k on have, and the rest
 -- is as it was.
 -- Assumes nothing.
-use mathlib.Core.Path.{◌≡◌, refl}
+use mathlib.Core.Path.{◌≡◌}
 use Prim.Native.Nat.{◌≤◌}
-use native.Mathlib.Omega.{arith}
 use lib.ListN.{length}
-use borrow.Author.Rules.{rules}
-use Rattle.arrivals.specs.Inner.Offering.{Moved, moved-end, moved_more}
+use Rattle.arrivals.specs.Inner.Offering.{Moved}
 use Rattle.arrivals.proofs.offers.insert.Given as goal
 
 abbrev pub invariant-loop-k : goal.invariant-loop-k

@@ -1,7 +1,6 @@
 -- `arrivals::offers::led_group` meets its contract: a row that leads after waiting is one that is nowhere above what is left of g without the
 -- waiting.
 -- Assumes nothing.
-use borrow.Author.Rules.{rules}
 use Rattle.sheet.specs.Laws.Decided.{fails, no_of, yes_of}
 use Rattle.arrivals.specs.Inner.Facts.{at-most-decided}
 use Rattle.arrivals.specs.Inner.Leaders.{lag-led, rest-led}

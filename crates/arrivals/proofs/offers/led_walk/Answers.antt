@@ -2,15 +2,11 @@
 -- at step s or later leads g.
 -- Assumes nothing.
 use mathlib.Core.Path.{◌≡◌}
-use Prim.Native.Nat.{◌+◌, ◌-◌, ◌<◌, ◌≤◌, ℕ}
+use Prim.Native.Nat.{◌+◌, ◌-◌}
 use native.Mathlib.Omega.{arith}
-use lib.ListN.{length}
-use borrow.Author.Rules.{rules}
 use Rattle.sheet.specs.Laws.Decided.{fails, holds, no_of, yes_of}
-use Rattle.arrivals.specs.Inner.Entering.{RowLeadsAt}
-use Rattle.arrivals.specs.Inner.Index.{Listed, room_of, older-most, row-newest}
+use Rattle.arrivals.specs.Inner.Index.{older-most, row-newest}
 use Rattle.arrivals.specs.Inner.Leaders.{group-leads, span-as, unled-all, unled-more}
-use Rattle.arrivals.specs.Rows.{row_at}
 use Rattle.arrivals.proofs.offers.led_walk.Goals as goal
 
 pub newest-last-requires : goal.newest-last-requires

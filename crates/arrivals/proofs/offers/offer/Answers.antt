@@ -2,7 +2,6 @@
 -- Assumes nothing.
 use mathlib.Core.Logic.{inr}
 use mathlib.Core.Path.{refl}
-use borrow.Author.Rules.{rules}
 use Rattle.sheet.specs.Laws.Decided.{no_of, yes_of}
 use Rattle.arrivals.specs.Inner.Offering.{offered-not, swept-one}
 use Rattle.arrivals.proofs.offers.offer.Goals as goal

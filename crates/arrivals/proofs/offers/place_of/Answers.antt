@@ -1,10 +1,8 @@
 -- `arrivals::offers::place_of` meets its contract: the place is searched from the end. The loop's invariant: the rows from k on come after g.
 -- Assumes nothing.
-use Prim.Native.Nat.{◌≤◌}
 use native.Mathlib.Omega.{arith}
-use borrow.Author.Rules.{rules}
 use Rattle.sheet.specs.Laws.Decided.{no_of, yes_of}
-use Rattle.arrivals.specs.Inner.Offering.{After, after_more}
+use Rattle.arrivals.specs.Inner.Offering.{after_more}
 use Rattle.arrivals.proofs.offers.place_of.Goals as goal
 
 pub loop-g-init : goal.loop-g-init

@@ -4,7 +4,6 @@ use mathlib.Core.List.{List}
 use mathlib.Core.Path.{subst, sym}
 use Prim.Native.Nat.{ℕ}
 use native.Mathlib.Omega.{arith}
-use borrow.Author.Rules.{rules}
 use Rattle.sheet.specs.Laws.Decided.{decided-as, fails, lex-decided}
 use Rattle.sheet.specs.Lists.{Lex}
 use Rattle.arrivals.proofs.offers.precedes.Goals as goal

@@ -1,13 +1,10 @@
 -- `arrivals::offers::thin` meets its contract: row after row is kept or dropped. The loop's invariant: k of the first i rows are kept, and the
 -- rows past them are as they were.
 -- Assumes nothing.
-use mathlib.Core.Path.{◌∙◌, ◌≡◌, refl}
-use Prim.Native.Nat.{◌*◌, ◌+◌, ◌-◌, ◌<◌, ◌≤◌, ℕ}
+use mathlib.Core.Path.{◌∙◌, refl}
 use native.Mathlib.Omega.{arith}
-use lib.ListN.{get_or, length}
 use borrow.Author.Rules.{rules}
-use Rattle.arrivals.specs.Inner.Offering.{Thin, thin-end, thin-more, thin-zero}
-use Rattle.arrivals.specs.Inner.Rows.{tail_of}
+use Rattle.arrivals.specs.Inner.Offering.{thin-end, thin-more, thin-zero}
 use Rattle.arrivals.proofs.offers.thin.Goals as goal
 
 pub loop-i-init : goal.loop-i-init

@@ -4,7 +4,6 @@
 use mathlib.Core.List.{List}
 use mathlib.Core.Path.{subst, sym}
 use Prim.Native.Nat.{ℕ}
-use borrow.Author.Rules.{rules}
 use Rattle.sheet.specs.Laws.Decided.{no_of, yes_of}
 use Rattle.costs.specs.Costs.{AtMost}
 use Rattle.arrivals.specs.Inner.Facts.{at-most-decided}

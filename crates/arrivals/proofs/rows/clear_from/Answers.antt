@@ -5,7 +5,6 @@ use mathlib.Core.Path.{◌∙◌, ap, ap₂}
 use Prim.Native.Nat.{◌-◌, ℕ}
 use native.Mathlib.Omega.{arith}
 use lib.ListN.{drop, drop_of_length-le, length, length-drop, replicate, take}
-use borrow.Author.Rules.{rules}
 use borrow.Rule.Slice.PartMut.{mid_len}
 use Rattle.arrivals.proofs.rows.clear_from.Goals as goal
 use Rattle.arrivals.proofs.rows.clear_from.Goals.{Start}

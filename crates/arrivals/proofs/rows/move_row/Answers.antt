@@ -1,7 +1,6 @@
 -- `arrivals::rows::move_row` meets its contract: row k becomes what row from is.
 -- Assumes nothing.
 use mathlib.Core.Path.{refl}
-use borrow.Author.Rules.{rules}
 use Rattle.arrivals.specs.Laws.Rows.{put_as}
 use Rattle.arrivals.proofs.rows.move_row.Goals as goal
 

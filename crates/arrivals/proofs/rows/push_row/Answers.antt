@@ -3,7 +3,6 @@
 use mathlib.Core.Path.{◌∙◌}
 use native.Mathlib.Omega.{arith}
 use lib.ListN.{length-set}
-use borrow.Author.Rules.{rules}
 use Rattle.arrivals.specs.Laws.Rows.{put-set}
 use Rattle.arrivals.proofs.rows.push_row.Goals as goal
 

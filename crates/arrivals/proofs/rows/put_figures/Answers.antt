@@ -1,14 +1,10 @@
 -- `arrivals::rows::put_figures` meets its contract: three stores. The loop's invariant: the figures below i are stored, and all else is kept.
 -- Assumes nothing.
-use mathlib.Core.Path.{◌≡◌}
-use Prim.Native.Nat.{◌+◌, ◌-◌, ◌<◌, ◌≤◌, ℕ}
+use Prim.Native.Nat.{◌+◌}
 use native.Mathlib.Omega.{arith}
-use lib.ListN.{get_or}
-use borrow.Author.Rules.{rules}
 use Rattle.sheet.specs.Laws.Decided.{fill-from, from-of}
-use Rattle.costs.specs.Costs.{fig, figures}
+use Rattle.costs.specs.Costs.{fig}
 use Rattle.arrivals.specs.Laws.Rows.{besides-none, besides-set, besides-then}
-use Rattle.arrivals.specs.Rows.{Besides}
 use Rattle.arrivals.proofs.rows.put_figures.Goals as goal
 
 pub loop-i-init : goal.loop-i-init

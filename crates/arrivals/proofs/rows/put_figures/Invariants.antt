@@ -2,12 +2,8 @@
 -- Assumes nothing.
 use mathlib.Core.Path.{◌≡◌}
 use Prim.Native.Nat.{◌+◌, ◌-◌, ◌<◌, ◌≤◌, ℕ}
-use native.Mathlib.Omega.{arith}
 use lib.ListN.{get_or}
-use borrow.Author.Rules.{rules}
-use Rattle.sheet.specs.Laws.Decided.{fill-from, from-of}
-use Rattle.costs.specs.Costs.{fig, figures}
-use Rattle.arrivals.specs.Laws.Rows.{besides-none, besides-set, besides-then}
+use Rattle.costs.specs.Costs.{fig}
 use Rattle.arrivals.specs.Rows.{Besides}
 use Rattle.arrivals.proofs.rows.put_figures.Given as goal
 

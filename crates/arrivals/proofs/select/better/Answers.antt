@@ -1,6 +1,5 @@
 -- `arrivals::select::better` meets its contract: nothing found so far, or g comes before it.
 -- Assumes nothing.
-use borrow.Author.Rules.{rules}
 use Rattle.sheet.specs.Laws.Decided.{decided-as, false-not-true, holds, lex-decided}
 use Rattle.arrivals.proofs.select.better.Goals as goal
 

@@ -1,15 +1,11 @@
 -- `arrivals::select::fill_place` meets its contract: row after row is chosen and put in. The loop's invariant: the place is being filled in,
 -- with the rows below n.
 -- Assumes nothing.
-use mathlib.Core.Path.{◌≡◌, refl}
-use Prim.Native.Nat.{◌*◌, ◌-◌, ◌≤◌}
+use mathlib.Core.Path.{refl}
 use native.Mathlib.Omega.{arith}
-use lib.ListN.{length}
 use borrow.Author.Rules.{rules}
-use borrow.Author.Tests.{not-false, not-true}
-use Rattle.arrivals.specs.Inner.Filling.{Filling, Grown, filling-as, filling-of, grown-more, grown-none, reaching, result-done, result-full}
-use Rattle.arrivals.specs.Inner.Network.{case_of}
-use Rattle.arrivals.specs.Inner.Rows.{put-rows, rows_of}
+use Rattle.arrivals.specs.Inner.Filling.{filling-as, filling-of, grown-more, grown-none, reaching, result-done, result-full}
+use Rattle.arrivals.specs.Inner.Rows.{put-rows}
 use Rattle.arrivals.specs.Inner.Selecting.{crowded-next, next_more, next-stop}
 use Rattle.arrivals.proofs.select.fill_place.Goals as goal
 

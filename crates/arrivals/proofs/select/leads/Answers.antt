@@ -5,7 +5,6 @@ use mathlib.Core.Path.{◌∙◌, ◌≡◌, ap₂, subst, sym}
 use Prim.Native.Nat.{◌*◌, ◌+◌, ◌-◌, ℕ}
 use native.Mathlib.Omega.{arith}
 use lib.ListN.{get_or}
-use borrow.Author.Rules.{rules}
 use Rattle.sheet.specs.Laws.Decided.{decided-as, fails}
 use Rattle.costs.specs.Costs.{AtMost, add, times}
 use Rattle.costs.specs.Laws.Figures.{within-times}

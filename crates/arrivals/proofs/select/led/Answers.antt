@@ -1,12 +1,10 @@
 -- `arrivals::select::led` meets its contract: the rows are gone through from the last. The loop's invariant: no row from k on leads.
 -- Assumes nothing.
-use Prim.Native.Nat.{◌-◌, ◌<◌, ◌≤◌, ℕ}
+use Prim.Native.Nat.{◌-◌}
 use native.Mathlib.Omega.{arith}
-use borrow.Author.Rules.{rules}
 use Rattle.sheet.specs.Laws.Decided.{fails, holds, no_of, yes_of}
 use Rattle.arrivals.specs.Inner.Entering.{RowLeadsAt}
 use Rattle.arrivals.specs.Inner.Rows.{Bounded, all-at, any_at, none_below, none-down}
-use Rattle.arrivals.specs.Rows.{row_at}
 use Rattle.arrivals.proofs.select.led.Goals as goal
 
 pub loop-k-init : goal.loop-k-init

@@ -1,14 +1,12 @@
 -- `arrivals::select::next_label` meets its contract: the corridors are tried one after another. The loop's invariant: b is the best over those
 -- below j.
 -- Assumes nothing.
-use mathlib.Core.Bool.{false}
-use mathlib.Core.Path.{◌≡◌, refl}
-use Prim.Native.Nat.{◌-◌, ◌≤◌}
+use mathlib.Core.Path.{refl}
 use native.Mathlib.Omega.{arith}
 use Rattle.arrivals.specs.Inner.Entering.{Enters, LedAt}
-use Rattle.arrivals.specs.Inner.Network.{case_of, count_of, link_at, links-more, links-zero, links_of}
+use Rattle.arrivals.specs.Inner.Network.{case_of, link_at, links-more, links-zero, links_of}
 use Rattle.arrivals.specs.Inner.Rows.{rows_of}
-use Rattle.arrivals.specs.Inner.Selecting.{Improved, Scan, least-of, scan-end, scan-more, scan-none}
+use Rattle.arrivals.specs.Inner.Selecting.{least-of, scan-end, scan-more, scan-none}
 use Rattle.arrivals.proofs.select.next_label.Goals as goal
 
 pub count_of-j-end-requires : goal.count_of-j-end-requires

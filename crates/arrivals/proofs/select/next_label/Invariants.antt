@@ -2,13 +2,12 @@
 -- below j.
 -- Assumes nothing.
 use mathlib.Core.Bool.{false}
-use mathlib.Core.Path.{◌≡◌, refl}
+use mathlib.Core.Path.{◌≡◌}
 use Prim.Native.Nat.{◌-◌, ◌≤◌}
-use native.Mathlib.Omega.{arith}
 use Rattle.arrivals.specs.Inner.Entering.{Enters, LedAt}
-use Rattle.arrivals.specs.Inner.Network.{case_of, count_of, link_at, links-more, links-zero, links_of}
+use Rattle.arrivals.specs.Inner.Network.{case_of, count_of, link_at, links_of}
 use Rattle.arrivals.specs.Inner.Rows.{rows_of}
-use Rattle.arrivals.specs.Inner.Selecting.{Improved, Scan, least-of, scan-end, scan-more, scan-none}
+use Rattle.arrivals.specs.Inner.Selecting.{Improved, Scan}
 use Rattle.arrivals.proofs.select.next_label.Given as goal
 
 abbrev pub invariant-loop-j : goal.invariant-loop-j

@@ -2,12 +2,10 @@
 -- rows below k.
 -- Assumes nothing.
 use Prim.Native.Nat.{◌-◌, ◌≤◌}
-use native.Mathlib.Omega.{arith}
-use borrow.Author.Rules.{rules}
 use Rattle.arrivals.specs.Inner.Entering.{LedAt}
 use Rattle.arrivals.specs.Inner.Pruning.{Tried}
-use Rattle.arrivals.specs.Inner.Rows.{rows_more, rows-zero, rows_of}
-use Rattle.arrivals.specs.Inner.Selecting.{Improved, Scan, scan-end, scan-more, scan-none}
+use Rattle.arrivals.specs.Inner.Rows.{rows_of}
+use Rattle.arrivals.specs.Inner.Selecting.{Improved, Scan}
 use Rattle.arrivals.specs.Rows.{row_at}
 use Rattle.arrivals.proofs.select.scan_rows.Given as goal
 

@@ -4,8 +4,6 @@
 use mathlib.Core.Logic.{⊎_elim}
 use mathlib.Core.Path.{◌∙◌, sym}
 use native.Mathlib.Omega.{arith}
-use borrow.Author.Rules.{rules}
-use borrow.Author.Tests.{not-false, not-true}
 use Rattle.sheet.specs.Laws.Decided.{false-not-true}
 use Rattle.arrivals.specs.Inner.Pruning.{enters-tried, fair-of, tried-enters}
 use Rattle.arrivals.specs.Inner.Selecting.{improved-as, improved-skip}

@@ -5,7 +5,6 @@ use mathlib.Core.List.{List}
 use mathlib.Core.Path.{◌∙◌, subst, sym}
 use Prim.Native.Nat.{ℕ}
 use native.Mathlib.Omega.{arith}
-use borrow.Author.Rules.{rules}
 use Rattle.sheet.specs.Laws.Decided.{no_of, yes_of}
 use Rattle.arrivals.specs.Inner.Entering.{LedAt}
 use Rattle.arrivals.specs.Inner.Rows.{Bounded, all-at, rows_of}

@@ -3,7 +3,6 @@
 use mathlib.Core.Path.{◌∙◌, ap}
 use Prim.Native.Nat.{ℕ}
 use lib.Bits.{bit_or}
-use borrow.Author.Rules.{rules}
 use Rattle.sheet.specs.Lists.{number}
 use Rattle.arrivals.proofs.watch.step_set.Goals as goal
 

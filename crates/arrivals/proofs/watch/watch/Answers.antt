@@ -1,7 +1,6 @@
 -- `arrivals::watch::watch` meets its contract: what each of the three adds is kept by those after it.
 -- Assumes nothing.
 use native.Mathlib.Omega.{arith}
-use borrow.Author.Rules.{rules}
 use Rattle.arrivals.specs.Inner.Due.{watches}
 use Rattle.arrivals.proofs.watch.watch.Goals as goal
 

@@ -1,9 +1,8 @@
 -- `arrivals::watch::watch_closures` meets its contract. The loop's invariant: the places of the first x closures are added.
 -- Assumes nothing.
 use mathlib.Core.Path.{◌≡◌, refl, subst}
-use Prim.Native.Nat.{ℕ, ◌-◌, ◌≤◌}
+use Prim.Native.Nat.{ℕ}
 use native.Mathlib.Omega.{arith}
-use lib.ListN.{length}
 use borrow.Author.Rules.{rules}
 use Rattle.arrivals.specs.Inner.Network.{closures_of}
 use Rattle.arrivals.specs.Inner.Due.{ClosuresWatched, closures-none, closures-more}

@@ -1,12 +1,10 @@
 -- `arrivals::watch::watch_closures` meets its contract. The loop's invariant: the places of the first x closures are added.
 -- Assumes nothing.
-use mathlib.Core.Path.{◌≡◌, refl, subst}
-use Prim.Native.Nat.{ℕ, ◌-◌, ◌≤◌}
-use native.Mathlib.Omega.{arith}
+use mathlib.Core.Path.{◌≡◌}
+use Prim.Native.Nat.{◌-◌, ◌≤◌}
 use lib.ListN.{length}
-use borrow.Author.Rules.{rules}
 use Rattle.arrivals.specs.Inner.Network.{closures_of}
-use Rattle.arrivals.specs.Inner.Due.{ClosuresWatched, closures-none, closures-more}
+use Rattle.arrivals.specs.Inner.Due.{ClosuresWatched}
 use Rattle.arrivals.proofs.watch.watch_closures.Given as goal
 
 abbrev pub invariant-loop-x : goal.invariant-loop-x

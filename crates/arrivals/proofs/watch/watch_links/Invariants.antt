@@ -1,12 +1,10 @@
 -- `arrivals::watch::watch_links` meets its contract. The loop's invariant: the places of the first j corridors are added.
 -- Assumes nothing.
-use mathlib.Core.Path.{◌≡◌, refl, subst}
-use Prim.Native.Nat.{ℕ, ◌-◌, ◌≤◌}
-use native.Mathlib.Omega.{arith}
+use mathlib.Core.Path.{◌≡◌}
+use Prim.Native.Nat.{◌-◌, ◌≤◌}
 use lib.ListN.{length}
-use borrow.Author.Rules.{rules}
 use Rattle.arrivals.specs.Inner.Network.{count_of}
-use Rattle.arrivals.specs.Inner.Due.{LinksWatched, links-none, links-more}
+use Rattle.arrivals.specs.Inner.Due.{LinksWatched}
 use Rattle.arrivals.proofs.watch.watch_links.Given as goal
 
 abbrev pub invariant-loop-j : goal.invariant-loop-j

@@ -6,7 +6,6 @@ use native.Mathlib.Omega.{arith}
 use lib.Bits.{bit_or}
 use lib.ListN.{set}
 use lib.Pow.{shl_exact}
-use borrow.Author.Rules.{rules}
 use Rattle.sheet.specs.Lists.{number}
 use Rattle.intervals.specs.Sets.{with_place}
 use Rattle.intervals.proofs.sets.add.Goals as goal

@@ -4,7 +4,6 @@ use mathlib.Core.Path.{refl, sym, subst}
 use mathlib.Core.List.{List}
 use Prim.Native.Nat.{ℕ}
 use native.Mathlib.Omega.{arith}
-use borrow.Author.Rules.{rules}
 use Rattle.sheet.specs.Store.{sheet_in}
 use Rattle.sheet.specs.Laws.Store.{store-counts}
 use Rattle.intervals.specs.FirstSteps.{ValidGroup}

@@ -1,15 +1,10 @@
 -- `intervals::sets::add_ends` meets its contract. The loop's invariant: the places of the first k lines are added.
 -- The measure is what is left of the lines.
 -- Assumes nothing.
-use mathlib.Core.Path.{◌≡◌, refl, subst}
-use Prim.Native.Nat.{ℕ, ◌-◌, ◌/◌, ◌≤◌}
-use native.Mathlib.Omega.{arith}
+use mathlib.Core.Path.{◌≡◌}
+use Prim.Native.Nat.{◌-◌, ◌≤◌}
 use lib.ListN.{length}
-use borrow.Author.Rules.{rules}
 use Rattle.intervals.specs.Inner.{Followed}
-use Rattle.intervals.specs.Laws.Sets.{added}
-use Rattle.intervals.proofs.Tables.{markable}
-use Rattle.intervals.proofs.Begins.{followed-none, followed-more}
 use Rattle.intervals.proofs.sets.add_ends.Given as goal
 
 abbrev pub invariant-loop-k : goal.invariant-loop-k

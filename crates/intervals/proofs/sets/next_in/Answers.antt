@@ -2,7 +2,6 @@
 -- Assumes nothing.
 use Prim.Native.Nat.{◌/◌, ◌^◌}
 use native.Mathlib.Omega.{arith}
-use borrow.Author.Rules.{rules}
 use lib.Count.{trailing_le}
 use Rattle.intervals.specs.Laws.Sets.{next-in}
 use Rattle.intervals.proofs.sets.next_in.Goals as goal

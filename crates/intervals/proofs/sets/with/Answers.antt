@@ -1,7 +1,6 @@
 -- `intervals::sets::with` meets its contract.
 -- Assumes nothing.
 use mathlib.Core.Path.{ap}
-use borrow.Author.Rules.{rules}
 use lib.Bits.{bit_or}
 use Rattle.intervals.specs.Laws.Sets.{one_place}
 use Rattle.intervals.proofs.sets.with.Goals as goal

@@ -2,10 +2,8 @@
 -- The measure is what is left of the steps.
 -- Assumes nothing.
 use mathlib.Core.Path.{refl}
-use Prim.Native.Nat.{◌-◌, ◌≤◌}
 use native.Mathlib.Omega.{arith}
-use borrow.Author.Rules.{rules}
-use Rattle.costs.specs.Laws.Figures.{Stored, stored-none, stored_more, stored-all}
+use Rattle.costs.specs.Laws.Figures.{stored-none, stored_more, stored-all}
 use Rattle.intervals.specs.Inner.{stay_by}
 use Rattle.intervals.proofs.Staying.{stay-table}
 use Rattle.intervals.proofs.stays.stays.Goals as goal

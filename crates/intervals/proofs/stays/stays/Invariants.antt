@@ -1,13 +1,9 @@
 -- `intervals::stays::stays` meets its contract. The loop's invariant: the first t steps are told.
 -- The measure is what is left of the steps.
 -- Assumes nothing.
-use mathlib.Core.Path.{refl}
 use Prim.Native.Nat.{◌-◌, ◌≤◌}
-use native.Mathlib.Omega.{arith}
-use borrow.Author.Rules.{rules}
-use Rattle.costs.specs.Laws.Figures.{Stored, stored-none, stored_more, stored-all}
+use Rattle.costs.specs.Laws.Figures.{Stored}
 use Rattle.intervals.specs.Inner.{stay_by}
-use Rattle.intervals.proofs.Staying.{stay-table}
 use Rattle.intervals.proofs.stays.stays.Given as goal
 
 abbrev pub invariant-loop-t : goal.invariant-loop-t

@@ -1,7 +1,6 @@
 -- `journeys::calls::front` meets its contract: the refusal of the reader, or the front of the sheet in the array.
 -- Assumes nothing.
 use mathlib.Core.Path.{◌∙◌}
-use borrow.Author.Rules.{rules}
 use Rattle.journeys.proofs.Ends.{front-unread, front_read}
 use Rattle.journeys.proofs.calls.front.Goals as goal
 use Rattle.journeys.proofs.calls.front.Goals.{Start}

@@ -2,7 +2,6 @@
 -- array tells which of those at the goal count.
 -- Assumes nothing.
 use native.Mathlib.Omega.{arith}
-use borrow.Author.Rules.{rules}
 use borrow.Author.Tests.{not-true, not-false}
 use Rattle.sheet.specs.Store.{sheet_in}
 use Rattle.sheet.specs.Laws.Store.{store_length, head-number}

@@ -1,7 +1,6 @@
 -- `journeys::calls::journey` meets its contract: the refusal of the reader, or the journey of the sheet in the array.
 -- Assumes nothing.
 use mathlib.Core.Path.{◌∙◌}
-use borrow.Author.Rules.{rules}
 use Rattle.journeys.proofs.Ends.{journey-unread, journey-read}
 use Rattle.journeys.proofs.calls.journey.Goals as goal
 use Rattle.journeys.proofs.calls.journey.Goals.{Start}

@@ -2,7 +2,6 @@
 -- Assumes nothing.
 use mathlib.Core.Path.{◌∙◌}
 use Rattle.journeys.proofs.Walking.{laid}
-use borrow.Author.Rules.{rules}
 use Rattle.journeys.proofs.calls.lay_path.Goals as goal
 
 pub returns : goal.returns

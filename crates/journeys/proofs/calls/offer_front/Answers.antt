@@ -7,7 +7,6 @@ use Prim.Native.Nat.{ℕ, ◌-◌}
 use native.Mathlib.Omega.{arith}
 use native.Mathlib.Nat.{div-add-mod'}
 use lib.ListN.{length, take, replicate}
-use borrow.Author.Rules.{rules}
 use Rattle.sheet.specs.Lists.{filled}
 use Rattle.journeys.specs.Calls.{front_end}
 use Rattle.journeys.specs.Inner.{goal_rows, offered_rows}

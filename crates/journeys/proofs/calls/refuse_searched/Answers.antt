@@ -1,7 +1,6 @@
 -- `journeys::calls::refuse_searched` meets its contract: the answer is that of the refusal, and the table is cleared from its start.
 -- Assumes nothing.
 use mathlib.Core.Path.{refl, ◌∙◌}
-use borrow.Author.Rules.{rules}
 use Rattle.journeys.proofs.Ends.{cleared-all}
 use Rattle.journeys.proofs.calls.refuse_searched.Goals as goal
 

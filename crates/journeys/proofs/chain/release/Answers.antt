@@ -3,9 +3,7 @@
 -- Assumes nothing.
 use Rattle.journeys.proofs.Chains.{after-room, gone-none, gone-next}
 use Rattle.journeys.specs.declared.chain.Gap.{Gap}
-use Rattle.journeys.specs.Inner.Chain.{Releasable, Gone}
 use Rattle.costs.specs.Costs.{Cost, fig}
-use borrow.Author.Rules.{rules}
 use native.Mathlib.Omega.{arith}
 use Prim.Native.Nat.{◌<◌, ◌≤◌}
 use mathlib.Core.Path.{sym, subst}

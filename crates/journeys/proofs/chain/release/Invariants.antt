@@ -1,14 +1,7 @@
 -- `journeys::chain::release` meets its contract. The loop's invariant: the rows taken out have gone, and those after the gap are rows of the table.
 -- The measure is the count of rows after the gap.
 -- Assumes nothing.
-use Rattle.journeys.proofs.Chains.{after-room, gone-none, gone-next}
-use Rattle.journeys.specs.declared.chain.Gap.{Gap}
 use Rattle.journeys.specs.Inner.Chain.{Releasable, Gone}
-use Rattle.costs.specs.Costs.{Cost, fig}
-use borrow.Author.Rules.{rules}
-use native.Mathlib.Omega.{arith}
-use Prim.Native.Nat.{◌<◌, ◌≤◌}
-use mathlib.Core.Path.{sym, subst}
 use Rattle.journeys.proofs.chain.release.Given as goal
 
 abbrev pub invariant-loop-at : goal.invariant-loop-at

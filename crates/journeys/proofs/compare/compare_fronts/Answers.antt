@@ -1,6 +1,5 @@
 -- `journeys::compare::compare_fronts` meets its contract: both calls end as they promise, and what is compared are the lists as they returned them.
 -- Assumes nothing.
-use borrow.Author.Rules.{rules}
 use Rattle.journeys.specs.Calls.{front_end}
 use Rattle.journeys.proofs.Sameness.{served-room, compared}
 use Rattle.journeys.proofs.compare.compare_fronts.Goals as goal

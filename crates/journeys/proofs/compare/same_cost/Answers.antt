@@ -1,11 +1,9 @@
 -- `journeys::compare::same_cost` meets its contract. The loop's invariant: the first j figures are equal. The measure is what is left of three.
 -- Assumes nothing.
-use Prim.Native.Nat.{◌≤◌, ◌-◌}
 use native.Mathlib.Omega.{arith}
 use borrow.Author.Count.{below_more}
 use borrow.Author.Rules.{rules}
 use Rattle.sheet.specs.Laws.Decided.{holds, fails}
-use Rattle.journeys.specs.Inner.{SameFigures}
 use Rattle.journeys.proofs.compare.same_cost.Goals as goal
 
 pub loop-j-init : goal.loop-j-init

@@ -1,10 +1,6 @@
 -- `journeys::compare::same_cost` meets its contract. The loop's invariant: the first j figures are equal. The measure is what is left of three.
 -- Assumes nothing.
 use Prim.Native.Nat.{◌≤◌, ◌-◌}
-use native.Mathlib.Omega.{arith}
-use borrow.Author.Count.{below_more}
-use borrow.Author.Rules.{rules}
-use Rattle.sheet.specs.Laws.Decided.{holds, fails}
 use Rattle.journeys.specs.Inner.{SameFigures}
 use Rattle.journeys.proofs.compare.same_cost.Given as goal
 

@@ -1,11 +1,6 @@
 -- `journeys::compare::same_costs` meets its contract. The loop's invariant: the first k costs are equal. The measure is what is left of n.
 -- Assumes nothing.
 use Prim.Native.Nat.{◌≤◌, ◌-◌}
-use native.Mathlib.Omega.{arith}
-use borrow.Author.Count.{below_more}
-use borrow.Author.Rules.{rules}
-use borrow.Author.Tests.{not-true, not-false}
-use Rattle.sheet.specs.Laws.Decided.{holds, fails, yes_of, no_of}
 use Rattle.journeys.specs.Inner.{SameRows}
 use Rattle.journeys.proofs.compare.same_costs.Given as goal
 

@@ -4,7 +4,6 @@ use mathlib.Core.Path.{sym, ap}
 use Prim.Native.Nat.{ℕ}
 use lib.Dec.{eqb}
 use lib.ListN.{get_or-eq_default}
-use borrow.Author.Rules.{rules}
 use Rattle.journeys.proofs.counting.counts_at.Goals as goal
 
 pub returns-then-counting-t : goal.returns-then-counting-t

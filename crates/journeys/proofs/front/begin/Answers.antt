@@ -1,7 +1,6 @@
 -- `journeys::front::begin` meets its contract: all rows of the chain are ahead, and the stair is empty.
 -- Assumes nothing.
 use Rattle.journeys.proofs.FrontRows.{sweep-begins}
-use borrow.Author.Rules.{rules}
 use Rattle.journeys.proofs.front.begin.Goals as goal
 
 pub returns : goal.returns

@@ -1,12 +1,10 @@
 -- `journeys::front::climb` meets its contract. The loop's invariant: no row before the gap is nowhere above row k, and each has a lower third figure.
 -- The measure is the count of rows after the gap.
 -- Assumes nothing.
-use Rattle.journeys.proofs.Climbing.{Climbing, climbing-start, tested, climb-room, climb-led, climb-next, climb-stop, climb-end}
+use Rattle.journeys.proofs.Climbing.{climbing-start, tested, climb-room, climb-led, climb-next, climb-stop, climb-end}
 use Rattle.journeys.specs.declared.chain.Gap.{Gap}
-use Rattle.journeys.specs.Inner.Chain.{chain}
 use Rattle.arrivals.specs.Rows.{cost_at}
 use Rattle.costs.specs.Costs.{Cost, fig}
-use borrow.Author.Rules.{rules}
 use native.Mathlib.Omega.{arith}
 use Prim.Native.Nat.{◌≤◌, ◌<◌}
 use mathlib.Core.Path.{sym, subst}

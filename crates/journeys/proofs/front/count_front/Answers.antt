@@ -5,7 +5,6 @@ use mathlib.Core.List.{[], ◌∷◌}
 use Rattle.journeys.proofs.Comparing.{slow-count}
 use Rattle.journeys.proofs.FrontRows.{counted-front}
 use native.Mathlib.Omega.{arith}
-use borrow.Author.Rules.{rules}
 use Rattle.journeys.proofs.front.count_front.Goals as goal
 
 pub returns-then-n-gt4294967295 : goal.returns-then-n-gt4294967295

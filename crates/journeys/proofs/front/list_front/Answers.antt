@@ -4,7 +4,6 @@
 use native.Mathlib.Omega.{arith}
 use mathlib.Core.Path.{refl, ◌∙◌}
 use Rattle.journeys.proofs.Listing.{listable-front, listed-through, listed-front}
-use borrow.Author.Rules.{rules}
 use Rattle.journeys.proofs.front.list_front.Goals as goal
 
 pub list_slow-requires : goal.list_slow-requires

@@ -2,7 +2,6 @@
 -- Assumes nothing.
 use Rattle.journeys.proofs.Listing.{list_same, list-room, list-fits, list_put}
 use native.Mathlib.Omega.{arith}
-use borrow.Author.Rules.{rules}
 use Rattle.journeys.proofs.front.list_row.Goals as goal
 
 pub pass_row-r-requires : goal.pass_row-r-requires

@@ -2,10 +2,8 @@
 -- The measure is the count of rows ahead.
 -- Assumes nothing.
 use Rattle.journeys.proofs.Listing.{listable-next}
-use Rattle.journeys.specs.Inner.Sweep.{Listable, ListedOn}
-use lib.ListN.{length}
 use native.Mathlib.Omega.{arith}
-use mathlib.Core.Path.{◌≡◌, refl, ◌∙◌}
+use mathlib.Core.Path.{refl, ◌∙◌}
 use Rattle.journeys.proofs.front.list_rows.Goals as goal
 
 pub loop-s-init : goal.loop-s-init

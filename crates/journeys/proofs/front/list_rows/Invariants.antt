@@ -1,11 +1,9 @@
 -- `journeys::front::list_rows` meets its contract. The loop's invariant: the rows taken so far are listed.
 -- The measure is the count of rows ahead.
 -- Assumes nothing.
-use Rattle.journeys.proofs.Listing.{listable-next}
 use Rattle.journeys.specs.Inner.Sweep.{Listable, ListedOn}
 use lib.ListN.{length}
-use native.Mathlib.Omega.{arith}
-use mathlib.Core.Path.{◌≡◌, refl, ◌∙◌}
+use mathlib.Core.Path.{◌≡◌}
 use Rattle.journeys.proofs.front.list_rows.Given as goal
 
 abbrev pub invariant-loop-s : goal.invariant-loop-s

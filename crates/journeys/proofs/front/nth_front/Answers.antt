@@ -10,7 +10,6 @@ use mathlib.Core.List.{List}
 use Rattle.journeys.proofs.FrontRows.{number-off, number-room, number-on}
 use native.Mathlib.Omega.{arith}
 use mathlib.Core.Path.{refl, ◌∙◌, ap}
-use borrow.Author.Rules.{rules}
 use Rattle.journeys.proofs.front.nth_front.Goals as goal
 
 pub returns-then-n-gt4294967295 : goal.returns-then-n-gt4294967295

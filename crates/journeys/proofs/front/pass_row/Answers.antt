@@ -6,7 +6,6 @@ use Rattle.costs.specs.Costs.{Cost, fig}
 use native.Mathlib.Omega.{arith}
 use mathlib.Core.Logic.{inl, inr}
 use mathlib.Core.Path.{refl, subst}
-use borrow.Author.Rules.{rules}
 use Rattle.journeys.proofs.front.pass_row.Goals as goal
 
 pub bounds-table-k : goal.bounds-table-k

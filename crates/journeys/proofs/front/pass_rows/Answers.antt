@@ -2,12 +2,9 @@
 -- The measure is the count of rows ahead.
 -- Assumes nothing.
 use Rattle.journeys.proofs.Passing.{sweepable-next}
-use Rattle.journeys.specs.Inner.Sweep.{Sweepable, SweptOn}
-use lib.ListN.{length}
 use native.Mathlib.Omega.{arith}
-use Prim.Native.Nat.{◌≤◌}
 use mathlib.Core.Logic.{inl, inr, ⊎_elim}
-use mathlib.Core.Path.{◌≡◌, refl, ◌∙◌}
+use mathlib.Core.Path.{refl, ◌∙◌}
 use Rattle.journeys.proofs.front.pass_rows.Goals as goal
 
 pub loop-s-init : goal.loop-s-init

@@ -1,13 +1,10 @@
 -- `journeys::front::pass_rows` meets its contract. The loop's invariant: the table is being swept, and no more rows than asked for are taken.
 -- The measure is the count of rows ahead.
 -- Assumes nothing.
-use Rattle.journeys.proofs.Passing.{sweepable-next}
 use Rattle.journeys.specs.Inner.Sweep.{Sweepable, SweptOn}
 use lib.ListN.{length}
-use native.Mathlib.Omega.{arith}
 use Prim.Native.Nat.{◌≤◌}
-use mathlib.Core.Logic.{inl, inr, ⊎_elim}
-use mathlib.Core.Path.{◌≡◌, refl, ◌∙◌}
+use mathlib.Core.Path.{◌≡◌}
 use Rattle.journeys.proofs.front.pass_rows.Given as goal
 
 abbrev pub invariant-loop-s : goal.invariant-loop-s

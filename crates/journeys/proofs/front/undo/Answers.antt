@@ -4,7 +4,6 @@ use Rattle.journeys.proofs.FrontRows.{undo-ahead, undo-stair, undone}
 use Rattle.journeys.specs.declared.chain.Gap.{Gap}
 use Rattle.journeys.specs.Inner.Chain.{Released}
 use mathlib.Core.Path.{subst}
-use borrow.Author.Rules.{rules}
 use Rattle.journeys.proofs.front.undo.Goals as goal
 
 pub release-requires : goal.release-requires

@@ -1,6 +1,5 @@
 -- `journeys::goal::is_goal_row` meets its contract: the tests are those of `is_goal_row`.
 -- Assumes nothing.
-use borrow.Author.Rules.{rules}
 use borrow.Author.Tests.{eq-eqb, ne_eqb}
 use Rattle.journeys.proofs.goal.is_goal_row.Goals as goal
 

@@ -1,11 +1,7 @@
 -- `journeys::goal::next_goal` meets its contract. The loop's invariant: none of the rows passed is the goal's. The measure is what is left of the rows.
 -- Assumes nothing.
-use Rattle.journeys.proofs.Ordering.{no-goal-more}
 use Rattle.journeys.specs.Inner.Chain.{NoGoal}
-use borrow.Author.Rules.{rules}
-use native.Mathlib.Omega.{arith}
 use Prim.Native.Nat.{◌-◌, ◌≤◌}
-use mathlib.Core.Path.{sym, ◌∙◌}
 use Rattle.journeys.proofs.goal.next_goal.Given as goal
 
 abbrev pub invariant-loop-k : goal.invariant-loop-k

@@ -1,7 +1,6 @@
 -- `journeys::goal::order_row` meets its contract: the row is left out, or it is put in.
 -- Assumes nothing.
 use Rattle.journeys.proofs.Ordering.{seekable-ordering, linkable-ordering, ordering-led, ordering-put}
-use borrow.Author.Rules.{rules}
 use Rattle.journeys.proofs.goal.order_row.Goals as goal
 
 pub seek-s-requires : goal.seek-s-requires

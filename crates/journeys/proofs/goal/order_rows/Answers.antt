@@ -2,14 +2,9 @@
 -- The measure is what is left of the rows.
 -- Assumes nothing.
 use Rattle.journeys.proofs.Ordering.{ordering-none, ordering-next, ordering-all}
-use Rattle.journeys.specs.Inner.{is_goal_row}
 use Rattle.journeys.specs.Inner.Chain.{Ordering}
-use Rattle.arrivals.specs.Rows.{row_at}
-use borrow.Author.Rules.{rules}
-use lib.ListN.{length}
 use native.Mathlib.Omega.{arith}
-use Prim.Native.Nat.{ℕ, ◌-◌, ◌≤◌, ◌<◌}
-use mathlib.Core.Bool.{true}
+use Prim.Native.Nat.{ℕ}
 use mathlib.Core.Logic.{⊎_elim}
 use mathlib.Core.Path.{◌≡◌, refl, ◌∙◌, subst}
 use Rattle.sheet.specs.Laws.Decided.{lt-or-le}

@@ -1,18 +1,13 @@
 -- `journeys::goal::order_rows` meets its contract. The loop's invariant: the goal's rows before row k are ordered, and row k, if there is one, is the goal's.
 -- The measure is what is left of the rows.
 -- Assumes nothing.
-use Rattle.journeys.proofs.Ordering.{ordering-none, ordering-next, ordering-all}
 use Rattle.journeys.specs.Inner.{is_goal_row}
 use Rattle.journeys.specs.Inner.Chain.{Ordering}
 use Rattle.arrivals.specs.Rows.{row_at}
-use borrow.Author.Rules.{rules}
 use lib.ListN.{length}
-use native.Mathlib.Omega.{arith}
-use Prim.Native.Nat.{ℕ, ◌-◌, ◌≤◌, ◌<◌}
+use Prim.Native.Nat.{◌-◌, ◌≤◌, ◌<◌}
 use mathlib.Core.Bool.{true}
-use mathlib.Core.Logic.{⊎_elim}
-use mathlib.Core.Path.{◌≡◌, refl, ◌∙◌, subst}
-use Rattle.sheet.specs.Laws.Decided.{lt-or-le}
+use mathlib.Core.Path.{◌≡◌}
 use Rattle.journeys.proofs.goal.order_rows.Given as goal
 
 abbrev pub invariant-loop-k : goal.invariant-loop-k

@@ -4,8 +4,6 @@
 use Rattle.journeys.proofs.Climbing.{tested}
 use Rattle.journeys.proofs.Ordering.{compared, right-room, seekable-next, seekable-from, sought-next, sought-then, sought-led, sought-above}
 use Rattle.journeys.specs.declared.chain.Gap.{Gap}
-use Rattle.journeys.specs.Inner.Chain.{Seekable, SoughtFrom}
-use borrow.Author.Rules.{rules}
 use native.Mathlib.Omega.{arith}
 use Prim.Native.Nat.{◌<◌}
 use mathlib.Core.Path.{refl, sym, subst}

@@ -1,14 +1,7 @@
 -- `journeys::goal::seek` meets its contract. The loop's invariant: the gap is one of the same chain, and g is not before the row before it.
 -- The measure is the count of rows after the gap.
 -- Assumes nothing.
-use Rattle.journeys.proofs.Climbing.{tested}
-use Rattle.journeys.proofs.Ordering.{compared, right-room, seekable-next, seekable-from, sought-next, sought-then, sought-led, sought-above}
-use Rattle.journeys.specs.declared.chain.Gap.{Gap}
 use Rattle.journeys.specs.Inner.Chain.{Seekable, SoughtFrom}
-use borrow.Author.Rules.{rules}
-use native.Mathlib.Omega.{arith}
-use Prim.Native.Nat.{◌<◌}
-use mathlib.Core.Path.{refl, sym, subst}
 use Rattle.journeys.proofs.goal.seek.Given as goal
 
 abbrev pub invariant-loop-gap : goal.invariant-loop-gap

@@ -1,7 +1,6 @@
 -- `journeys::goal::seek_from` meets its contract.
 -- Assumes nothing.
 use Rattle.journeys.proofs.Ordering.{compared, left-room, sought-here, sought-start, sought-on}
-use borrow.Author.Rules.{rules}
 use Rattle.journeys.proofs.goal.seek_from.Goals as goal
 
 pub returns-then-gap : goal.returns-then-gap

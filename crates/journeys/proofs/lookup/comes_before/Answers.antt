@@ -3,7 +3,6 @@
 use mathlib.Core.Path.{◌∙◌}
 use Rattle.journeys.specs.Inner.Lookup.{standing}
 use Rattle.journeys.proofs.Finding.{by-step, by_place, by-cost}
-use borrow.Author.Rules.{rules}
 use Rattle.journeys.proofs.lookup.comes_before.Goals as goal
 
 pub returns-then-a-b : goal.returns-then-a-b

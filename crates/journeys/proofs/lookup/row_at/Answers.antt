@@ -2,7 +2,6 @@
 -- Assumes nothing.
 use mathlib.Core.Path.{refl}
 use Rattle.arrivals.specs.Laws.Leading.{arrival-path}
-use borrow.Author.Rules.{rules}
 use Rattle.journeys.proofs.lookup.row_at.Goals as goal
 
 pub returns : goal.returns

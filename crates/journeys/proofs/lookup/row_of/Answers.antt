@@ -1,7 +1,6 @@
 -- `journeys::lookup::row_of` meets its contract: the first row that does not come before a is a, unless a comes before it.
 -- Assumes nothing.
 use Rattle.journeys.proofs.Finding.{row_here, row-none, row-past}
-use borrow.Author.Rules.{rules}
 use Rattle.journeys.proofs.lookup.row_of.Goals as goal
 use Rattle.journeys.proofs.lookup.row_of.Goals.{Start}
 

@@ -3,14 +3,11 @@
 -- Assumes nothing.
 use mathlib.Core.Path.{◌≡◌, ◌∙◌, ap}
 use mathlib.Core.Bool.{Bool}
-use Prim.Native.Nat.{◌-◌}
 use native.Mathlib.Omega.{arith}
-use borrow.Author.Rules.{rules}
 use Rattle.sheet.specs.Computed.{lexb}
-use Rattle.sheet.specs.Seek.{Parted}
 use Rattle.sheet.specs.Laws.Seek.{parted-none, parted-all, parted-low, parted-high}
 use Rattle.arrivals.specs.Arrivals.{Arrival, key_of}
-use Rattle.journeys.specs.Inner.Lookup.{standing, stand_at}
+use Rattle.journeys.specs.Inner.Lookup.{standing}
 use Rattle.journeys.proofs.lookup.rows_before.Goals as goal
 use Rattle.journeys.proofs.lookup.rows_before.Goals.{At-loop-low}
 

@@ -1,15 +1,9 @@
 -- `journeys::lookup::rows_before` meets its contract. The loop's invariant: the rows below `low` come before a, and those from `high` on do not. The
 -- measure is what lies between.
 -- Assumes nothing.
-use mathlib.Core.Path.{◌≡◌, ◌∙◌, ap}
-use mathlib.Core.Bool.{Bool}
 use Prim.Native.Nat.{◌-◌}
-use native.Mathlib.Omega.{arith}
-use borrow.Author.Rules.{rules}
-use Rattle.sheet.specs.Computed.{lexb}
 use Rattle.sheet.specs.Seek.{Parted}
-use Rattle.sheet.specs.Laws.Seek.{parted-none, parted-all, parted-low, parted-high}
-use Rattle.arrivals.specs.Arrivals.{Arrival, key_of}
+use Rattle.arrivals.specs.Arrivals.{key_of}
 use Rattle.journeys.specs.Inner.Lookup.{standing, stand_at}
 use Rattle.journeys.proofs.lookup.rows_before.Given as goal
 

@@ -1,11 +1,8 @@
 -- `journeys::marks::clear_marks` meets its contract. The loop's invariant: the rows below number k have no mark any more, and all else is kept. The measure
 -- is what is left of the rows.
 -- Assumes nothing.
-use Prim.Native.Nat.{◌-◌, ◌≤◌}
 use native.Mathlib.Omega.{arith}
-use Rattle.journeys.specs.Inner.Marks.{Bared}
 use Rattle.journeys.proofs.Marking.{bared-none, bared-more, bared-all}
-use borrow.Author.Rules.{rules}
 use Rattle.journeys.proofs.marks.clear_marks.Goals as goal
 
 pub loop-k-init : goal.loop-k-init

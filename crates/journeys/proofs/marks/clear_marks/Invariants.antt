@@ -2,10 +2,7 @@
 -- is what is left of the rows.
 -- Assumes nothing.
 use Prim.Native.Nat.{◌-◌, ◌≤◌}
-use native.Mathlib.Omega.{arith}
 use Rattle.journeys.specs.Inner.Marks.{Bared}
-use Rattle.journeys.proofs.Marking.{bared-none, bared-more, bared-all}
-use borrow.Author.Rules.{rules}
 use Rattle.journeys.proofs.marks.clear_marks.Given as goal
 
 abbrev pub invariant-loop-k : goal.invariant-loop-k

@@ -2,13 +2,11 @@
 -- wait is above the other.
 -- Assumes nothing.
 use native.Mathlib.Omega.{arith}
-use borrow.Author.Tests.{not-false}
 use Rattle.sheet.specs.Laws.Decided.{false-not-true}
 use Rattle.intervals.specs.FirstSteps.{some-derived}
 use Rattle.journeys.proofs.Waiting.{wait-is}
 use Rattle.journeys.proofs.Crossings.{later-crosses}
 use mathlib.Core.Path.{refl}
-use borrow.Author.Rules.{rules}
 use Rattle.journeys.proofs.marks.crosses_later.Goals as goal
 
 pub returns-then-not-settled : goal.returns-then-not-settled

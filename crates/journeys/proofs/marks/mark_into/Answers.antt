@@ -1,19 +1,13 @@
 -- `journeys::marks::mark_into` meets its contract. The loop's invariant: the rows from which a cart can cross by a corridor below number l are marked.
 -- The measure is what is left of the corridors.
 -- Assumes nothing.
-use mathlib.Core.Path.{◌≡◌, refl}
-use Prim.Native.Nat.{◌-◌, ◌≤◌}
+use mathlib.Core.Path.{refl}
 use native.Mathlib.Omega.{arith}
-use Rattle.sheet.specs.Lists.{number}
 use Rattle.sheet.specs.Kinds.{kind_c}
-use Rattle.sheet.specs.Store.{sheet_in}
 use Rattle.sheet.specs.Laws.Store.{store-counts, store-few}
 use Rattle.intervals.specs.FirstSteps.{some-derived}
-use Rattle.journeys.specs.Inner.Lookup.{standing}
-use Rattle.journeys.specs.Inner.Marks.{Raised}
-use Rattle.journeys.proofs.Marking.{Below, raised-start}
-use Rattle.journeys.proofs.Crossings.{ByCorridor, cross-more, cross-all, enterable-kept}
-use borrow.Author.Rules.{rules}
+use Rattle.journeys.proofs.Marking.{raised-start}
+use Rattle.journeys.proofs.Crossings.{cross-more, cross-all, enterable-kept}
 use Rattle.journeys.proofs.marks.mark_into.Goals as goal
 
 pub bounds-lines-2 : goal.bounds-lines-2

@@ -4,13 +4,11 @@
 use mathlib.Core.Path.{sym, ◌∙◌, subst}
 use Prim.Native.Nat.{ℕ, ◌<◌}
 use native.Mathlib.Omega.{arith}
-use borrow.Author.Tests.{not-true, not-false}
 use Rattle.costs.specs.Laws.Moves.{corridor-crosses}
 use Rattle.intervals.specs.FirstSteps.{some-derived}
 use Rattle.journeys.specs.Inner.Lookup.{standing}
 use Rattle.journeys.proofs.Marking.{raised-none}
 use Rattle.journeys.proofs.Crossings.{from_low, to_low, cross-other, cross-off, cross-on, cross-one, cross-none, cross-settled}
-use borrow.Author.Rules.{rules}
 use Rattle.journeys.proofs.marks.mark_over.Goals as goal
 
 pub end_of-to-requires : goal.end_of-to-requires

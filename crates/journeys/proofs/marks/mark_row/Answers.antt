@@ -3,13 +3,12 @@
 -- Assumes nothing.
 use native.Mathlib.Omega.{arith}
 use mathlib.Core.Path.{◌∙◌, ap}
-use borrow.Author.Tests.{not-true, not-false, leb-true, ltb-true}
+use borrow.Author.Tests.{leb-true, ltb-true}
 use Rattle.sheet.specs.Laws.Order.{and-true}
 use Rattle.costs.specs.Costs.{Cost, add}
 use Rattle.intervals.specs.FirstSteps.{some-derived}
 use Rattle.journeys.proofs.Waiting.{wait-within, wait-is}
 use Rattle.journeys.proofs.Crossings.{row_low, row-off, row_on, row-enters, row-counted, waits-counted}
-use borrow.Author.Rules.{rules}
 use Rattle.journeys.proofs.marks.mark_row.Goals as goal
 
 pub returns-then-not-e-t : goal.returns-then-not-e-t

@@ -2,14 +2,10 @@
 -- marked. The measure is what is left of the rows.
 -- Assumes nothing.
 use mathlib.Core.Path.{ap}
-use Prim.Native.Nat.{◌-◌, ◌≤◌}
 use native.Mathlib.Omega.{arith}
-use Rattle.sheet.specs.Store.{sheet_in}
 use Rattle.arrivals.specs.Arrivals.{Arrival}
-use Rattle.journeys.specs.Inner.Marks.{Raised, Onto}
-use Rattle.journeys.proofs.Marking.{same-stand, Below, raised-start}
+use Rattle.journeys.proofs.Marking.{same-stand, raised-start}
 use Rattle.journeys.proofs.Crossings.{no-sooner, onto-more, onto-all, passable-kept}
-use borrow.Author.Rules.{rules}
 use Rattle.journeys.proofs.marks.mark_step.Goals as goal
 
 pub loop-k-init : goal.loop-k-init

@@ -1,15 +1,10 @@
 -- `journeys::marks::mark_step` meets its contract. The loop's invariant: the rows from which a cart can cross to where a row below number k stands are
 -- marked. The measure is what is left of the rows.
 -- Assumes nothing.
-use mathlib.Core.Path.{ap}
 use Prim.Native.Nat.{◌-◌, ◌≤◌}
-use native.Mathlib.Omega.{arith}
 use Rattle.sheet.specs.Store.{sheet_in}
-use Rattle.arrivals.specs.Arrivals.{Arrival}
 use Rattle.journeys.specs.Inner.Marks.{Raised, Onto}
-use Rattle.journeys.proofs.Marking.{same-stand, Below, raised-start}
-use Rattle.journeys.proofs.Crossings.{no-sooner, onto-more, onto-all, passable-kept}
-use borrow.Author.Rules.{rules}
+use Rattle.journeys.proofs.Marking.{Below}
 use Rattle.journeys.proofs.marks.mark_step.Given as goal
 
 abbrev pub invariant-loop-k : goal.invariant-loop-k

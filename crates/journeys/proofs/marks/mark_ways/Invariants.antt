@@ -1,17 +1,11 @@
 -- `journeys::marks::mark_ways` meets its contract. The loop's invariant: the table is as it was but for the marks, and the marks of a front cost that were
 -- right at the arrival are right from step t on. The measure is t.
 -- Assumes nothing.
-use mathlib.Core.Path.{◌≡◌, ◌∙◌, subst}
 use Prim.Native.Nat.{◌+◌, ◌≤◌}
-use native.Mathlib.Omega.{arith}
 use Rattle.sheet.specs.Store.{sheet_in}
-use Rattle.sheet.specs.Laws.Store.{store_length, head-number}
 use Rattle.costs.specs.Costs.{Cost}
 use Rattle.journeys.specs.Front.{OnFront}
 use Rattle.journeys.specs.Inner.Marks.{SameButMarks, Passed, Marks}
-use Rattle.journeys.proofs.Marking.{same_refl, same-trans, same-rowed}
-use Rattle.journeys.proofs.Crossings.{step-passed, passed-as}
-use Rattle.journeys.proofs.Tightness.{marks-step, end-rows, end-rowed, end-day, end-within, end-passed, end-marks}
 use Rattle.journeys.proofs.marks.mark_ways.Given as goal
 
 abbrev pub invariant-loop-t : goal.invariant-loop-t

@@ -1,7 +1,6 @@
 -- `journeys::marks::raise` meets its contract: the mark is written where it is the greater, beside the place, which stays.
 -- Assumes nothing.
 use Rattle.journeys.proofs.Marking.{raised-one, raised-not}
-use borrow.Author.Rules.{rules}
 use Rattle.journeys.proofs.marks.raise.Goals as goal
 
 pub returns-then-x-m : goal.returns-then-x-m

@@ -1,11 +1,8 @@
 -- `journeys::slow::count_rows` meets its contract. The loop's invariant: the count is that of the first k rows. The measure is what is left of the rows.
 -- Assumes nothing.
 use mathlib.Core.Path.{◌≡◌, refl, sym, ◌∙◌, ap, ap₂}
-use mathlib.Core.Logic.{⊎_elim}
 use mathlib.Core.Bool.{Bool, ◌&&◌, ◌||◌}
-use Prim.Native.Nat.{◌-◌, ◌≤◌}
 use native.Mathlib.Omega.{arith}
-use borrow.Author.Rules.{rules}
 use Rattle.sheet.specs.Computed.{lexb}
 use Rattle.costs.specs.Costs.{Cost}
 use Rattle.journeys.specs.Inner.Slow.{in_count, count_to}
@@ -34,8 +31,8 @@ loop-k-preserved c =
       omega arith,
       elim c.if-is_front_row-every.branch [ then-is_front_row-every w ↦ omega (arith, w.count-is) | else-is_front_row-every w ↦ omega (arith, w.count-is) ],
       elim c.if-is_front_row-every.branch [
-        then-is_front_row-every w ↦ count_yes p l.k l.count c.if-is_front_row-every.count l.invariant.2 (sym e ∙ w.if-is_front_row-every.true) w.count-is
-      | else-is_front_row-every w ↦ count_no p l.k l.count c.if-is_front_row-every.count l.invariant.2 (sym e ∙ w.if-is_front_row-every.false) w.count-is
+        | then-is_front_row-every w ↦ count_yes p l.k l.count c.if-is_front_row-every.count l.invariant.2 (sym e ∙ w.if-is_front_row-every.true) w.count-is
+        | else-is_front_row-every w ↦ count_no p l.k l.count c.if-is_front_row-every.count l.invariant.2 (sym e ∙ w.if-is_front_row-every.false) w.count-is
       ],
     )
 

@@ -1,15 +1,8 @@
 -- `journeys::slow::count_rows` meets its contract. The loop's invariant: the count is that of the first k rows. The measure is what is left of the rows.
 -- Assumes nothing.
-use mathlib.Core.Path.{◌≡◌, refl, sym, ◌∙◌, ap, ap₂}
-use mathlib.Core.Logic.{⊎_elim}
-use mathlib.Core.Bool.{Bool, ◌&&◌, ◌||◌}
+use mathlib.Core.Path.{◌≡◌}
 use Prim.Native.Nat.{◌-◌, ◌≤◌}
-use native.Mathlib.Omega.{arith}
-use borrow.Author.Rules.{rules}
-use Rattle.sheet.specs.Computed.{lexb}
-use Rattle.costs.specs.Costs.{Cost}
-use Rattle.journeys.specs.Inner.Slow.{in_count, count_to}
-use Rattle.journeys.proofs.Comparing.{count_yes, count_no}
+use Rattle.journeys.specs.Inner.Slow.{count_to}
 use Rattle.journeys.proofs.slow.count_rows.Given as goal
 
 abbrev pub invariant-loop-k : goal.invariant-loop-k

@@ -3,9 +3,7 @@
 -- Assumes nothing.
 use mathlib.Core.Path.{◌≡◌, refl, sym, ◌∙◌, ap}
 use mathlib.Core.Bool.{true}
-use Prim.Native.Nat.{◌-◌, ◌≤◌}
 use native.Mathlib.Omega.{arith}
-use borrow.Author.Rules.{rules}
 use Rattle.journeys.specs.Inner.Slow.{none_below, kept_off, is_front_row}
 use Rattle.journeys.proofs.Comparing.{none_more, not_none}
 use Rattle.journeys.proofs.slow.is_front_row.Goals as goal

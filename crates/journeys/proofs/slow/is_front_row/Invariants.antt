@@ -1,13 +1,10 @@
 -- `journeys::slow::is_front_row` meets its contract. The loop's invariant: none of the first j rows keeps row k off.
 -- The measure is what is left of the rows.
 -- Assumes nothing.
-use mathlib.Core.Path.{◌≡◌, refl, sym, ◌∙◌, ap}
+use mathlib.Core.Path.{◌≡◌}
 use mathlib.Core.Bool.{true}
 use Prim.Native.Nat.{◌-◌, ◌≤◌}
-use native.Mathlib.Omega.{arith}
-use borrow.Author.Rules.{rules}
-use Rattle.journeys.specs.Inner.Slow.{none_below, kept_off, is_front_row}
-use Rattle.journeys.proofs.Comparing.{none_more, not_none}
+use Rattle.journeys.specs.Inner.Slow.{none_below, kept_off}
 use Rattle.journeys.proofs.slow.is_front_row.Given as goal
 
 abbrev pub invariant-loop-j : goal.invariant-loop-j

@@ -3,7 +3,6 @@
 use mathlib.Core.Path.{◌∙◌, ap, ap₂}
 use mathlib.Core.Bool.{Bool, ◌&&◌, ◌||◌}
 use lib.Dec.{ltb}
-use borrow.Author.Rules.{rules}
 use Rattle.sheet.specs.Computed.{lexb}
 use Rattle.costs.specs.Computed.{at_most_b}
 use Rattle.journeys.specs.Inner.Slow.{kept_off}

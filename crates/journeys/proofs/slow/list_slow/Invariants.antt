@@ -1,15 +1,10 @@
 -- `journeys::slow::list_slow` meets its contract. The loop's invariant: the first i costs are listed. The measure is what is left of them.
 -- Assumes nothing.
-use mathlib.Core.Path.{◌≡◌, refl, sym, ◌∙◌, subst}
-use mathlib.Core.List.{[], ◌∷◌}
-use Prim.Native.Nat.{ℕ, ◌-◌, ◌≤◌}
-use native.Mathlib.Omega.{arith}
+use mathlib.Core.Path.{◌≡◌}
+use Prim.Native.Nat.{◌-◌, ◌≤◌}
 use lib.ListN.{length}
-use borrow.Author.Rules.{rules}
 use Rattle.journeys.specs.Inner.Sweep.{Listed}
-use Rattle.journeys.proofs.FrontRows.{front-counted}
-use Rattle.journeys.proofs.Listing.{listed-none, listed-number, listed-whole}
-use Rattle.journeys.proofs.Comparing.{front_list, slow-front, slow-count}
+use Rattle.journeys.proofs.Comparing.{front_list}
 use Rattle.journeys.proofs.slow.list_slow.Given as goal
 
 abbrev pub invariant-loop-i : goal.invariant-loop-i

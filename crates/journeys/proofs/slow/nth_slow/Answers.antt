@@ -1,11 +1,10 @@
 -- `journeys::slow::nth_slow` meets its contract. The loop's invariant: none of the first k rows is the one. The measure is what is left of the rows.
 -- Assumes nothing.
 use mathlib.Core.Path.{◌≡◌, refl, sym, ◌∙◌, ap, ap₂}
-use mathlib.Core.Bool.{Bool, true, false, ◌&&◌}
-use Prim.Native.Nat.{ℕ, ◌-◌, ◌≤◌}
+use mathlib.Core.Bool.{Bool, false, ◌&&◌}
+use Prim.Native.Nat.{ℕ}
 use native.Mathlib.Omega.{arith}
 use lib.Dec.{eqb}
-use borrow.Author.Rules.{rules}
 use Rattle.costs.specs.Costs.{Cost}
 use Rattle.journeys.specs.Inner.Slow.{none_below, count_to, has_number}
 use Rattle.journeys.proofs.Comparing.{none_more, slow-on, slow-off}

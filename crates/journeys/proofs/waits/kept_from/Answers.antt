@@ -1,10 +1,8 @@
 -- `journeys::waits::kept_from` meets its contract: the row whose cost is what is left after the steps waited, or none where nothing is left.
 -- Assumes nothing.
 use mathlib.Core.Path.{sym, ◌∙◌}
-use borrow.Author.Tests.{not-true, not-false}
 use Rattle.costs.specs.Laws.Figures.{at_most_b-true}
 use Rattle.journeys.proofs.Waiting.{waited-more, waited-left}
-use borrow.Author.Rules.{rules}
 use Rattle.journeys.proofs.waits.kept_from.Goals as goal
 
 pub returns-then-not-at_most : goal.returns-then-not-at_most

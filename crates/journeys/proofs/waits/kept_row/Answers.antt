@@ -1,10 +1,8 @@
 -- `journeys::waits::kept_row` meets its contract. The loop's invariant: no row at a step from s on becomes the cost. The measure is s.
 -- Assumes nothing.
-use mathlib.Core.Path.{◌≡◌, refl}
-use Prim.Native.Nat.{◌+◌, ◌≤◌}
+use mathlib.Core.Path.{refl}
 use native.Mathlib.Omega.{arith}
-use Rattle.journeys.proofs.Waiting.{NoneFrom, none_yet, none-sooner, kept-found, kept-none}
-use borrow.Author.Rules.{rules}
+use Rattle.journeys.proofs.Waiting.{none_yet, none-sooner, kept-found, kept-none}
 use Rattle.journeys.proofs.waits.kept_row.Goals as goal
 
 pub loop-s-init : goal.loop-s-init

@@ -1,10 +1,8 @@
 -- `journeys::waits::kept_row` meets its contract. The loop's invariant: no row at a step from s on becomes the cost. The measure is s.
 -- Assumes nothing.
-use mathlib.Core.Path.{◌≡◌, refl}
+use mathlib.Core.Path.{◌≡◌}
 use Prim.Native.Nat.{◌+◌, ◌≤◌}
-use native.Mathlib.Omega.{arith}
-use Rattle.journeys.proofs.Waiting.{NoneFrom, none_yet, none-sooner, kept-found, kept-none}
-use borrow.Author.Rules.{rules}
+use Rattle.journeys.proofs.Waiting.{NoneFrom}
 use Rattle.journeys.proofs.waits.kept_row.Given as goal
 
 abbrev pub invariant-loop-s : goal.invariant-loop-s

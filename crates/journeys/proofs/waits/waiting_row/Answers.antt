@@ -3,7 +3,6 @@
 use native.Mathlib.Omega.{arith}
 use Rattle.intervals.specs.FirstSteps.{some-derived}
 use Rattle.journeys.proofs.Waiting.{wait-within, row-waiting}
-use borrow.Author.Rules.{rules}
 use Rattle.journeys.proofs.waits.waiting_row.Goals as goal
 use Rattle.journeys.proofs.waits.waiting_row.Goals.{Start}
 

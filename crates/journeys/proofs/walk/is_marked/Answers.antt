@@ -2,7 +2,6 @@
 -- Assumes nothing.
 use Rattle.sheet.specs.Laws.Decided.{fails}
 use Rattle.journeys.proofs.Choosing.{marked_row, marked-none}
-use borrow.Author.Rules.{rules}
 use Rattle.journeys.proofs.walk.is_marked.Goals as goal
 
 pub returns-then-k-n : goal.returns-then-k-n

@@ -1,7 +1,6 @@
 -- `journeys::walk::next_over` meets its contract: corridor l leads to a lower place that is on the way, or the best so far stays.
 -- Assumes nothing.
 use native.Mathlib.Omega.{arith}
-use borrow.Author.Tests.{not-true, not-false}
 use Rattle.sheet.specs.Laws.Decided.{yes_of, no_of}
 use Rattle.sheet.specs.Laws.Store.{store-valid}
 use Rattle.intervals.specs.FirstSteps.{some-derived}

@@ -2,15 +2,9 @@
 -- measure is the number of corridors left.
 -- Assumes nothing.
 use Prim.Native.Nat.{◌-◌}
-use native.Mathlib.Omega.{arith}
-use Rattle.sheet.specs.Kinds.{kind_c}
 use Rattle.sheet.specs.Store.{sheet_in}
-use Rattle.sheet.specs.Laws.Store.{store-counts, store-few}
-use Rattle.costs.specs.Laws.Moves.{corridor-count}
-use Rattle.intervals.specs.FirstSteps.{some-derived}
 use Rattle.journeys.specs.Inner.Lookup.{standing}
 use Rattle.journeys.specs.Inner.Walk.{LowestOf}
-use Rattle.journeys.proofs.Choosing.{lowest-all}
 use Rattle.journeys.proofs.walk.next_stand.Given as goal
 
 abbrev pub invariant-loop-l : goal.invariant-loop-l

@@ -5,7 +5,6 @@ use Rattle.costs.specs.Laws.Figures.{within_more}
 use Rattle.intervals.specs.FirstSteps.{some-derived}
 use Rattle.journeys.proofs.Waiting.{wait-within}
 use Rattle.journeys.proofs.Choosing.{wait-sum, wait-marked, wait-unmarked}
-use borrow.Author.Rules.{rules}
 use Rattle.journeys.proofs.walk.next_wait.Goals as goal
 use Rattle.journeys.proofs.walk.next_wait.Goals.{Start}
 

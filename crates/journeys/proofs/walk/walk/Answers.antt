@@ -1,18 +1,13 @@
 -- `journeys::walk::walk` meets its contract. The loop's invariant: for any front cost that the marks are of, the walk has come to `at`, and the places gone to
 -- are written. The measure is what is left of the steps.
 -- Assumes nothing.
-use mathlib.Core.Path.{◌≡◌, refl, ◌∙◌}
-use Prim.Native.Nat.{◌-◌, ◌≤◌, ◌<◌}
+use mathlib.Core.Path.{refl, ◌∙◌}
 use native.Mathlib.Omega.{arith}
-use lib.ListN.{length, length-set}
+use lib.ListN.{length-set}
 use Rattle.sheet.specs.Lists.{number}
-use Rattle.sheet.specs.Store.{sheet_in}
 use Rattle.sheet.specs.Laws.Store.{store_length, head-number}
-use Rattle.costs.specs.Costs.{Cost}
-use Rattle.journeys.specs.Inner.Lookup.{standing}
 use Rattle.journeys.proofs.Tightness.{end-day}
-use Rattle.journeys.proofs.Walking.{Guided, CameTo, come-start, come-on, come-end, begins, rowed, led, bare-again, next-step, walkable}
-use borrow.Author.Rules.{rules}
+use Rattle.journeys.proofs.Walking.{come-start, come-on, come-end, begins, rowed, led, bare-again, next-step, walkable}
 use Rattle.journeys.proofs.walk.walk.Goals as goal
 
 pub mark_ways-requires : goal.mark_ways-requires

@@ -1,12 +1,8 @@
 -- `month::lines::take_lines` meets its contract. The loop's invariant: the lines from `at` on are judged, after those before, as the whole.
 -- The measure is what is left of the bytes: each line taken ends further on.
 -- Assumes nothing.
-use Prim.Native.Nat.{◌-◌}
 use native.Mathlib.Omega.{arith}
-use lib.ListN.{length}
 use borrow.Author.Rules.{rules}
-use Rattle.month.specs.Month.{month_of}
-use Rattle.month.specs.Inner.{sums, Reached, left}
 use Rattle.month.proofs.Reading.{read-begun, reached-few, reached-gathered, read-refused, read-over}
 use Rattle.month.proofs.lines.take_lines.Goals as goal
 

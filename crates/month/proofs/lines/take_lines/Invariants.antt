@@ -2,12 +2,9 @@
 -- The measure is what is left of the bytes: each line taken ends further on.
 -- Assumes nothing.
 use Prim.Native.Nat.{◌-◌}
-use native.Mathlib.Omega.{arith}
 use lib.ListN.{length}
-use borrow.Author.Rules.{rules}
 use Rattle.month.specs.Month.{month_of}
 use Rattle.month.specs.Inner.{sums, Reached, left}
-use Rattle.month.proofs.Reading.{read-begun, reached-few, reached-gathered, read-refused, read-over}
 use Rattle.month.proofs.lines.take_lines.Given as goal
 
 abbrev pub invariant-loop-at : goal.invariant-loop-at

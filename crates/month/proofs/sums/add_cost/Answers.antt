@@ -2,14 +2,14 @@
 -- The measure is what is left of the three figures.
 -- Assumes nothing.
 use mathlib.Core.Path.{◌∙◌, ap}
-use Prim.Native.Nat.{ℕ, ◌+◌, ◌-◌, ◌≤◌}
+use Prim.Native.Nat.{ℕ, ◌+◌}
 use native.Mathlib.Omega.{arith}
 use lib.Dec.{leb}
 use borrow.Author.Rules.{rules}
 use Rattle.costs.specs.Costs.{fig}
 use Rattle.costs.specs.Laws.Figures.{stored-all}
 use Rattle.month.specs.Inner.{better, above}
-use Rattle.month.proofs.Holding.{Stepped, stepped-more, summed-small}
+use Rattle.month.proofs.Holding.{stepped-more, summed-small}
 use Rattle.month.proofs.sums.add_cost.Goals as goal
 
 pub overflow_add-totals : goal.overflow_add-totals

@@ -1,15 +1,11 @@
 -- `month::sums::add_cost` meets its contract. The loop's invariant: the first i figures have the cost besides, the rest are as they were.
 -- The measure is what is left of the three figures.
 -- Assumes nothing.
-use mathlib.Core.Path.{◌∙◌, ap}
-use Prim.Native.Nat.{ℕ, ◌+◌, ◌-◌, ◌≤◌}
-use native.Mathlib.Omega.{arith}
+use Prim.Native.Nat.{◌+◌, ◌-◌, ◌≤◌}
 use lib.Dec.{leb}
-use borrow.Author.Rules.{rules}
 use Rattle.costs.specs.Costs.{fig}
-use Rattle.costs.specs.Laws.Figures.{stored-all}
 use Rattle.month.specs.Inner.{better, above}
-use Rattle.month.proofs.Holding.{Stepped, stepped-more, summed-small}
+use Rattle.month.proofs.Holding.{Stepped}
 use Rattle.month.proofs.sums.add_cost.Given as goal
 
 abbrev pub invariant-loop-i : goal.invariant-loop-i

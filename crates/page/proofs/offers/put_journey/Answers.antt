@@ -4,7 +4,6 @@
 use mathlib.Core.Path.{refl, sym}
 use native.Mathlib.Omega.{arith}
 use lib.Seq.{length-take-le}
-use borrow.Author.Rules.{rules}
 use Rattle.page.specs.Laws.Offers.{printable-row, printable-short, printable-lays, printable-path, first_fits, second_fits, prints}
 use Rattle.page.proofs.offers.put_journey.Goals as goal
 

@@ -3,13 +3,12 @@
 use mathlib.Core.Path.{◌≡◌, refl, sym, ◌∙◌, ap, subst}
 use mathlib.Core.List.{List}
 use native.Mathlib.Omega.{arith}
-use Prim.Native.Nat.{ℕ, ◌+◌, ◌-◌, ◌≤◌, ◌<◌}
+use Prim.Native.Nat.{ℕ, ◌+◌, ◌-◌, ◌<◌}
 use lib.ListN.{length, take, drop}
 use borrow.Author.Rules.{rules}
-use Rattle.sheet.specs.Store.{sheet_in}
 use Rattle.sheet.specs.Laws.Puts.{puts-length}
 use Rattle.page.specs.Inner.{Printable}
-use Rattle.page.specs.Laws.Offers.{Through, through-none, row_inside, next-printable, next-through, all-through}
+use Rattle.page.specs.Laws.Offers.{through-none, row_inside, next-printable, next-through, all-through}
 use Rattle.page.proofs.offers.put_journeys.Goals as goal
 
 pub loop-i-init : goal.loop-i-init

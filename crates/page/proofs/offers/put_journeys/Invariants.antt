@@ -1,15 +1,10 @@
 -- `page::offers::put_journeys` meets its contract. Invariant: the lines of the rows below position i are written, and the table is what it was.
 -- Assumes nothing.
-use mathlib.Core.Path.{◌≡◌, refl, sym, ◌∙◌, ap, subst}
-use mathlib.Core.List.{List}
-use native.Mathlib.Omega.{arith}
-use Prim.Native.Nat.{ℕ, ◌+◌, ◌-◌, ◌≤◌, ◌<◌}
-use lib.ListN.{length, take, drop}
-use borrow.Author.Rules.{rules}
+use mathlib.Core.Path.{◌≡◌}
+use Prim.Native.Nat.{◌-◌, ◌≤◌}
+use lib.ListN.{length}
 use Rattle.sheet.specs.Store.{sheet_in}
-use Rattle.sheet.specs.Laws.Puts.{puts-length}
-use Rattle.page.specs.Inner.{Printable}
-use Rattle.page.specs.Laws.Offers.{Through, through-none, row_inside, next-printable, next-through, all-through}
+use Rattle.page.specs.Laws.Offers.{Through}
 use Rattle.page.proofs.offers.put_journeys.Given as goal
 
 abbrev pub invariant-loop-i : goal.invariant-loop-i

@@ -5,7 +5,6 @@ use mathlib.Core.List.{List}
 use Prim.Native.Nat.{ℕ}
 use native.Mathlib.Omega.{arith}
 use lib.ListN.{length, take, replicate}
-use borrow.Author.Rules.{rules}
 use Rattle.sheet.specs.Text.{printed, most_printed}
 use Rattle.sheet.specs.Laws.Stores.{take-sets}
 use Rattle.sheet.specs.Laws.Puts.{puts-as}
