@@ -1,4 +1,4 @@
-/* The planner's calls for a host in C or C++, in target/staticlib/libplanner.a (made by `rt staticlib planner`).
+/* The planner's calls for a host in C or C++, in crates/planner/out/libplanner.a (made by `rt lib` there).
  *
  * The sheet, the front, the tie rule and the refusals are those of document 01, "The corridor sheet and the journeys
  * it offers", with what document 02 changed (E2: the time to unload; E3: PLANNER_MONTH_LINES; E4: the kinds of bytes;

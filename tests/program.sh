@@ -121,16 +121,20 @@ shown_ways() {
     shown 'no room for the page' sh -c '"$1" "$2" > /dev/full 2> /dev/null' - "$1" "$2"
 }
 
-# Writes a copy of what bin/plan and bin/month need, with no program and without the crates of the month, and a folder with all of their tools but rt.
+# Writes a copy of what bin/plan and bin/month need, with no program and without the crates of the month, outside the repository, where rt would take
+# its crates.txt for one of its own, and a folder with all of their tools but rt; removes both at the end. Sets tree.
 copy_tree() {
-    mkdir -p "$out/tree/crates" "$out/tree/host" "$out/tools"
-    cp -r bin "$out/tree"
-    sed '/^input:/d; /^month/d' crates.txt > "$out/tree/crates.txt"
-    cp host/refusals.txt "$out/tree/host"
-    for tool in cat cp date dirname find head mkdir mktemp rm sed tail touch tr wc; do ln -s "$(command -v "$tool")" "$out/tools"; done
+    tree=$(mktemp -d)
+    trap 'rm -rf "$tree"' EXIT
+    mkdir -p "$tree/crates" "$tree/host" "$tree/tools"
+    cp -r bin "$tree"
+    sed '/^input:/d; /^month/d' crates.txt > "$tree/crates.txt"
+    for crate in $(sed -n 's/^\([a-z0-9_]*\)\( staticlib\)*:.*/\1/p' "$tree/crates.txt"); do mkdir "$tree/crates/$crate"; done
+    cp host/refusals.txt "$tree/host"
+    for tool in cat cp date dirname find head mkdir mktemp rm sed tail touch tr wc; do ln -s "$(command -v "$tool")" "$tree/tools"; done
 }
 
 # Shows a script of bin/ in the copy: shown_copy CASE SCRIPT FILE.
 shown_copy() {
-    shown "$1" env PATH="$out/tools" BUILT="$root/target/bin" "$out/tree/bin/$2" "$3"
+    shown "$1" env PATH="$tree/tools" BUILT="$root/target/bin" "$tree/bin/$2" "$3"
 }
