@@ -11,3 +11,8 @@ pub mod Reading
 pub mod Writing
 pub mod Written
 pub mod PutText
+pub mod Turns
+pub mod Runs
+pub mod Valid
+pub mod TextBound
+pub mod RoundTrip

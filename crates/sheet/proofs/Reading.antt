@@ -20,7 +20,8 @@ use Rattle.sheet.specs.Forms.{Forms, LineIs, as_parsed}
 use Rattle.sheet.specs.LineEnds.{lines_by, EndIs, left, ReadUpTo, stopped, OverIs, TurnIs}
 use Rattle.sheet.specs.Laws.Groups.{passes-groups, lines-sheet}
 use Rattle.sheet.specs.Laws.Runs.{AllRuns}
-use Rattle.sheet.specs.Laws.Valid.{passes-valid, lines_runs}
+use Rattle.sheet.specs.Laws.Valid.{lines_runs}
+use Rattle.sheet.proofs.Valid.{passes-valid}
 use Rattle.sheet.specs.Laws.RoundTrip.{read-judge}
 use Rattle.sheet.specs.declared.lines.Parsed.{Parsed}
 use Rattle.sheet.specs.declared.line_reader.LineEnd.{LineEnd}

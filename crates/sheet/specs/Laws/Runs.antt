@@ -1,25 +1,26 @@
 -- Lines of one kind in a row, for any kind, after lines of other kinds. If they are in shape and pass, they are a run: each has its count of
 -- numbers, within their limits and paired, none is unknown or late, there are not too many of them, and they ascend strictly by the key, since test 5 compares with the
 -- line of its kind before it. And a run is in shape and passes, where the kinds before are earlier ones.
+-- `runs-pass`, which rests on what `waiting` says, stands in proofs/Runs.antt.
 use Rattle.std.specs.Prelude.{◌≡◌, refl, ◌⊎◌, ◌≢◌, Bool, true, false, ◌||◌, List, [], ◌∷◌, ◌++◌, map, ℕ, ◌+◌, ◌≤◌, ◌<◌, ltb, eqb, length, take}
-use Rattle.std.proofs.Common.{sym, ◌∙◌, ap, ap₂, subst, inl, inr, ⊎_elim, append_assoc, append-nil, arith, length-append, eqb-true, leb-false, le-ltb, ne_eqb}
+use Rattle.std.proofs.Common.{sym, ◌∙◌, ap, ap₂, subst, inl, inr, ⊎_elim, append_assoc, arith, length-append, eqb-true, leb-false, le-ltb, ne_eqb}
 use Rattle.std.proofs.Math.Option.{some}
 use Rattle.std.proofs.lemmas.Bool.{lt-leb, not-false}
 use Rattle.sheet.specs.Lists.{number, ◌∈◌, any}
 use Rattle.sheet.specs.Computed.{lexb}
 use Rattle.sheet.specs.Sorting.{Before, Ascending}
-use Rattle.sheet.specs.Kinds.{Kind, kind_s, kind_w, kind_c, kind_x, kinds}
+use Rattle.sheet.specs.Kinds.{Kind, kind_s, kind_c, kind_x, kinds}
 use Rattle.sheet.specs.Lines.{Line, line}
-use Rattle.sheet.specs.Sheet.{Sheet, places, steps, group, lines_from, head_in, waiting, out_of_turn, unpaired, unknown, late, latest, not_above, outside}
+use Rattle.sheet.specs.Sheet.{Sheet, places, steps, group, lines_from, head_in, out_of_turn, unpaired, unknown, late, latest, not_above, outside}
 use Rattle.sheet.specs.Laws.Order.{lexb-true, Lex-lexb}
 use Rattle.sheet.specs.Laws.Members.{mem-left, mem-right, mem-append, mem-map, map-mem}
 use Rattle.sheet.specs.Laws.Kinds.{order_key}
 use Rattle.sheet.specs.Laws.Judge.{Passes}
 use Rattle.sheet.specs.Laws.Shape.{Shaped, AllShaped}
-use Rattle.sheet.specs.Laws.Passed.{false-or, false-any, Passed, fault-passed, passed-fault, passes_append, append-passes, passes-each, known-grows, passes-inside, passes-paired, passes-timely, latest-last}
-use Rattle.sheet.specs.Laws.Groups.{group-append, group-own, group-none, of-kind, group-other, group-more, mem-group, later-kinds, from-kinds}
+use Rattle.sheet.specs.Laws.Passed.{false-or, false-any, Passed, fault-passed, passed-fault, passes_append, passes-each, known-grows, passes-inside, passes-paired, passes-timely, latest-last}
+use Rattle.sheet.specs.Laws.Groups.{group-append, group-own, group-none, group-other, group-more, later-kinds}
 use Rattle.sheet.specs.Laws.Limits.{Within, inside-within, within-inside}
-use Rattle.sheet.specs.Laws.Turns.{Turns, others-turn}
+use Rattle.sheet.specs.Laws.Turns.{Turns}
 
 -- the numbers of the lines of kind k, on the sheet s
 pub record Run (s : Sheet) (k : Kind) (ns : List (List ℕ)) : Type 0 where
@@ -234,42 +235,3 @@ runs-shaped s [] gs f r l m = absurd m
 runs-shaped s (k ∷ ks) [] f r l m = absurd m
 runs-shaped s (k ∷ ks) (g ∷ gs) f r l m =
     ⊎_elim (run-shaped s k g (f k (inl refl)) r.0 l) (runs-shaped s ks gs (λ j i. f j (inr i)) r.1 l) (mem-append l (map (line k) g) (lines_from ks gs) m)
-
-pub runs-pass : (s : Sheet) (before : List Line) (ks : List Kind) (gs : List (List (List ℕ))) → Ascending order_key ks
-    → waiting (line kind_s s.head ∷ before) ≡ false → ((k : Kind) → k ∈ ks → kind_w.order < k.order)
-    → ((m : Line) → m ∈ (line kind_s s.head ∷ before) → (k : Kind) → k ∈ ks → m.kind.order < k.order)
-    → ((c : List ℕ) → c ∈ s.corridors → line kind_c c ∈ ((line kind_s s.head ∷ before) ++ lines_from ks gs))
-    → AllRuns s ks gs → Passes (line kind_s s.head ∷ before) (lines_from ks gs)
-runs-pass s before [] gs a w l f g r = tt
-runs-pass s before (k ∷ ks) [] a w l f g r = tt
-runs-pass s before (k ∷ ks) (ns ∷ gs) a w l f g r =
-    append-passes (b ∷ before) (map (line k) ns) (lines_from ks gs)
-    (run-passes s before k ns (λ m i. f m i k (inl refl)) corridors (others-turn b before k ns other w) r.0)
-    (runs-pass s (before ++ map (line k) ns) ks gs a.1 (still ∙ w) (λ j m. l j (inr m)) after moved r.1)
-  where
-    b : Line
-    b = line kind_s s.head
-
-    other : k.order ≢ kind_w.order
-    other e = omega (arith, l k (inl refl))
-
-    still : waiting (b ∷ (before ++ map (line k) ns)) ≡ waiting (b ∷ before)
-    still =
-        ap (λ (g : List (List ℕ)). ltb (length g) (number s.head 0))
-        (group-append kind_w (b ∷ before) (map (line k) ns) ∙ ap (λ (g : List (List ℕ)). group kind_w (b ∷ before) ++ g) (group-other kind_w k ns other) ∙ append-nil (group kind_w (b ∷ before)))
-
-    after : (m : Line) → m ∈ (b ∷ (before ++ map (line k) ns)) → (j : Kind) → j ∈ ks → m.kind.order < j.order
-    after m i j n =
-        ⊎_elim (λ h. f m h j (inr n)) (λ h. subst (λ (x : Kind). x.order < j.order) (sym (of-kind k ns m h)) (later-kinds k ks a j n)) (mem-append m (b ∷ before) (map (line k) ns) i)
-
-    moved : (c : List ℕ) → c ∈ s.corridors → line kind_c c ∈ ((b ∷ (before ++ map (line k) ns)) ++ lines_from ks gs)
-    moved c m = subst (λ (ls : List Line). line kind_c c ∈ ls) (sym (append_assoc (b ∷ before) (map (line k) ns) (lines_from ks gs))) (g c m)
-
-    -- a line of corridors is none of a run of closures, nor of a later one
-    corridors : k.order ≡ kind_x.order → (c : List ℕ) → c ∈ s.corridors → c ∈ group kind_c (b ∷ before)
-    corridors o c m = ⊎_elim (λ i. mem-group kind_c c (b ∷ before) i) (λ i. absurd (no i)) (mem-append (line kind_c c) (b ∷ before) (lines_from (k ∷ ks) (ns ∷ gs)) (g c m))
-      where
-        no : line kind_c c ∈ lines_from (k ∷ ks) (ns ∷ gs) → ⊥
-        no i =
-            ⊎_elim (λ e. omega (arith, o, ap (λ (j : Kind). j.order) e)) (λ j. omega (arith, o, later-kinds k ks a kind_c j))
-            (from-kinds (k ∷ ks) (ns ∷ gs) (line kind_c c) i)

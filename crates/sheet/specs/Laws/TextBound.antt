@@ -1,23 +1,21 @@
 -- The text of lines that pass is no longer than a sheet may be. A line's text is at most as long as its kind's description allows: a number
 -- has at most as many digits as the highest within its limit. The most lines of each kind, each as long as that, are 14,536 bytes (`text-room`),
 -- where a W line has no more digits of its place than the place it is the turn of.
+-- The laws that rest on what `waiting` says stand in proofs/TextBound.antt: `text-longest` and `text-bound`.
 use Rattle.std.specs.Prelude.{◌≡◌, refl, Bool, true, false, List, [], ◌∷◌, ◌++◌, map, ℕ, zero, suc, ◌+◌, ◌*◌, ◌/◌, ◌%◌, ◌≤◌, ltb, length}
 use Rattle.std.proofs.Common.{ap, inl, arith, mul-le-mul_right, length-append, ltb-true, ltb-false}
 use Rattle.sheet.specs.Lists.{pick, bind}
 use Rattle.sheet.specs.Decimal.{digits_of, most_digits}
 use Rattle.sheet.specs.Kinds.{Limit, cost, Kind, width, kind_s, kind_w, kind_c, kind_x, kind_o}
 use Rattle.sheet.specs.Lines.{Line, line}
-use Rattle.sheet.specs.Sheet.{Sheet, places, place_of, sheet_of, lines_from, sheet_lines, most_bytes}
+use Rattle.sheet.specs.Sheet.{Sheet, places, place_of, lines_from, sheet_lines}
 use Rattle.sheet.specs.Text.{number_text, line_text}
 use Rattle.sheet.specs.Valid.{Turned}
-use Rattle.sheet.specs.Laws.Judge.{Passes}
-use Rattle.sheet.specs.Laws.Shape.{AllShaped}
 use Rattle.sheet.specs.Laws.Printed.{number-length, printed-length}
 use Rattle.sheet.specs.Laws.Limits.{Within, highest, at-most-highest}
-use Rattle.sheet.specs.Laws.Groups.{lines-sheet}
 use Rattle.sheet.specs.Laws.Binds.{bind-append}
 use Rattle.sheet.specs.Laws.Runs.{Run, run-tail, AllRuns}
-use Rattle.sheet.specs.Laws.Valid.{Runs, runs-places, lines_runs, lines-turned}
+use Rattle.sheet.specs.Laws.Valid.{Runs, runs-places}
 
 -- a larger number has no fewer digits
 digits-grow : (k m n : ℕ) → m ≤ n → length (digits_of k m) ≤ length (digits_of k n)
@@ -147,13 +145,5 @@ text-room : line_room kind_s + (turn_room 0 64 + text_room (kind_c ∷ kind_x �
 unfolding text_room turn_room
 text-room = refl
 
-pub text-longest : (ls : List Line) → AllShaped ls → Passes [] ls → 1 ≤ length ls → length (bind ls (line_text most_digits)) ≤ longest
-text-longest ls f p h =
-    let s = sheet_of ls in
-    let r = lines_runs ls f p h in
-    let q = ap (λ (k : List Line). length (bind k (line_text most_digits))) (lines-sheet ls f p h) in
-    omega (arith, sheet-text s r (lines-turned ls f p).0, q, text-room)
-
--- the longest sheet is short enough
-pub text-bound : (ls : List Line) → AllShaped ls → Passes [] ls → 1 ≤ length ls → length (bind ls (line_text most_digits)) ≤ most_bytes
-text-bound ls f p h = omega (arith, text-longest ls f p h)
+pub sheet-longest : (s : Sheet) → Runs s → Turned 0 s.waits → length (bind (sheet_lines s) (line_text most_digits)) ≤ longest
+sheet-longest s r t = omega (arith, sheet-text s r t, text-room)

@@ -1,24 +1,25 @@
 -- Every sheet of lines that pass is valid, and the lines of every valid sheet are in shape and pass. Both go by the five runs of lines of a
 -- sheet, of one kind each (Laws.Runs): what remains is that a run of C lines, say, says of its numbers what a valid sheet says of corridors.
 -- Also: no number of lines that pass has more than five digits.
-use Rattle.std.specs.Prelude.{◌≡◌, refl, Bool, false, not, ◌&&◌, List, [], ◌∷◌, map, ℕ, zero, suc, ◌≤◌, ◌<◌, eqb, length, get_or}
+-- The laws that rest on what `waiting` says stand in proofs/Valid.antt: `passes-valid`, `valid-passes` and `valid-complete`.
+use Rattle.std.specs.Prelude.{◌≡◌, refl, Bool, false, not, ◌&&◌, List, [], ◌∷◌, ℕ, zero, suc, ◌≤◌, ◌<◌, eqb, length, get_or}
 use Rattle.std.proofs.Common.{sym, ◌∙◌, ap, subst, inl, inr, arith, ltb-false, eqb-true, eq-eqb, le-ltb, ne_eqb}
 use Rattle.std.proofs.lemmas.Bool.{eqb-false, not-false}
 use Rattle.sheet.specs.Lists.{number, ◌∈◌, any}
-use Rattle.sheet.specs.Kinds.{place, Kind, width, kind_s, kind_w, kind_c, kind_x, kind_o, kinds}
+use Rattle.sheet.specs.Kinds.{place, width, kind_s, kind_w, kind_c, kind_x, kind_o, kinds}
 use Rattle.sheet.specs.Lines.{Line, line}
-use Rattle.sheet.specs.Sheet.{Sheet, places, steps, from, to, first, last, sheet_of, groups_of, sheet_lines, group, head_in, waiting, lacking, unpaired, unknown, late}
+use Rattle.sheet.specs.Sheet.{Sheet, places, steps, from, to, first, last, sheet_of, groups_of, sheet_lines, head_in, unpaired, unknown, late}
 use Rattle.sheet.specs.Valid.{ValidWait, Turned, ValidCorridor, ValidClosure, ValidOccupancy, Valid}
 use Rattle.sheet.specs.Laws.Order.{and-true, true-and}
-use Rattle.sheet.specs.Laws.Members.{mem-left, mem-right, mem-map, any-mem, mem-any}
+use Rattle.sheet.specs.Laws.Members.{any-mem, mem-any}
 use Rattle.sheet.specs.Laws.Kinds.{kinds-ascend}
-use Rattle.sheet.specs.Laws.Judge.{Passes, some-line}
+use Rattle.sheet.specs.Laws.Judge.{Passes}
 use Rattle.sheet.specs.Laws.Shape.{AllShaped}
-use Rattle.sheet.specs.Laws.Passed.{passes-inside, passed-fault, append-passes}
-use Rattle.sheet.specs.Laws.Limits.{In, Within, inside-within, within-inside, within-at, at-within, most-from, five-digits, within-below}
-use Rattle.sheet.specs.Laws.Groups.{later-kinds, of-kind, group-own, group-none, first_head, sheet-lines, lines-sheet}
-use Rattle.sheet.specs.Laws.Runs.{Run, AllRuns, passes-runs, runs-shaped, run-passes, runs-pass}
-use Rattle.sheet.specs.Laws.Turns.{wait_count, passes-turned, waits-turn, turned-ascend}
+use Rattle.sheet.specs.Laws.Passed.{passes-inside}
+use Rattle.sheet.specs.Laws.Limits.{In, Within, inside-within, within-at, at-within, most-from, five-digits, within-below}
+use Rattle.sheet.specs.Laws.Groups.{sheet-lines, lines-sheet}
+use Rattle.sheet.specs.Laws.Runs.{Run, AllRuns, passes-runs, runs-shaped}
+use Rattle.sheet.specs.Laws.Turns.{turned-ascend}
 
 -- the runs of a sheet
 abbrev pub Runs : Sheet → Type 0
@@ -118,32 +119,6 @@ lines_runs ls f p h =
     let e = lines-sheet ls f p h in
     passes-runs (sheet_of ls) kinds (groups_of (sheet_of ls)) kinds-ascend (subst AllShaped (sym e) f) (subst (Passes []) (sym e) p)
     (record { head-is = refl; corridors-are = ap (λ (s : Sheet). s.corridors) (sheet-lines (sheet_of ls)) })
-
--- the W lines of lines that pass
-pub lines-turned : (ls : List Line) → AllShaped ls → Passes [] ls → Turned 0 (group kind_w ls) × (wait_count ls ≤ number (head_in ls) 0)
-lines-turned [] f p = (tt, omega arith)
-lines-turned (l ∷ ls) f p =
-    let k : l.kind ≡ kind_s = first_head l ls f p in
-    let z : group kind_w (l ∷ []) ≡ [] = group-none kind_w (l ∷ []) (λ m i e. head_apart m i k e) in
-    let o : group kind_w (l ∷ ls) ≡ group kind_w ls = rw (ne_eqb l.kind.order kind_w.order (λ e. head_apart l (inl refl) k e)) in
-    let t = passes-turned l [] ls p.1 in (
-      subst (Turned 0) (sym o) (subst (λ (n : ℕ). Turned n (group kind_w ls)) (ap length z) t.turned),
-      omega (arith, ap length o, ap length z, t.few (omega (arith, ap length z))),
-    )
-  where
-    head_apart : (m : Line) → m ∈ (l ∷ []) → l.kind ≡ kind_s → m.kind.order ≡ kind_w.order → ⊥
-    head_apart m (inl i) k e = omega (arith, e, ap (λ (x : Line). x.kind.order) i, ap (λ (x : Kind). x.order) k)
-    head_apart m (inr nowhere) k e = elim nowhere [ ]
-
-waits-each : (ls : List Line) → AllShaped ls → Passes [] ls → lacking ls ≡ false → EachWait (sheet_of ls)
-waits-each [] f p h = absurd (omega (arith, some-line [] h))
-waits-each (l ∷ ls) f p h =
-    let t = lines-turned (l ∷ ls) f p in
-    let e : places (sheet_of (l ∷ ls)) ≡ number l.numbers 0 = ap (λ (k : List Line). number (head_in k) 0) (lines-sheet (l ∷ ls) f p (omega arith)) in
-    record { turned = t.0; each = omega (arith, e, t.1, ltb-false (wait_count (l ∷ ls)) (number l.numbers 0) h) }
-
-pub passes-valid : (ls : List Line) → AllShaped ls → Passes [] ls → lacking ls ≡ false → Valid (sheet_of ls)
-passes-valid ls f p h = runs-valid (sheet_of ls) (lines_runs ls f p (some-line ls h)) (waits-each ls f p h)
 
 -- each number of a line that passes is within its limit, on at most 64 places
 pub places-at-most : (ls : List Line) → AllShaped ls → Passes [] ls → 1 ≤ length ls → number (head_in ls) 0 ≤ 64
@@ -265,51 +240,3 @@ valid-runs s g = (head-run s g, (waits-run s g, (corridors-run s g, (closures-ru
 
 pub valid-shaped : (s : Sheet) → Valid s → AllShaped (sheet_lines s)
 valid-shaped s g = runs-shaped s kinds (groups_of s) (λ k m. m) (valid-runs s g)
-
--- the lines after the S line: the W lines in turn, then those of the later kinds
-module _ (s : Sheet) (g : Valid s) where
-  abbrev h : Line
-  h = line kind_s s.head
-
-  abbrev ws : List Line
-  ws = map (line kind_w) s.waits
-
-  head-before : (m : Line) → m ∈ (h ∷ []) → (k : Kind) → k ∈ (kind_w ∷ kind_c ∷ kind_x ∷ kind_o ∷ []) → m.kind.order < k.order
-  head-before m (inl e) k j =
-      subst (λ (l : Line). l.kind.order < k.order) (sym e) (later-kinds kind_s (kind_w ∷ kind_c ∷ kind_x ∷ kind_o ∷ []) kinds-ascend k j)
-  head-before m (inr nowhere) k j = elim nowhere [ ]
-
-  waits-before : (m : Line) → m ∈ (h ∷ ws) → (k : Kind) → k ∈ (kind_c ∷ kind_x ∷ kind_o ∷ []) → m.kind.order < k.order
-  waits-before m (inl e) k j = head-before m (inl e) k (inr j)
-  waits-before m (inr i) k j =
-      subst (λ (x : Kind). x.order < k.order) (sym (of-kind kind_w s.waits m i)) (later-kinds kind_w (kind_c ∷ kind_x ∷ kind_o ∷ []) kinds-ascend.1 k j)
-
-  none-to-come : waiting (h ∷ ws) ≡ false
-  none-to-come = le-ltb (wait_count (h ∷ ws)) (places s) (omega (arith, ap length (group-own kind_w s.waits), g.each-place))
-
-  waits-pass : Passes (h ∷ []) ws
-  waits-pass =
-      run-passes s [] kind_w s.waits (λ m i. head-before m i kind_w (inl refl)) (λ e. absurd (omega arith))
-      (waits-turn h [] s.waits g.waits-turn (omega (arith, g.each-place))) (waits-run s g)
-
-  pub valid-passes : Passes [] (sheet_lines s)
-  valid-passes = (
-    passed-fault [] h
-        (record {
-          placed = refl;
-          few = refl;
-          inside = within-inside (places s) kind_s.limits s.head ((head-run s g).within s.head (inl refl));
-          paired = refl;
-          known = refl;
-          timely = refl;
-          above = refl;
-        }),
-    append-passes (h ∷ []) ws _ waits-pass
-        (runs-pass s ws (kind_c ∷ kind_x ∷ kind_o ∷ []) (s.corridors ∷ s.closures ∷ s.occupancies ∷ []) kinds-ascend.1.1 none-to-come
-        (λ k j. later-kinds kind_w (kind_c ∷ kind_x ∷ kind_o ∷ []) kinds-ascend.1 k j) waits-before
-        (λ c m. mem-right (line kind_c c) (h ∷ ws) _ (mem-left (line kind_c c) (map (line kind_c) s.corridors) _ (mem-map (line kind_c) c s.corridors m)))
-        (valid-runs s g).1.1),
-  )
-
-  pub valid-complete : lacking (sheet_lines s) ≡ false
-  valid-complete = le-ltb (wait_count (sheet_lines s)) (places s) (omega (arith, g.each-place, ap (λ (k : Sheet). length k.waits) (sheet-lines s)))

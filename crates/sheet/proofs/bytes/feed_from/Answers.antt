@@ -36,7 +36,8 @@ module _ (s : List ℕ) (at i : ℕ) (h : i + 4 ≤ length s) (a : Ahead s at i)
       passed-4 u uk un = past s at (i + 3) (i + 4) u (omega arith) (omega arith) passed-3 uk un
 
 pub returns-then-kind_of-eq-LINE_FEED : goal.returns-then-kind_of-eq-LINE_FEED
-returns-then-kind_of-eq-LINE_FEED c = here c.args.s.now c.args.at c.loop-i.i _ (omega arith) c.loop-i.invariant.1 c.kind_of.ensures c.if-kind_of-eq-LINE_FEED.true
+returns-then-kind_of-eq-LINE_FEED c =
+    here c.args.s.now c.args.at c.loop-i.i _ (omega arith) c.loop-i.invariant.1 c.kind_of.ensures c.if-kind_of-eq-LINE_FEED.true
 
 pub returns-then-kind_of-eq-LINE_FEED-2 : goal.returns-then-kind_of-eq-LINE_FEED-2
 returns-then-kind_of-eq-LINE_FEED-2 c =
@@ -59,8 +60,9 @@ returns-then-kind_of-eq-LINE_FEED-4 c =
     c.kind_of-in-loop-i-3.ensures c.if-kind_of-eq-LINE_FEED-4.true
 
 pub loop-i-preserved : goal.loop-i-preserved
-loop-i-preserved c =
-    (omega arith,
-    passed-4 c.args.s.now c.args.at c.loop-i.i (omega arith) c.loop-i.invariant.1 _ c.kind_of.ensures c.if-kind_of-eq-LINE_FEED.false
-    _ c.kind_of-in-loop-i.ensures c.if-kind_of-eq-LINE_FEED-2.false _ c.kind_of-in-loop-i-2.ensures c.if-kind_of-eq-LINE_FEED-3.false
-    _ c.kind_of-in-loop-i-3.ensures c.if-kind_of-eq-LINE_FEED-4.false)
+loop-i-preserved c = (
+  omega arith,
+  passed-4 c.args.s.now c.args.at c.loop-i.i (omega arith) c.loop-i.invariant.1 _ c.kind_of.ensures c.if-kind_of-eq-LINE_FEED.false
+      _ c.kind_of-in-loop-i.ensures c.if-kind_of-eq-LINE_FEED-2.false _ c.kind_of-in-loop-i-2.ensures c.if-kind_of-eq-LINE_FEED-3.false
+      _ c.kind_of-in-loop-i-3.ensures c.if-kind_of-eq-LINE_FEED-4.false,
+)

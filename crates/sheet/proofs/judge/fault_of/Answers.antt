@@ -56,8 +56,9 @@ module _ (lines all : List ℕ) (k : ℕ) (v : List ℕ) (row : Row) (h : k < ki
   -- test 3 passed
   module _ (m : Bool) (md : m ≡ misplaced_by lines all k v) (mf : m ≡ false) where
     -- test 4
-    tried-4 : (p : ℕ) (o b : Bool) → p ≡ pick (eqb k 0) (get_or v 0 0) (get_or all 0 0) → o ≡ outside p (map limit_at (take row.width row.limits)) (take row.width v)
-        → o ≡ b → Tried lines all (line_at k v) 4 6 b
+    tried-4 : (p : ℕ) (o b : Bool) → p ≡ pick (eqb k 0) (get_or v 0 0) (get_or all 0 0)
+        → o ≡ outside p (map limit_at (take row.width row.limits)) (take row.width v) → o ≡ b
+        → Tried lines all (line_at k v) 4 6 b
     unfolding tests
     tried-4 p o b pd od e = record { of = λ before S. ap (first 4 _) (outside-is S h R v pd (misplaced-at m false md mf before S) ∙ sym od ∙ e) }
 
@@ -152,7 +153,8 @@ pub returns-then-is_outside : goal.returns-then-is_outside
 returns-then-is_outside c =
     let a = c.args in
     left-stop (left-7 a.lines.now a.all.now a.kind a.values a.row c.requires.0 c.requires.2 _ c.is_misplaced.ensures c.if-is_misplaced.false c.if-row-n.false)
-    (tried-4 a.lines.now a.all.now a.kind a.values a.row c.requires.0 c.requires.2 _ c.is_misplaced.ensures c.if-is_misplaced.false _ _ true c.places_with.ensures c.is_outside.ensures c.if-is_outside.true)
+    (tried-4 a.lines.now a.all.now a.kind a.values a.row c.requires.0 c.requires.2 _ c.is_misplaced.ensures c.if-is_misplaced.false
+    _ _ true c.places_with.ensures c.is_outside.ensures c.if-is_outside.true)
 
 pub is_unpaired-requires : goal.is_unpaired-requires
 is_unpaired-requires c =
@@ -184,15 +186,18 @@ returns-then-is_late c =
     let a = c.args in
     left-stop
     (left-15 a.lines.now a.all.now a.kind a.values a.row c.requires.0 c.requires.2 _ c.is_misplaced.ensures c.if-is_misplaced.false c.if-row-n.false
-    _ c.places_with.ensures _ c.is_outside.ensures c.if-is_outside.false _ c.is_unpaired.ensures c.if-is_unpaired.false _ c.is_unknown.ensures c.if-is_unknown.false)
-    (tried-16 a.lines.now a.all.now a.kind a.values a.row c.requires.0 c.requires.2 _ c.is_misplaced.ensures c.if-is_misplaced.false _ true c.is_late.ensures c.if-is_late.true)
+    _ c.places_with.ensures _ c.is_outside.ensures c.if-is_outside.false _ c.is_unpaired.ensures c.if-is_unpaired.false
+    _ c.is_unknown.ensures c.if-is_unknown.false)
+    (tried-16 a.lines.now a.all.now a.kind a.values a.row c.requires.0 c.requires.2 _ c.is_misplaced.ensures c.if-is_misplaced.false
+    _ true c.is_late.ensures c.if-is_late.true)
 
 pub returns-then-n-eq0 : goal.returns-then-n-eq0
 unfolding tests
 returns-then-n-eq0 c =
     let a = c.args in
     let l = left-16-at (goal.at.returns-then-n-eq0 c).Else-is_late in
-    record { of = λ before S. sym ((left-next l (tried-none a.lines.now a.all.now a.kind a.values a.row c.requires.0 c.requires.2 c.if-n-eq0.true)).of before S) }
+    let t = tried-none a.lines.now a.all.now a.kind a.values a.row c.requires.0 c.requires.2 c.if-n-eq0.true in
+    record { of = λ before S. sym ((left-next l t).of before S) }
 
 pub overflow_mul-last : goal.overflow_mul-last
 overflow_mul-last c = omega (arith, last_fits (goal.at.overflow_mul-last c).Else-n-eq0)
@@ -201,18 +206,22 @@ pub overflow_add-last : goal.overflow_add-last
 overflow_add-last c = omega (arith, last_fits (goal.at.overflow_add-last c).Else-n-eq0)
 
 pub is_key_before-requires : goal.is_key_before-requires
-is_key_before-requires c = (omega (arith, last_fits (goal.at.is_key_before-requires c).Else-n-eq0), omega (arith, last_fits (goal.at.is_key_before-requires c).Else-n-eq0))
+is_key_before-requires c =
+    let f = last_fits (goal.at.is_key_before-requires c).Else-n-eq0 in
+    (omega (arith, f), omega (arith, f))
 
 pub returns-then-not-is_key_before : goal.returns-then-not-is_key_before
 returns-then-not-is_key_before c =
     let a = c.args in
     left-stop (left-16-at (goal.at.returns-then-not-is_key_before c).Else-is_late)
-    (tried-5 a.lines.now a.all.now a.kind a.values a.row c.requires.0 c.requires.2 _ true c.if-n-eq0.false c.is_key_before.ensures (ap not c.if-not-is_key_before.true))
+    (tried-5 a.lines.now a.all.now a.kind a.values a.row c.requires.0 c.requires.2
+    _ true c.if-n-eq0.false c.is_key_before.ensures (ap not c.if-not-is_key_before.true))
 
 pub returns : goal.returns
 unfolding tests
 returns c =
     let a = c.args in
     let l = left-16-at (goal.at.returns c).Else-is_late in
-    let t = tried-5 a.lines.now a.all.now a.kind a.values a.row c.requires.0 c.requires.2 _ false c.if-n-eq0.false c.is_key_before.ensures (ap not c.if-not-is_key_before.false) in
+    let t = tried-5 a.lines.now a.all.now a.kind a.values a.row c.requires.0 c.requires.2
+    _ false c.if-n-eq0.false c.is_key_before.ensures (ap not c.if-not-is_key_before.false) in
     record { of = λ before S. sym ((left-next l t).of before S) }

@@ -17,7 +17,8 @@ use Rattle.sheet.proofs.reader.take_lines.Goals as goal
 abbrev Behind : List ℕ → LineReader → List ℕ → List ℕ → ℕ → Type 0
 Behind src r lines all n = (r.src.now ≡ src) × (r.at ≤ length src) × ReadUpTo src r.at lines all n
 
-turn : (src : List ℕ) (r q : LineReader) (lines all : List ℕ) (t : Turn) → r.src.now ≡ src → TurnIs r.src.now r.at lines all t → t.more ≡ true → q ≡ gone_on r t.end
+turn : (src : List ℕ) (r q : LineReader) (lines all : List ℕ) (t : Turn) → r.src.now ≡ src
+    → TurnIs r.src.now r.at lines all t → t.more ≡ true → q ≡ gone_on r t.end
     → Behind src q lines all t.line
 turn src r q lines all t s T m e =
     let T' : TurnIs src r.at lines all t = subst (λ (l : List ℕ). TurnIs l r.at lines all t) s T in

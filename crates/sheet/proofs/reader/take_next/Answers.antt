@@ -31,9 +31,10 @@ returns-then-not-l c =
     c.line_in-l.result c.line_in-l.ensures (not-true c.line_in-l.result.ok c.if-not-l.true) c.stop-then-not-l.result c.stop-then-not-l.ensures
 
 pub take_line-fault-requires : goal.take_line-fault-requires
-take_line-fault-requires c =
-    (omega (arith, c.line_in-l.ensures.known (not-false c.line_in-l.result.ok c.if-not-l.false), ap length c.requires.0.letters-are),
-    record { before = c.requires.2.before; stored = c.requires.2.stored })
+take_line-fault-requires c = (
+  omega (arith, c.line_in-l.ensures.known (not-false c.line_in-l.result.ok c.if-not-l.false), ap length c.requires.0.letters-are),
+  record { before = c.requires.2.before; stored = c.requires.2.stored },
+)
 
 pub returns-then-fault-ne0 : goal.returns-then-fault-ne0
 returns-then-fault-ne0 c =

@@ -82,7 +82,7 @@ loop-i-preserved c =
     let l : c.loop-i.i < length c.args.g.now / width (kind_at c.args.k) = omega (arith, c.loop-i-test.true, i.5) in
     let k = c.take_line-fault.auto in (
       taken_next c.args.k c.args.g.now i.3 i.0 l c.row_at-v.result (row c.args.k c.loop-i.i c.args.g.now _ _ i.4 c.row_at-v.ensures)
-      c.take_line-fault.ensures c.if-fault-ne0.false,
+          c.take_line-fault.ensures c.if-fault-ne0.false,
       kept_next i.1 c.take_line-fault.ensures c.if-fault-ne0.false,
       omega (arith, c.loop-i-test.true),
       i.3,

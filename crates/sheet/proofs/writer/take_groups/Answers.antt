@@ -21,8 +21,24 @@ take_group-o-requires c = (omega arith, c.take_group-x.ensures.ready)
 
 pub ended-requires : goal.ended-requires
 ended-requires c = (
-  omega (arith, ap length c.requires.1.no_lines, c.take_group-o.auto.lines, c.take_group-x.auto.lines, c.take_group-c.auto.lines, c.take_group-w.auto.lines, c.take_group-s.auto.lines),
-  omega (arith, ap length c.requires.1.no_cells, c.take_group-o.auto.all, c.take_group-x.auto.all, c.take_group-c.auto.all, c.take_group-w.auto.all, c.take_group-s.auto.all),
+  omega (
+    arith,
+    ap length c.requires.1.no_lines,
+    c.take_group-o.auto.lines,
+    c.take_group-x.auto.lines,
+    c.take_group-c.auto.lines,
+    c.take_group-w.auto.lines,
+    c.take_group-s.auto.lines,
+  ),
+  omega (
+    arith,
+    ap length c.requires.1.no_cells,
+    c.take_group-o.auto.all,
+    c.take_group-x.auto.all,
+    c.take_group-c.auto.all,
+    c.take_group-w.auto.all,
+    c.take_group-s.auto.all,
+  ),
 )
 
 pub shape_of-lines : goal.shape_of-lines

@@ -3,7 +3,7 @@
 use mathlib.Core.Path.{◌∙◌, ap}
 use native.Mathlib.Omega.{arith}
 use Rattle.sheet.specs.Calls.{write_end}
-use Rattle.sheet.specs.Laws.RoundTrip.{valid-text}
+use Rattle.sheet.proofs.RoundTrip.{valid-text}
 use Rattle.sheet.proofs.Writing.{written-short, written-whole}
 use Rattle.sheet.proofs.writer.write_stored.Goals as goal
 
