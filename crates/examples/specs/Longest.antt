@@ -1,4 +1,4 @@
--- A sheet as long as any (sheet `Laws.RoundTrip.valid-text`): 64 waits, 256 corridors, 256 closures and 256 occupancies, each number with the most digits
+-- A sheet as long as any (sheet `RoundTrip.valid-text`): 64 waits, 256 corridors, 256 closures and 256 occupancies, each number with the most digits
 -- that its limit and its turn allow. It is valid, it has `longest` bytes, it is read from them, and the writer writes it. Its runs of lines are computed, each
 -- by tests that take the lines one by one.
 use Rattle.std.specs.Prelude.{◌≡◌, refl, Bool, true, false, not, ◌&&◌, ◌||◌, List, [], ◌∷◌, ℕ, zero, suc, ◌+◌, ◌/◌, ◌%◌, ◌≤◌, leb, eqb, length, take}
@@ -22,7 +22,8 @@ use Rattle.sheet.specs.Laws.Limits.{inside-within}
 use Rattle.sheet.specs.Laws.Runs.{Run}
 use Rattle.sheet.specs.Laws.Valid.{EachWait, runs-valid}
 use Rattle.sheet.specs.Laws.TextBound.{longest}
-use Rattle.sheet.specs.Laws.RoundTrip.{numbers_of_sheet, written_all, read-write-calls, valid-read}
+use Rattle.sheet.specs.Laws.RoundTrip.{numbers_of_sheet, written_all}
+use Rattle.sheet.proofs.RoundTrip.{read-write-calls, valid-read}
 
 -- f of n numbers, from i on
 abbrev pub counted : (ℕ → List ℕ) → ℕ → ℕ → List (List ℕ)

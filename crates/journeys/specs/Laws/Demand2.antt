@@ -15,7 +15,7 @@ use Rattle.sheet.specs.Calls.{WriteEnd}
 use Rattle.sheet.specs.Laws.Members.{mem-at}
 use Rattle.sheet.specs.Laws.Stores.{filled-past}
 use Rattle.sheet.specs.Laws.Judge.{loaded-inj}
-use Rattle.sheet.specs.Laws.RoundTrip.{write-read-answer, write-read-groups, read-write-calls}
+use Rattle.sheet.proofs.RoundTrip.{write-read-answer, write-read-groups, read-write-calls}
 use Rattle.costs.specs.Costs.{Cost, figures}
 use Rattle.costs.specs.Laws.Figures.{is-from}
 use Rattle.arrivals.specs.Arrivals.{Arrival, key_of, Leading}

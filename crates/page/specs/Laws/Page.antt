@@ -8,7 +8,8 @@ use Rattle.sheet.specs.Lists.{pick, bind}
 use Rattle.sheet.specs.Sheet.{Sheet, Outcome, refused, loaded, told, most_bytes, read_of}
 use Rattle.sheet.specs.Valid.{Valid}
 use Rattle.sheet.specs.Text.{printed, most_printed, refusal_line}
-use Rattle.sheet.specs.Laws.RoundTrip.{read-refused, read-valid}
+use Rattle.sheet.specs.Laws.RoundTrip.{read-refused}
+use Rattle.sheet.proofs.RoundTrip.{read-valid}
 use Rattle.costs.specs.Costs.{Cost}
 use Rattle.arrivals.specs.Table.{crowded}
 use Rattle.journeys.specs.Journeys.{HasCost}

@@ -8,7 +8,7 @@ use Rattle.sheet.specs.Sheet.{Sheet, Outcome, refused, loaded, told, read_of}
 use Rattle.sheet.specs.Valid.{Valid}
 use Rattle.sheet.specs.Text.{number_text, printed, most_printed, refusal_line}
 use Rattle.sheet.specs.Laws.Decimal.{digits-at-most}
-use Rattle.sheet.specs.Laws.RoundTrip.{read-valid}
+use Rattle.sheet.proofs.RoundTrip.{read-valid}
 use Rattle.sheet.specs.Laws.Printed.{number-length, bind-long, printed-long, printed-most, refusal-long}
 use Rattle.costs.specs.Costs.{Cost}
 use Rattle.arrivals.specs.Laws.Bounds.{way-place}
