@@ -10,7 +10,7 @@ use Rattle.sheet.specs.LineEnds.{EndIs}
 use Rattle.sheet.specs.declared.line_reader.LineEnd.{LineEnd}
 use Rattle.sheet.specs.declared.line_reader.LineEnd.TheVariants.{At}
 use Rattle.sheet.specs.Laws.LineEnding.{end-inside}
-use Rattle.sheet.proofs.Reading.{stored-few, turn-cut, turn-bad, turn-fault, turn-taken}
+use Rattle.sheet.proofs.Reading.{stored-few, turn-over, turn-cut, turn-bad, turn-fault, turn-taken}
 use Rattle.sheet.proofs.reader.take_next.Goals as goal
 
 -- the line ends at the position found, within the text
@@ -56,3 +56,6 @@ returns-else-fault-ne0 c =
     turn-taken c.args.src.now c.args.at c.requires.2 _ (ends _ _ _ _ c.in-At.is c.requires.1) c.requires.0
     c.line_in-l.result c.line_in-l.ensures (not-false c.line_in-l.result.ok c.if-not-l.false)
     c.take_line-fault.result c.take_line-fault.ensures c.if-fault-ne0.false
+
+pub returns-in-Over : goal.returns-in-Over
+returns-in-Over c = turn-over c.args.src.now c.args.at c.requires.2 (ends _ _ _ _ c.in-Over.is c.requires.1) c.stop.result c.stop.ensures
