@@ -9,7 +9,8 @@ use Rattle.sheet.specs.Laws.Ascending.{ascending-unique}
 use Rattle.costs.specs.Costs.{Cost, add, times, AtMost}
 use Rattle.costs.specs.Moves.{wait_of, Closed, Crossing}
 use Rattle.intervals.specs.Intervals.{freeb, Together}
-use Rattle.intervals.specs.Laws.Horizon.{SameWithin, same_back, same-interval, within_horizon, past-horizon}
+use Rattle.intervals.specs.Laws.Horizon.{SameWithin, same_back, within_horizon, past-horizon}
+use Rattle.intervals.proofs.Horizon.{same-interval}
 use Rattle.arrivals.specs.Ways.{Move, waits, crosses, Way}
 use Rattle.arrivals.specs.Arrivals.{Arrival, key_of, Arrives, Leads, Leading}
 use Rattle.arrivals.specs.Computed.{leading}

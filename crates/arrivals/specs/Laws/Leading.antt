@@ -15,7 +15,8 @@ use Rattle.costs.specs.Laws.Figures.{fig-add, fig-times, at_most_b-true, at-most
 use Rattle.costs.specs.Moves.{wait_of}
 use Rattle.intervals.specs.Intervals.{Free, Run}
 use Rattle.intervals.specs.Computed.{runb}
-use Rattle.intervals.specs.Laws.Runs.{run-one, run_join, together-run, run-together, together-within, runb-true, run-runb}
+use Rattle.intervals.specs.Laws.Runs.{run-one, run_join, together-run, together-within, runb-true, run-runb}
+use Rattle.intervals.proofs.Runs.{run-together}
 use Rattle.arrivals.specs.Ways.{Way}
 use Rattle.arrivals.specs.Computed.{arrival, waited, walks, leadsb, at_step, arrivals_to, arrivals, unledb, leading}
 use Rattle.arrivals.specs.Arrivals.{Arrival, key_of, Arrives, Leads, Leading}
