@@ -1,5 +1,5 @@
--- The ways, the arrivals and the leading arrivals of a sheet, enumerated. Need not be believed: Laws.Trails and Laws.Leading say that the lists hold exactly
--- the ways, `Arrives` and `Leading`, in order (`leading-is`, `is_leading`, `leading-ascending`).
+-- The ways, the arrivals and the leading arrivals of a sheet, enumerated. Need not be believed: Laws.Trails and proofs/Leading.antt say that the lists hold
+-- exactly the ways, `Arrives` and `Leading`, in order (`leading-is`, `is_leading`, `leading-ascending`).
 use Rattle.std.specs.Prelude.{List, ◌∷◌, map, ◌++◌, [], ℕ, zero, suc, ◌-◌, Bool, not, ◌&&◌, eqb, leb}
 use Rattle.sheet.specs.Lists.{keep, filter, bind, all}
 use Rattle.sheet.specs.Sorting.{sortUnique}

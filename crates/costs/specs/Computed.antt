@@ -1,5 +1,5 @@
--- The orders on costs and the crossings of a sheet, computed. Need not be believed: Laws.Figures and Laws.Moves say that they are `AtMost`, `Dominates`,
--- equality and `Crossing`.
+-- The orders on costs and the crossings of a sheet, computed. Need not be believed: Laws.Figures and proofs/Moves.antt say that they are `AtMost`,
+-- `Dominates`, equality and `Crossing`.
 use Rattle.std.specs.Prelude.{Bool, true, false, not, ◌&&◌, List, [], ◌∷◌, ℕ, leb, eqb}
 use Rattle.costs.specs.Costs.{Cost}
 use Rattle.sheet.specs.Lists.{filter, any}

@@ -4,3 +4,5 @@ pub mod Occupancies
 pub mod Begins
 pub mod Fill
 pub mod Staying
+pub mod Runs
+pub mod Horizon

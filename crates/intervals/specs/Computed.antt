@@ -1,5 +1,5 @@
--- Runs and safe intervals, computed, and what the promises of the code cite. Need not be believed: Laws.Runs says that they are `Run` and `Interval`
--- (`runb-true`, `intervals-are`, `are-intervals`, `since-is`, `is-since`).
+-- Runs and safe intervals, computed, and what the promises of the code cite. Need not be believed: Laws.Runs and proofs/Runs.antt say that they are `Run`
+-- and `Interval` (`runb-true`, `intervals-are`, `are-intervals`, `since-is`, `is-since`).
 use Rattle.std.specs.Prelude.{Bool, ◌&&◌, List, [], ◌∷◌, ◌++◌, map, ℕ, zero, suc, ◌+◌, ◌-◌, eqb, leb}
 use Rattle.sheet.specs.Lists.{pick, filter}
 use Rattle.sheet.specs.Sheet.{Sheet, steps}

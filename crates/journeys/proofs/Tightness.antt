@@ -20,7 +20,8 @@ use Rattle.arrivals.specs.Arrivals.{Arrival, Leading, key_of}
 use Rattle.arrivals.specs.Computed.{arrival}
 use Rattle.arrivals.specs.Rows.{row_at}
 use Rattle.arrivals.specs.Laws.Bounds.{arrives-place}
-use Rattle.arrivals.specs.Laws.Leading.{arrival-path, leading-is, is_leading, leading-ascending}
+use Rattle.arrivals.specs.Laws.Leading.{arrival-path}
+use Rattle.arrivals.proofs.Leading.{leading-is, is_leading, leading-ascending}
 use Rattle.journeys.specs.Journeys.{Counts}
 use Rattle.journeys.specs.Front.{OnFront}
 use Rattle.journeys.specs.Held.{row_of, table_rows, Holds, Endable}

@@ -3,7 +3,8 @@
 -- Assumes nothing.
 use native.Mathlib.Omega.{arith}
 use Rattle.intervals.specs.FirstSteps.{some-derived}
-use Rattle.arrivals.specs.Inner.Ending.{ends_as, search-end}
+use Rattle.arrivals.specs.Inner.Ending.{ends_as}
+use Rattle.arrivals.proofs.Ending.{search-end}
 use Rattle.arrivals.specs.Inner.Lent.{given-linked}
 use Rattle.arrivals.specs.Inner.OfSheet.{whole-store, head_at, few-steps, fits, given}
 use Rattle.arrivals.specs.Inner.Rows.{zeros-at}

@@ -1,19 +1,15 @@
 -- What the leading arrivals depend on: the start, the horizon, the waiting costs, and within the horizon the crossings and which places are free at which
 -- steps. So neither the goal nor the time to unload there plays a part, and a step past T has no effect.
-use Rattle.std.specs.Prelude.{◌≡◌, refl, Bool, List, [], ◌∷◌, ℕ, suc, ◌-◌, ◌≤◌, ◌<◌, ltb, set}
-use Rattle.std.proofs.Common.{sym, ◌∙◌, subst, arith, get_or-set_other, lt-ltb}
+use Rattle.std.specs.Prelude.{◌≡◌, refl, Bool, List, [], ◌∷◌, ℕ, suc, ◌≤◌, ◌<◌, ltb, set}
+use Rattle.std.proofs.Common.{sym, ◌∙◌, subst, arith, lt-ltb}
 use Rattle.sheet.specs.Lists.{◌∈◌, number}
 use Rattle.sheet.specs.Sheet.{Sheet, steps, start, departure}
 use Rattle.sheet.specs.Laws.Members.{filter-mem, mem-filter}
-use Rattle.sheet.specs.Laws.Ascending.{ascending-unique}
-use Rattle.costs.specs.Costs.{Cost, add, times, AtMost}
+use Rattle.costs.specs.Costs.{Cost}
 use Rattle.costs.specs.Moves.{wait_of, Closed, Crossing}
-use Rattle.intervals.specs.Intervals.{freeb, Together}
-use Rattle.intervals.specs.Laws.Horizon.{SameWithin, same_back, same-interval, within_horizon, past-horizon}
+use Rattle.intervals.specs.Laws.Horizon.{SameWithin, same_back, within_horizon, past-horizon}
 use Rattle.arrivals.specs.Ways.{Move, waits, crosses, Way}
-use Rattle.arrivals.specs.Arrivals.{Arrival, key_of, Arrives, Leads, Leading}
-use Rattle.arrivals.specs.Computed.{leading}
-use Rattle.arrivals.specs.Laws.Leading.{leading-is, is_leading, leading-ascending}
+use Rattle.arrivals.specs.Arrivals.{Arrival, Arrives}
 
 -- two sheets on which the same ways are lawful within the horizon
 pub record Alike (s r : Sheet) : Type 0 where
@@ -45,35 +41,12 @@ pub alike-arrives : (s r : Sheet) → Alike s r → (a : Arrival) → Arrives s 
 alike-arrives s r h a k =
     record { path = k.path; way = alike-way s r h a.step k.path a.cost k.in-time k.way; stands = k.stands; in-time = omega (arith, k.in-time, h.within.horizon) }
 
-alike-together : (s r : Sheet) → Alike s r → (v t t' : ℕ) → Together s v t t' → Together r v t t'
-alike-together s r h v t t' k = (k.0, k.1, same-interval s r h.within v k.0 k.1 k.2, k.3, k.4, k.5, k.6)
-
-alike-leads : (s r : Sheet) → Alike s r → (a b : Arrival) → Leads s a b → Leads r a b
-alike-leads s r h a b k =
-    record {
-      differ = k.differ;
-      same_place = k.same_place;
-      together = alike-together s r h b.place a.step b.step k.together;
-      no-later = k.no-later;
-      no-dearer = subst (λ (w : Cost). AtMost (add a.cost (times (b.step - a.step) w)) b.cost) (h.wait b.place) k.no-dearer;
-    }
-
-alike-leading : (s r : Sheet) → Alike s r → (a : Arrival) → Leading s a → Leading r a
-alike-leading s r h a k =
-    record { arrives = alike-arrives s r h a k.arrives; unled = λ b j d. k.unled b (alike-arrives r s (alike-back s r h) b j) (alike-leads r s (alike-back s r h) b a d) }
-
-pub leading-alike : (s r : Sheet) → Alike s r → leading s ≡ leading r
-leading-alike s r h =
-    ascending-unique key_of (leading s) (leading r) (leading-ascending s) (leading-ascending r)
-    (λ a m. is_leading r a (alike-leading s r h a (leading-is s a m)))
-    (λ a m. is_leading s a (alike-leading r s (alike-back s r h) a (leading-is r a m)))
-
 -- the sheet with another goal and another time to unload there
 unfoldable pub with_goal : Sheet → ℕ → ℕ → Sheet
 with_goal s g u = record { head = set (set s.head 3 g) 4 u; waits = s.waits; corridors = s.corridors; closures = s.closures; occupancies = s.occupancies }
 
 -- a crossing on a sheet with the same corridors, where it is not closed
-same-crossing : (s r : Sheet) → s.corridors ≡ r.corridors → (u v t : ℕ) (c : Cost) → (Closed r u v t → Closed s u v t) → Crossing s u v t c → Crossing r u v t c
+pub same-crossing : (s r : Sheet) → s.corridors ≡ r.corridors → (u v t : ℕ) (c : Cost) → (Closed r u v t → Closed s u v t) → Crossing s u v t c → Crossing r u v t c
 same-crossing s r e u v t c f x =
     record {
       line = x.line;
@@ -83,24 +56,6 @@ same-crossing s r e u v t c f x =
       price = x.price;
       opens = λ m. x.opens (f m);
     }
-
-goal-alike : (s : Sheet) (g u : ℕ) → Alike (with_goal s g u) s
-unfolding with_goal wait_of freeb
-goal-alike s g u =
-    record {
-      starts = other 2 (λ e. omega arith) (omega arith);
-      within = record { horizon = other 1 (λ e. omega arith) (omega arith); free = λ v t l. refl };
-      wait = λ v. refl;
-      forth = λ p q t c l. same-crossing (with_goal s g u) s refl p q t c (λ m. m);
-      back = λ p q t c l. same-crossing s (with_goal s g u) refl p q t c (λ m. m);
-    }
-  where
-    other : (i : ℕ) → (i ≡ 3 → ⊥) → i < 4 → number (set (set s.head 3 g) 4 u) i ≡ number s.head i
-    other i n h = get_or-set_other (set s.head 3 g) 4 i u 0 (λ e. omega arith) ∙ get_or-set_other s.head 3 i g 0 n
-
--- the goal and the time to unload play no part
-pub leading-any-goal : (s : Sheet) (g u : ℕ) → leading (with_goal s g u) ≡ leading s
-leading-any-goal s g u = leading-alike (with_goal s g u) s (goal-alike s g u)
 
 -- a step past T has no effect
 pub horizon-alike : (s : Sheet) → Alike (within_horizon s) s
@@ -116,6 +71,3 @@ horizon-alike s =
   where
     soon : List ℕ → Bool
     soon x = ltb (departure x) (steps s)
-
-pub leading-within-horizon : (s : Sheet) → leading (within_horizon s) ≡ leading s
-leading-within-horizon s = leading-alike (within_horizon s) s (horizon-alike s)

@@ -13,7 +13,8 @@ use Rattle.costs.specs.Costs.{Cost, figures, zero_cost, add}
 use Rattle.costs.specs.Laws.Figures.{length-add}
 use Rattle.costs.specs.Moves.{wait_of, cost_of}
 use Rattle.costs.specs.Computed.{leaving}
-use Rattle.costs.specs.Laws.Moves.{wait-three, crossing-three, leaving-crossing, crossing-leaving}
+use Rattle.costs.specs.Laws.Moves.{wait-three, crossing-three}
+use Rattle.costs.proofs.Moves.{leaving-crossing, crossing-leaving}
 use Rattle.intervals.specs.Intervals.{Free, freeb}
 use Rattle.arrivals.specs.Ways.{Move, waits, crosses, total, Way}
 use Rattle.arrivals.specs.Computed.{Walk, Target, across, targets, onward, grow, walks}

@@ -1,16 +1,15 @@
--- Laws of waits and crossings: all that the crates above know of the definitions. A cost has three figures; what leaves a place crosses;
--- on a valid sheet a crossing has one cost, and no figure is above 60,000; a crossing is by one of the corridors, which the array counts.
-use Rattle.std.specs.Prelude.{◌≡◌, refl, Bool, true, false, not, ◌&&◌, List, [], ◌∷◌, ◌⊎◌, ℕ, zero, suc, ◌/◌, ◌+◌, ◌≤◌, ◌<◌, eqb, length, get_or, take}
-use Rattle.std.proofs.Common.{sym, ◌∙◌, ap, subst, true≢false, inl, inr, arith, zero-add, eqb-true, eq-eqb}
+-- Laws of waits and crossings: all that the crates above know of the definitions, with proofs/Moves.antt, which says that what leaves a place crosses.
+-- A cost has three figures; on a valid sheet a crossing has one cost, and no figure is above 60,000; a crossing is by one of the corridors, which the
+-- array counts.
+use Rattle.std.specs.Prelude.{◌≡◌, true, List, [], ◌∷◌, ◌⊎◌, ℕ, zero, suc, ◌/◌, ◌+◌, ◌≤◌, ◌<◌, length, get_or, take}
+use Rattle.std.proofs.Common.{sym, ◌∙◌, ap, subst, inl, inr, arith, zero-add}
 use Rattle.std.proofs.Math.ListN.{get_or-eq_default}
-use Rattle.std.proofs.lemmas.Bool.{not-true}
 use Rattle.sheet.specs.Lists.{◌∈◌, number, numbers_from}
 use Rattle.sheet.specs.Kinds.{width, kind_c}
 use Rattle.sheet.specs.Sheet.{Sheet, places, place_of, from, to}
 use Rattle.sheet.specs.Valid.{Valid}
 use Rattle.sheet.specs.Store.{SomeStore, part_of, sheet_in}
-use Rattle.sheet.specs.Laws.Order.{and-true, true-and}
-use Rattle.sheet.specs.Laws.Members.{filter-mem, mem-filter, any-mem, mem-any, mem-at, position-of}
+use Rattle.sheet.specs.Laws.Members.{mem-at, position-of}
 use Rattle.sheet.specs.Laws.Ascending.{ascending-once}
 use Rattle.sheet.specs.Laws.Decided.{yes_of, is-yes, lt-or-le, from-length}
 use Rattle.sheet.specs.Laws.Turns.{turned-at}
@@ -18,9 +17,7 @@ use Rattle.sheet.specs.Laws.Rows.{rows-count}
 use Rattle.sheet.specs.Laws.Store.{store-numbers}
 use Rattle.costs.specs.Costs.{Cost, figures, fig}
 use Rattle.costs.specs.Moves.{wait_of, cost_of, Closed, Crossing}
-use Rattle.costs.specs.Computed.{sameb, closedb, leaving}
 use Rattle.costs.specs.Priced.{CrossingBy, CorridorIs}
-use Rattle.costs.specs.Laws.Figures.{sameb-true, sameb-refl}
 use Rattle.costs.specs.declared.Corridor.{Corridor}
 
 pub wait-three : (s : Sheet) (v : ℕ) → length (wait_of s v) ≡ figures
@@ -39,33 +36,6 @@ cost-three k = from-length figures 2 k
 
 pub crossing-three : {s : Sheet} {u v t : ℕ} {c : Cost} → Crossing s u v t c → length c ≡ figures
 crossing-three k = ap length k.price ∙ cost-three k.line
-
--- closures, computed
-never_true : (b : Bool) → (b ≡ true → ⊥) → not b ≡ true
-never_true true n = absurd (n refl)
-never_true false n = refl
-
-pub closed-closedb : (s : Sheet) (u v t : ℕ) → Closed s u v t → closedb s u v t ≡ true
-closed-closedb s u v t m = mem-any (sameb (u ∷ v ∷ t ∷ [])) s.closures (u ∷ v ∷ t ∷ []) m (sameb-refl (u ∷ v ∷ t ∷ []))
-
-pub closedb-closed : (s : Sheet) (u v t : ℕ) → closedb s u v t ≡ true → Closed s u v t
-closedb-closed s u v t e =
-    let r = any-mem (sameb (u ∷ v ∷ t ∷ [])) s.closures e in
-    subst (λ (x : List ℕ). x ∈ s.closures) (sym (sameb-true (u ∷ v ∷ t ∷ []) r.0 r.2)) r.1
-
-pub leaving-crossing : (s : Sheet) (u t : ℕ) (k : List ℕ) → k ∈ leaving s u t → Crossing s u (to k) t (cost_of k)
-unfolding leaving
-leaving-crossing s u t k m =
-    let q = filter-mem (λ (k : List ℕ). eqb (from k) u && not (closedb s u (to k) t)) k s.corridors m in
-    let r = and-true (eqb (from k) u) (not (closedb s u (to k) t)) q.1 in
-    record { line = k; listed = q.0; leaves = eqb-true _ _ r.0; enters = refl; price = refl; opens = λ x. true≢false (sym (closed-closedb s u (to k) t x) ∙ not-true (closedb s u (to k) t) r.1) }
-
-pub crossing-leaving : (s : Sheet) (u v t : ℕ) (c : Cost) (x : Crossing s u v t c) → x.line ∈ leaving s u t
-unfolding leaving
-crossing-leaving s u v t c x =
-    mem-filter (λ (k : List ℕ). eqb (from k) u && not (closedb s u (to k) t)) x.line s.corridors x.listed
-    (true-and (eqb (from x.line) u) (not (closedb s u (to x.line) t)) (eq-eqb _ _ x.leaves)
-    (never_true (closedb s u (to x.line) t) (λ e. x.opens (closedb-closed s u v t (sym (ap (λ (w : ℕ). closedb s u w t) x.enters) ∙ e)))))
 
 -- a figure of n numbers that stand from position i on is one of them, or past the end
 from-within : (n i m : ℕ) (l : List ℕ) → ((j : ℕ) → i ≤ j → j < i + n → number l j ≤ m) → (j : ℕ) → fig (numbers_from n i l) j ≤ m

@@ -1,11 +1,11 @@
 -- "A step past T has no effect" (document 01, "The sheet"): with the occupancies cut off at the horizon, every place is free at the same
--- steps within 0 to T, and has the same safe intervals.
-use Rattle.std.specs.Prelude.{◌≡◌, refl, ◌⊎◌, Bool, true, false, not, List, [], ◌∷◌, map, ℕ, ◌+◌, ◌-◌, ◌≤◌, ltb, leb}
-use Rattle.std.proofs.Common.{sym, ◌∙◌, inl, inr, arith, leb-true, leb-false}
+-- steps within 0 to T, and has the same safe intervals (proofs/Horizon.antt).
+use Rattle.std.specs.Prelude.{◌≡◌, refl, Bool, true, false, not, List, [], ◌∷◌, map, ℕ, ◌≤◌, ltb, leb}
+use Rattle.std.proofs.Common.{sym, arith, leb-false}
 use Rattle.sheet.specs.Lists.{pick, filter, all}
 use Rattle.sheet.specs.Sheet.{Sheet, steps, departure, place_of, first, last}
 use Rattle.sheet.specs.Laws.Order.{bool_same}
-use Rattle.intervals.specs.Intervals.{occupiesb, freeb, Interval}
+use Rattle.intervals.specs.Intervals.{occupiesb, freeb}
 use Rattle.intervals.specs.Laws.Free.{occupiesb-true, occupies-occupiesb}
 
 -- two sheets with one horizon, whose places are free at the same steps within it
@@ -15,28 +15,6 @@ pub record SameWithin (s r : Sheet) : Type 0 where
 
 pub same_back : (s r : Sheet) → SameWithin s r → SameWithin r s
 same_back s r h = record { horizon = sym h.horizon; free = λ v t l. sym (h.free v t (omega (arith, h.horizon))) }
-
-pub same-interval : (s r : Sheet) → SameWithin s r → (v a b : ℕ) → Interval s v a b → Interval r v a b
-same-interval s r h v a b i =
-    record {
-      ordered = i.ordered;
-      within = omega (arith, i.within, h.horizon);
-      free = λ t p q. sym (h.free v t (omega (arith, i.within))) ∙ i.free t p q;
-      no-sooner = sooner i.no-sooner;
-      no_longer = longer i.no_longer;
-    }
-  where
-    sooner : (a ≡ 0) ⊎ (freeb s v (a - 1) ≡ false) → (a ≡ 0) ⊎ (freeb r v (a - 1) ≡ false)
-    sooner (inl e) = inl e
-    sooner (inr e) = inr (sym (h.free v (a - 1) (omega (arith, i.ordered, i.within))) ∙ e)
-
-    longer : (b ≡ steps s) ⊎ (freeb s v (b + 1) ≡ false) → (b ≡ steps r) ⊎ (freeb r v (b + 1) ≡ false)
-    longer (inl e) = inl (e ∙ h.horizon)
-    longer (inr e) = go (leb (b + 1) (steps s)) refl
-      where
-        go : (x : Bool) → leb (b + 1) (steps s) ≡ x → (b ≡ steps r) ⊎ (freeb r v (b + 1) ≡ false)
-        go true f = inr (sym (h.free v (b + 1) (leb-true _ _ f)) ∙ e)
-        go false f = inl (omega (arith, i.within, h.horizon, leb-false (b + 1) (steps s) f))
 
 -- an occupancy cut off at T
 abbrev pub cut_off : ℕ → List ℕ → List ℕ

@@ -29,7 +29,7 @@ use Rattle.journeys.specs.Demand2.{cost_at, ListsFront, arrival_at, ListsLeading
 use Rattle.journeys.specs.Laws.Journeys.{has-three, journey_of-selected, journey-length}
 use Rattle.journeys.specs.Laws.Front.{front-on, on-front, front-ascending, front-empty}
 use Rattle.journeys.specs.Laws.Goal.{selected-earliest}
-use Rattle.arrivals.specs.Laws.Leading.{leading-is, is_leading, leading-ascending}
+use Rattle.arrivals.proofs.Leading.{leading-is, is_leading, leading-ascending}
 use Rattle.journeys.specs.Laws.Searched.{Ready, ready-is, rows-length}
 use Rattle.journeys.specs.Laws.Rows.{keys-ascend, table-row}
 use Rattle.journeys.specs.Laws.Served.{served, member, list_length, row_listed, listed}

@@ -14,7 +14,8 @@ use Rattle.arrivals.specs.Ways.{Move, Way}
 use Rattle.arrivals.specs.Arrivals.{Arrival, key_of, Arrives, Leading}
 use Rattle.arrivals.specs.Computed.{arrival, waited}
 use Rattle.arrivals.specs.Laws.Trails.{way_on, way-three}
-use Rattle.arrivals.specs.Laws.Leading.{key-inj, fig-waited, arrives-three, Covers, covers-leads, Led, led}
+use Rattle.arrivals.specs.Laws.Leading.{key-inj, fig-waited, arrives-three, Covers, Led}
+use Rattle.arrivals.proofs.Leading.{covers-leads, led}
 use Rattle.arrivals.specs.Laws.Steps.{arrives-until}
 use Rattle.journeys.specs.Journeys.{Counts, Journey, HasCost}
 use Rattle.journeys.specs.Front.{OnFront}

@@ -12,7 +12,8 @@ use Rattle.costs.specs.Costs.{Cost, AtMost, Dominates}
 use Rattle.costs.specs.Laws.Figures.{undominated-same, at-most-dominates}
 use Rattle.arrivals.specs.Arrivals.{Arrival, Arrives, Leading}
 use Rattle.arrivals.specs.Computed.{arrival, leading}
-use Rattle.arrivals.specs.Laws.Leading.{arrival-path, fig-waited, Led, led, leading-is, is_leading}
+use Rattle.arrivals.specs.Laws.Leading.{arrival-path, fig-waited, Led}
+use Rattle.arrivals.proofs.Leading.{led, leading-is, is_leading}
 use Rattle.journeys.specs.Journeys.{Counts, Journey, HasCost, rank, Selected}
 use Rattle.journeys.specs.Computed.{countsb, journey_of, arrival_of, self, front_of, front}
 use Rattle.journeys.specs.Front.{OnFront}

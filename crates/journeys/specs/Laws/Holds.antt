@@ -18,7 +18,8 @@ use Rattle.costs.specs.Laws.Figures.{sameb-true, sameb-refl}
 use Rattle.arrivals.specs.Arrivals.{Arrival, key_of, Arrives}
 use Rattle.arrivals.specs.Computed.{arrival, leading}
 use Rattle.arrivals.specs.Table.{arrival_row, arrival_table}
-use Rattle.arrivals.specs.Laws.Leading.{arrival-path, leading-is, is_leading, leading-ascending, arrives-three}
+use Rattle.arrivals.specs.Laws.Leading.{arrival-path, arrives-three}
+use Rattle.arrivals.proofs.Leading.{leading-is, is_leading, leading-ascending}
 use Rattle.journeys.specs.Computed.{countsb, arrival_of, front_of, front}
 use Rattle.journeys.specs.Front.{OnFront}
 use Rattle.journeys.specs.Held.{row_of, table_rows, Holds}

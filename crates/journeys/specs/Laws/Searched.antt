@@ -10,7 +10,8 @@ use Rattle.sheet.specs.Laws.Stores.{length-filled}
 use Rattle.arrivals.specs.Computed.{leading}
 use Rattle.arrivals.specs.Table.{crowded, arrival_row, arrival_table}
 use Rattle.arrivals.specs.Search.{SearchEnd, search_on}
-use Rattle.arrivals.specs.Laws.Leading.{leading-is, arrives-three}
+use Rattle.arrivals.specs.Laws.Leading.{arrives-three}
+use Rattle.arrivals.proofs.Leading.{leading-is}
 use Rattle.journeys.specs.Calls.{cleared}
 use Rattle.journeys.specs.Held.{Holds}
 use Rattle.journeys.specs.Laws.Holds.{table-holds}

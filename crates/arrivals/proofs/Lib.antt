@@ -1,0 +1,4 @@
+pub mod Leading
+pub mod Alike
+pub mod Meaning
+pub mod Ending
