@@ -6,7 +6,8 @@ use native.Mathlib.Omega.{arith}
 use lib.Seq.{length-take-le}
 use Rattle.sheet.specs.Laws.Puts.{puts-as}
 use Rattle.page.specs.Laws.Room.{two-long}
-use Rattle.page.specs.Laws.Whole.{refused-on, few, served-offers, served-whole}
+use Rattle.page.specs.Laws.Whole.{refused-on, few, served-whole}
+use Rattle.page.proofs.Whole.{served-offers}
 use Rattle.page.proofs.put_searched.Goals as goal
 
 pub returns-then-r-ne0 : goal.returns-then-r-ne0
