@@ -17,3 +17,4 @@ pub mod Passing
 pub mod FrontRows
 pub mod Comparing
 pub mod Listing
+pub mod Forwards

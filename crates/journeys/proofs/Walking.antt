@@ -32,7 +32,8 @@ use Rattle.journeys.specs.Inner.Walk.{Marked, after, NextOf, LowestNext, Walkabl
 use Rattle.journeys.specs.Laws.Exact.{Waits, Goes, Home, Rest, Towards, towards-within, towards-next}
 use Rattle.journeys.specs.Laws.Goal.{Earliest, arrival_of-earliest}
 use Rattle.journeys.specs.Laws.Journeys.{has-three, journey_of-selected, journey-length}
-use Rattle.journeys.specs.Laws.Tie.{Walked, walked_start, walked_on, walked_end, journey-forth, first-journey_of}
+use Rattle.journeys.specs.Laws.Tie.{Walked, walked_start, walked_on, walked_end, journey-forth}
+use Rattle.journeys.proofs.Forwards.{first-journey_of}
 use Rattle.journeys.specs.Laws.Tight.{Tight, reached-tight, tight-reached}
 use Rattle.journeys.proofs.Marking.{same-rowed, bared-back}
 use Rattle.journeys.proofs.Tightness.{low-place, end-rowed}

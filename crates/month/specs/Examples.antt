@@ -1,9 +1,8 @@
--- Small months at the ends of the sentences of E3 and E7, document 02, computed: from the bytes on standard input to those printed, one table, one theorem.
+-- Small months at the ends of the sentences of E3 and E7, document 02, from the bytes on standard input to those printed, one table;
+-- proofs/Examples.antt computes them all, one theorem.
 -- Laws/Cut.antt has the 4,097th line (`almost-page`, `almost-ended`).
-use Rattle.std.specs.Prelude.{◌≡◌, refl, List, [], ◌∷◌, map}
+use Rattle.std.specs.Prelude.{List, [], ◌∷◌}
 use Prim.Native.String.{String}
-use Rattle.sheet.specs.Laws.Ascii.{bytes}
-use Rattle.month.specs.Month.{page}
 
 pub record Printed : Type 0 where
   pub input : String
@@ -37,7 +36,3 @@ months =
     ∷ shows "M,1,2,3\nM,99999999,2,3\n" "R,4,2\n"
     ∷ shows "M,99999999,2,x\n" "R,2,1\n"
     ∷ []
-
-pub months-printed : map (λ e. page (bytes e.input)) months ≡ map (λ e. bytes e.output) months
-unfolding page
-months-printed = refl

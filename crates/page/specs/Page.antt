@@ -45,7 +45,7 @@ unfoldable pub page : List ℕ → List ℕ
 unfolding page_on refusal_line read_of
 page b = told refusal_line page_on (read_of b)
 
--- the room for a page, in bytes: none is longer (Laws.Room.page-fits)
+-- the room for a page, in bytes: none is longer (Room.page-fits)
 abbrev pub page_room : ℕ
 page_room = 163840
 

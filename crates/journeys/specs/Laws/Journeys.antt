@@ -144,8 +144,9 @@ journey_of-selected s g h = go (sortUnique rank l) (λ p m. paths-journey s g p 
     l : List (List ℕ)
     l = map path_of (filter (with_cost g) (journeys s))
 
+    -- so of a rank with the places in the other order
     inj : (a b : List ℕ) → rank a ≡ rank b → a ≡ b
-    inj a b e = cc
+    inj a b e = let h : reverse a ≡ reverse b = cc in sym (reverse-reverse a) ∙ ap reverse h ∙ reverse-reverse b
 
     go : (k : List (List ℕ)) → ((p : List ℕ) → p ∈ k → Journey s p g) → ((p : List ℕ) → Journey s p g → p ∈ k) → Ascending rank k → Selected s g (head_or [] k)
     go [] f r a = absurd (r h.0 h.1)

@@ -1,8 +1,8 @@
 -- The tie rule read forwards: from the start, at each step the lowest place from which the cost can still be reached at the earliest arrival gives the
--- journey that the tie rule selects. Of the ways on, the first goes to that lowest place and is from there the first; `Walked` is the invariant of
--- the walk that goes so. A lawful journey is a way on from the start, and the other way round.
-use Rattle.std.specs.Prelude.{◌≡◌, refl, ◌⊎◌, ◌≢◌, Bool, true, false, List, [], ◌∷◌, ◌++◌, ℕ, zero, suc, ◌+◌, ◌≤◌, ◌<◌, length, drop, eqb, ltb}
-use Rattle.std.proofs.Common.{sym, ◌∙◌, ap, subst, inl, inr, append-nil, arith, drop-cons, eqb-true, ltb-true, ltb-false}
+-- journey that the tie rule selects (proofs/Forwards.antt). Of the ways on, the first goes to that lowest place and is from there the first; `Walked` is the
+-- invariant of the walk that goes so. A lawful journey is a way on from the start, and the other way round.
+use Rattle.std.specs.Prelude.{◌≡◌, refl, ◌⊎◌, ◌≢◌, Bool, true, false, List, [], ◌∷◌, ◌++◌, ℕ, zero, suc, ◌+◌, ◌≤◌, ◌<◌, length, drop, eqb}
+use Rattle.std.proofs.Common.{sym, ◌∙◌, ap, subst, inl, inr, append-nil, arith, drop-cons, eqb-true}
 use Rattle.std.proofs.Math.Seq.{append_snoc, drop-length}
 use Rattle.std.proofs.lemmas.Bool.{eqb-false}
 use Rattle.sheet.specs.Lists.{number, Lex}
@@ -11,10 +11,7 @@ use Rattle.costs.specs.Costs.{Cost, figures, zero_cost, add}
 use Rattle.intervals.specs.Intervals.{Free}
 use Rattle.arrivals.specs.Ways.{Move, total, Way}
 use Rattle.arrivals.specs.Laws.Trails.{way-three}
-use Rattle.journeys.specs.Journeys.{Journey, rank, Selected}
-use Rattle.journeys.specs.Computed.{journey_of}
-use Rattle.journeys.specs.Laws.Journeys.{selected-unique, journey_of-selected}
-use Rattle.journeys.specs.Laws.Goal.{AtGoal, journey-at}
+use Rattle.journeys.specs.Journeys.{Journey}
 use Rattle.journeys.specs.Laws.Exact.{Goes, Home, Rest, Towards, rest_end, rest_back, RestOn, rest-on, ahead-journey}
 
 -- one cost for each move, as on every valid sheet (`move-once`)
@@ -127,29 +124,3 @@ rest-journey s f A p fr r = subst (Journey s (start s ∷ p)) r.sum (ahead-journ
           moves = λ t l. absurd (omega arith);
           sum = refl;
         }
-
--- the first from the start, to the earliest arrival, is the journey that the tie rule selects
-first-selected : (s : Sheet) (f : Cost) (A : ℕ) (p : List ℕ) → Free s (start s) 0 → ((t : ℕ) → t < A → AtGoal s t f → ⊥) → First s f A (start s) 0 zero_cost p → Selected s f (start s ∷ p)
-first-selected s f A p fr none k = record { journey = rest-journey s f A p fr k.rest; first = λ q j. first q j (journey-forth s f q j) }
-  where
-    first : (q : List ℕ) (j : Journey s q f) → Forth s f j.A q → (start s ∷ p ≡ q) ⊎ Lex (rank (start s ∷ p)) (rank q)
-    first q j x = subst (λ (l : List ℕ). (start s ∷ p ≡ l) ⊎ Lex (rank (start s ∷ p)) (rank l)) (sym x.whole) (go (ltb j.A A) (ltb A j.A) refl refl)
-      where
-        r : List ℕ
-        r = x.after
-
-        under : length p ≡ length r → (p ≡ r) ⊎ Lex p r → (◌≡◌ {A = List ℕ} (start s ∷ p) (start s ∷ r)) ⊎ Lex (rank (start s ∷ p)) (rank (start s ∷ r))
-        under e (inl d) = inl (ap (λ (l : List ℕ). start s ∷ l) d)
-        under e (inr d) = inr (inr (omega (arith, e), inr (refl, d)))
-
-        go : (b c : Bool) → ltb j.A A ≡ b → ltb A j.A ≡ c → (◌≡◌ {A = List ℕ} (start s ∷ p) (start s ∷ r)) ⊎ Lex (rank (start s ∷ p)) (rank (start s ∷ r))
-        go true c e d = absurd (none j.A (ltb-true j.A A e) (journey-at s q f j))
-        go false true e d = inr (inl (omega (arith, ltb-true A j.A d, k.rest.until, x.rest.until)))
-        go false false e d =
-            let z : j.A ≡ A = omega (arith, ltb-false j.A A e, ltb-false A j.A d) in
-            under (omega (arith, z, k.rest.until, x.rest.until)) (k.least r (subst (λ (n : ℕ). Rest s f n (start s) 0 zero_cost r) z x.rest))
-
-pub first-journey_of : (s : Sheet) (f : Cost) (A : ℕ) (p : List ℕ) → Free s (start s) 0 → ((t : ℕ) → t < A → AtGoal s t f → ⊥) → First s f A (start s) 0 zero_cost p → journey_of s f ≡ start s ∷ p
-first-journey_of s f A p fr none k =
-    let c = first-selected s f A p fr none k in
-    selected-unique s f (journey_of s f) (start s ∷ p) (journey_of-selected s f (start s ∷ p, c.journey)) c

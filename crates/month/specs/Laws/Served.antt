@@ -1,7 +1,7 @@
 -- A month is served exactly when its bytes are 1 to 4,096 lines `M,c1,c2,c3`, each figure at most 15,300,000 (document 02, E3).
 -- Judging goes line by line. Of a month that is collected it says that the bytes were all read as lines, that the costs are the numbers of the lines,
 -- and that no line had a fault: none has a figure outside its limit, and none comes after 4,096. What was read as lines is their text, so the bytes are known.
--- The other way the text of such lines reads as the lines, and none has a fault after those before it. No printed number then loses a digit.
+-- The other way the text of such lines reads as the lines, and none has a fault after those before it.
 use Rattle.std.specs.Prelude.{◌≡◌, refl, Bool, true, false, List, [], ◌∷◌, ◌++◌, map, ℕ, zero, suc, ◌+◌, ◌≤◌, ◌<◌, leb, eqb, length, get_or}
 use Rattle.std.proofs.Common.{sym, ◌∙◌, ap, ap₂, subst, inl, inr, ⊎_elim, append-nil, arith, length-append, leb-false, eqb-true}
 use Rattle.std.proofs.Math.Option.{Option, some, none}
@@ -9,23 +9,17 @@ use Rattle.std.proofs.Math.Seq.{append_snoc}
 use Rattle.std.proofs.lemmas.Bool.{lt-leb}
 use Rattle.sheet.specs.Lists.{pick, number, ◌∈◌, bind}
 use Rattle.sheet.specs.Bytes.{kind_of}
-use Rattle.sheet.specs.Decimal.{number_of, digits_of}
 use Rattle.sheet.specs.Kinds.{place}
 use Rattle.sheet.specs.Lines.{Line, line, text_lines}
 use Rattle.sheet.specs.Sheet.{outside, first_failed}
 use Rattle.sheet.specs.Text.{printed, line_text}
-use Rattle.sheet.specs.Laws.Decimal.{write_read}
 use Rattle.sheet.specs.Laws.Limits.{In, inside-within, within-inside, at-within, most-from}
 use Rattle.sheet.specs.Laws.LineText.{Small, Lettered, lettered, lines-back, lines-unread}
 use Rattle.sheet.specs.Laws.Members.{map-mem, position-of}
 use Rattle.sheet.specs.Laws.Shape.{ShapedIn, AllShapedIn}
 use Rattle.costs.specs.Costs.{Cost}
 use Rattle.costs.specs.Priced.{Within}
-use Rattle.month.specs.Month.{kind_m, figure_digits, Month, refused, collected, tests, fault, whole, judge, month_of, figures_at, total, least, greatest, mean, total_digits}
-use Rattle.month.specs.Inner.{most_total}
-use Rattle.month.specs.Laws.Figures.{least-in, greatest-in, figures-count, figures-within}
-use Rattle.month.specs.Laws.Mean.{mean-most}
-use Rattle.month.specs.Laws.Page.{total-small}
+use Rattle.month.specs.Month.{kind_m, figure_digits, Month, refused, collected, tests, fault, whole, judge, month_of, figures_at, total, least, greatest, mean}
 
 -- what a served month is: its bytes are the lines of its costs, 1 to 4,096 of them, each of three figures, none above 15,300,000
 pub record MonthIs (m : Month) (b : List ℕ) : Type 0 where
@@ -197,31 +191,6 @@ is-served b m r =
     ∙ judge-costs [] m (omega (arith, r.few)) (λ c i. within-limits c (r.inside c i))
     ∙ whole-collected m r.some-line
 
--- no number on the page of a served month loses a digit: all are at most one more than the greatest total
+-- the numbers on the page of a month, of the figure at position i; that none of a served month loses a digit is shown in proofs/Served.antt
 abbrev pub printed_of : Month → ℕ → List ℕ
 printed_of m i = let ns = figures_at i m in total ns ∷ least ns ∷ greatest ns ∷ mean (total ns) (length ns) ∷ []
-
-numbers-small : (b : List ℕ) (m : Month) (i : ℕ) → month_of b ≡ collected m → (n : ℕ) → n ∈ printed_of m i → n ≤ suc most_total
-numbers-small b m i e n p = go p
-  where
-    r : MonthIs m b
-    r = served-is b m e
-
-    some_number : 1 ≤ length (figures_at i m)
-    some_number = omega (arith, r.some-line, figures-count i m)
-
-    below : (k : ℕ) → k ∈ figures_at i m → k ≤ 15300000
-    below = figures-within 15300000 i m r.inside
-
-    small : total (figures_at i m) ≤ most_total
-    small = total-small i m r.few r.inside
-
-    go : n ∈ printed_of m i → n ≤ suc most_total
-    go (inl q) = omega (arith, q, small)
-    go (inr (inl q)) = omega (arith, q, below (least (figures_at i m)) (least-in (figures_at i m) some_number))
-    go (inr (inr (inl q))) = omega (arith, q, below (greatest (figures_at i m)) (greatest-in (figures_at i m) some_number))
-    go (inr (inr (inr (inl q)))) = omega (arith, q, small, mean-most (total (figures_at i m)) (length (figures_at i m)) some_number)
-    go (inr (inr (inr (inr q)))) = absurd q
-
-pub numbers-whole : (b : List ℕ) (m : Month) (i : ℕ) → month_of b ≡ collected m → (n : ℕ) → n ∈ printed_of m i → number_of total_digits (digits_of total_digits n) ≡ some n
-numbers-whole b m i e n p = write_read total_digits n (omega arith) (omega (arith, numbers-small b m i e n p))

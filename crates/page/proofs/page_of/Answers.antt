@@ -1,6 +1,6 @@
 -- `page::page_of` meets its contract: the page stands at the start of a buffer of zeros.
 -- Assumes nothing.
-use Rattle.page.specs.Laws.Whole.{page-held}
+use Rattle.page.proofs.Whole.{page-held}
 use Rattle.page.proofs.page_of.Goals as goal
 
 pub returns : goal.returns

@@ -1,7 +1,7 @@
--- The lines of a front cost: what its row of the front list says, the path laid from its arrival, and the two lines that are written of both; then the
--- lines of all rows, one after another.
+-- The lines of a front cost: what its row of the front list says, and the path laid from its arrival (the two lines that are written of both stand in
+-- proofs/Printing.antt); then the lines of all rows, one after another.
 use Rattle.std.specs.Prelude.{◌≡◌, refl, ℕ, zero, suc, ◌+◌, ◌*◌, ◌-◌, ◌≤◌, ◌<◌, get_or, take, drop, replicate}
-use Rattle.std.proofs.Common.{sym, ◌∙◌, ap₂, inl, inr, arith, suc-mul, take_at, length-take-le}
+use Rattle.std.proofs.Common.{sym, ◌∙◌, ap₂, inl, inr, arith, suc-mul, take_at}
 use Rattle.std.proofs.Math.Path.{ap, subst}
 use mathlib.Core.List.{List, [], ◌∷◌}
 use Rattle.std.proofs.Math.ListN.{length, length-append, get_or-append}
@@ -9,9 +9,8 @@ use Rattle.std.proofs.Math.Seq.{drop-append-add, get_or-append_seam}
 use Rattle.sheet.specs.Lists.{◌∈◌, number, bind, filled}
 use Rattle.sheet.specs.Sheet.{Sheet}
 use Rattle.sheet.specs.Store.{sheet_in}
-use Rattle.sheet.specs.Text.{printed, most_printed}
 use Rattle.sheet.specs.Laws.Decided.{from-of}
-use Rattle.sheet.specs.Laws.Puts.{Puts, puts-as, puts-append, puts-length, puts_none, puts-more, puts-all, puts-fits}
+use Rattle.sheet.specs.Laws.Puts.{Puts, puts-as, puts-length, puts_none, puts-more, puts-all, puts-fits}
 use Rattle.sheet.specs.Laws.Stores.{length-filled}
 use Rattle.sheet.specs.Laws.Store.{store-valid}
 use Rattle.costs.specs.Costs.{Cost, figures}
@@ -68,15 +67,6 @@ module _ {lines all since table : List ℕ} {n : ℕ} {row out : List ℕ} {at :
       subst (λ (h : Cost). Layable lines all since n table (number row 3) h path) (sym e)
       (record { ends = record { derived = p.derived; holds = p.holds; on-front = p.on-front; arrives_at = arrives }; room = omega (arith, printable-short, z) })
 
-  both : length (journey_lines sheet (cost_in row)) ≡ length (printed most_printed 74 row) + length (printed most_printed 80 path-of)
-  unfolding journey_lines
-  both =
-      length-append (printed most_printed 74 (front_row sheet (cost_in row))) (printed most_printed 80 path-of)
-      ∙ ap (λ (l : List ℕ). length (printed most_printed 74 l) + length (printed most_printed 80 path-of)) (sym p.row_is)
-
-  pub first_fits : (length row ≤ 256) × (at + length (printed most_printed 74 row) ≤ length out)
-  first_fits = (omega (arith, printable-row), omega (arith, both, p.room))
-
   -- with the path laid
   module _ (g : Cost) (e : g ≡ cost_in row) (path' : List ℕ) (w : path' ≡ filled 256 (journey_of sheet g)) where
     laid : path' ≡ filled 256 path-of
@@ -85,20 +75,8 @@ module _ {lines all since table : List ℕ} {n : ℕ} {row out : List ℕ} {at :
     pub printable-path : length path' ≡ 256
     printable-path = ap length laid ∙ length-filled 256 path-of (omega (arith, long, printable-short))
 
-    path-is : take (number row 3 + 1) path' ≡ path-of
+    pub path-is : take (number row 3 + 1) path' ≡ path-of
     path-is = ap (take (number row 3 + 1)) laid ∙ take_at path-of (replicate (256 - length path-of) 0) (number row 3 + 1) long
-
-    pub second_fits : {out₁ : List ℕ} {m : ℕ} → Puts (printed most_printed 74 row) out at out₁ m
-        → (length (take (number row 3 + 1) path') ≤ 256) × (m + length (printed most_printed 80 (take (number row 3 + 1) path')) ≤ length out₁)
-    second_fits h = (
-      omega (arith, length-take-le (number row 3 + 1) path' (omega (arith, printable-short, printable-path)), printable-short),
-      omega (arith, both, p.room, h.next-is, puts-length h, ap (λ (l : List ℕ). length (printed most_printed 80 l)) path-is),
-    )
-
-    pub prints : {out₁ out₂ : List ℕ} {m r : ℕ} → Puts (printed most_printed 74 row) out at out₁ m → Puts (printed most_printed 80 (take (number row 3 + 1) path')) out₁ m out₂ r
-        → Puts (journey_lines sheet (cost_in row)) out at out₂ r
-    unfolding journey_lines
-    prints h k = puts-append (puts-as (ap (printed most_printed 74) p.row_is) h) (puts-as (ap (printed most_printed 80) path-is) k)
 
 -- the lines of the rows below position i of the front list are written
 pub record Through (s : Sheet) (i : ℕ) (out : List ℕ) (at : ℕ) (out' : List ℕ) (next : ℕ) : Type 0 where

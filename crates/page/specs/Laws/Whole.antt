@@ -1,5 +1,5 @@
--- The whole page off the front of the sheet: the refusal alone, or the counts and then the lines of the front costs, which the table and the list that
--- the front left are enough for.
+-- The whole page off the front of the sheet: the refusal alone, or the counts and then the lines of the front costs. That the table and the list that the
+-- front left are enough for them stands in proofs/Whole.antt.
 use Rattle.std.specs.Prelude.{◌≡◌, ◌≢◌, Bool, List, [], ◌∷◌, ◌++◌, ℕ, ◌*◌, ◌-◌, ◌≤◌, ◌/◌, length, take, replicate}
 use Rattle.std.proofs.Math.Path.{refl, ap, ap₂}
 use Rattle.std.proofs.Common.{sym, ◌∙◌, arith, take_at}
@@ -10,20 +10,17 @@ use Rattle.sheet.specs.Sheet.{Sheet, told, read_of}
 use Rattle.sheet.specs.Store.{sheet_in, VerdictIs}
 use Rattle.sheet.specs.Text.{printed, most_printed, refusal_line}
 use Rattle.sheet.specs.declared.reader.Verdict.{Verdict}
-use Rattle.sheet.specs.Laws.Store.{store-sheet, store-valid}
-use Rattle.sheet.specs.Laws.Stores.{length-filled}
-use Rattle.sheet.specs.Laws.Puts.{Puts, puts-as, puts-length, puts-append, puts-filled}
+use Rattle.sheet.specs.Laws.Store.{store-sheet}
+use Rattle.sheet.specs.Laws.Puts.{Puts, puts-as, puts-append}
 use Rattle.arrivals.specs.Computed.{leading}
 use Rattle.arrivals.specs.Table.{crowded, arrival_table}
 use Rattle.journeys.specs.Computed.{front}
 use Rattle.journeys.specs.Calls.{front_row, overfull, FrontEnd, front_end, front_served, front_on}
 use Rattle.journeys.specs.declared.FrontAnswer.{FrontAnswer}
 use Rattle.journeys.specs.Laws.Served.{on-served, list_length}
-use Rattle.journeys.specs.Laws.Searched.{ready-is}
-use Rattle.page.specs.Page.{front_line, offer_lines, table_numbers, list_numbers, page_on, page, page_room, held}
-use Rattle.page.specs.declared.PageText.{PageText}
-use Rattle.page.specs.Inner.{Lent, Servable, Offered}
-use Rattle.page.specs.Laws.Room.{few-costs, served-fits, page-fits}
+use Rattle.page.specs.Page.{front_line, offer_lines, table_numbers, list_numbers, page_on, page}
+use Rattle.page.specs.Inner.{Lent, Servable}
+use Rattle.page.specs.Laws.Room.{few-costs}
 
 -- the page of a sheet off the two tests, as the front makes them in buffers of the lengths that the program lends
 module _ (s : Sheet) (table list out : List ℕ) (l : Lent table list out) where
@@ -57,11 +54,11 @@ module _ {lines all since table list out : List ℕ} (d : Servable lines all sin
   unfolding front_served
   costs-are = ap (λ (x : FrontEnd). x.answer.costs) ends
 
-  arrivals-are : r.arrivals ≡ length (leading sheet)
+  pub arrivals-are : r.arrivals ≡ length (leading sheet)
   unfolding front_served
   arrivals-are = ap (λ (x : FrontEnd). x.answer.arrivals) ends
 
-  table_is : table' ≡ arrival_table sheet (length table)
+  pub table_is : table' ≡ arrival_table sheet (length table)
   unfolding front_served
   table_is = ap (λ (x : FrontEnd). x.table) ends
 
@@ -69,15 +66,15 @@ module _ {lines all since table list out : List ℕ} (d : Servable lines all sin
   unfolding front_served
   list-is = ap (λ (x : FrontEnd). x.list) ends
 
-  in_table : crowded sheet (length table) ≡ false
+  pub in_table : crowded sheet (length table) ≡ false
   unfolding crowded
   in_table = le-ltb _ (length (leading sheet)) serves.0
 
-  in_list : overfull sheet list_numbers ≡ false
+  pub in_list : overfull sheet list_numbers ≡ false
   unfolding overfull
   in_list = ap (overfull sheet) (sym d.lent.list-room) ∙ le-ltb _ (length (front sheet)) serves.1
 
-  first-line : printed most_printed 70 (r.costs ∷ r.arrivals ∷ []) ≡ front_line sheet
+  pub first-line : printed most_printed 70 (r.costs ∷ r.arrivals ∷ []) ≡ front_line sheet
   unfolding front_line
   first-line = ap₂ (λ (m n : ℕ). printed most_printed 70 (m ∷ n ∷ [])) costs-are arrivals-are
 
@@ -88,22 +85,10 @@ module _ {lines all since table list out : List ℕ} (d : Servable lines all sin
   pub few : r.costs ≤ 200
   few = omega (arith, costs-are, few-costs sheet in_list)
 
-  listed : take (r.costs * 4) list' ≡ bind (front sheet) (front_row sheet)
+  pub listed : take (r.costs * 4) list' ≡ bind (front sheet) (front_row sheet)
   listed =
       let b = bind (front sheet) (front_row sheet) in
       ap (take (r.costs * 4)) list-is ∙ take_at b (replicate (length list - length b) 0) (r.costs * 4) (omega (arith, list_length sheet, costs-are))
-
-  -- what the lines of the front costs need
-  pub served-offers : {out₁ : List ℕ} {m : ℕ} → Puts (printed most_printed 70 (r.costs ∷ r.arrivals ∷ [])) out 0 out₁ m
-      → Offered lines all since table' r.arrivals (take (r.costs * 4) list') out₁ m
-  served-offers p =
-      let f : length (printed most_printed 70 (r.costs ∷ r.arrivals ∷ [])) ≡ length (front_line sheet) = ap length first-line in
-      record {
-        derived = d.derived;
-        holds = (ready-is sheet table table' r.arrivals in_table arrivals-are table_is).holds;
-        listed = listed;
-        room = omega (arith, p.next-is, puts-length p, d.lent.out-room, f, served-fits sheet (store-valid d.derived.store) in_list);
-      }
 
   pub served-whole : {out₁ out₂ : List ℕ} {m k : ℕ} → Puts (printed most_printed 70 (r.costs ∷ r.arrivals ∷ [])) out 0 out₁ m → Puts (offer_lines sheet) out₁ m out₂ k
       → Puts (page_on sheet) out 0 out₂ k
@@ -118,17 +103,3 @@ module _ (b : List ℕ) (lines all : List ℕ) (r : Verdict) (v : VerdictIs (rea
   pub was_read : r.refusal ≡ 0 → page_on (sheet_in lines all) ≡ page b
   unfolding page
   was_read z = let h = v.holds z in ap page_on (store-sheet h.2) ∙ ap (told refusal_line page_on) (sym h.1)
-
--- a page in a buffer of zeros is the page as the program holds it
-pub page-held : (b out : List ℕ) (n : ℕ) → Puts (page b) (replicate page_room 0) 0 out n → record { bytes = out; count = n } ≡ held b
-unfolding held
-page-held b out n p =
-    let f = puts-filled page_room (page-fits b) p in
-    λ i. record { bytes = f.0 i; count = f.1 i }
-
-pub held-within : (r : PageText) (b : List ℕ) → r ≡ held b → r.count ≤ length r.bytes
-unfolding held
-held-within r b e =
-    let n : r.count ≡ length (page b) = ap (λ (x : PageText). x.count) e in
-    let l : length r.bytes ≡ page_room = ap (λ (x : PageText). length x.bytes) e ∙ length-filled page_room (page b) (page-fits b) in
-    omega (arith, n, l, page-fits b)

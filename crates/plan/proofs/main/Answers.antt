@@ -1,7 +1,7 @@
 -- What is read and what is written lies within the buffers: the page is the one that is promised, which has room in its bytes.
 use Rattle.std.proofs.Common.{sym, length-take-le}
 use Rattle.input.specs.Laws.Input.{within-read}
-use Rattle.page.specs.Laws.Whole.{held-within}
+use Rattle.page.proofs.Whole.{held-within}
 use Rattle.plan.proofs.main.Goals as goal
 
 pub slice_bounds-sheet-end : goal.slice_bounds-sheet-end

@@ -4,7 +4,8 @@ use mathlib.Core.Path.{sym}
 use native.Mathlib.Omega.{arith}
 use native.Mathlib.Nat.{div-le_self, mod-lt}
 use borrow.Author.Rules.{rules}
-use Rattle.month.specs.Laws.Mean.{mean-half, mean-stays, mean-up}
+use Rattle.month.specs.Laws.Mean.{mean-stays, mean-up}
+use Rattle.month.proofs.Mean.{mean-half}
 use Rattle.month.proofs.sums.mean_of.Goals as goal
 
 pub overflow_add-next : goal.overflow_add-next

@@ -4,7 +4,8 @@
 use mathlib.Core.Path.{refl, sym}
 use native.Mathlib.Omega.{arith}
 use lib.Seq.{length-take-le}
-use Rattle.page.specs.Laws.Offers.{printable-row, printable-short, printable-lays, printable-path, first_fits, second_fits, prints}
+use Rattle.page.specs.Laws.Offers.{printable-row, printable-short, printable-lays, printable-path}
+use Rattle.page.proofs.Printing.{first_fits, second_fits, prints}
 use Rattle.page.proofs.offers.put_journey.Goals as goal
 
 pub bounds-row-3 : goal.bounds-row-3

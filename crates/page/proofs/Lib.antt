@@ -1,0 +1,4 @@
+pub mod Room
+pub mod Page
+pub mod Printing
+pub mod Whole
