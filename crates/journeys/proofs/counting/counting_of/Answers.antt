@@ -4,4 +4,4 @@ use Rattle.journeys.proofs.Unloading.{counting-in}
 use Rattle.journeys.proofs.counting.counting_of.Goals as goal
 
 pub returns : goal.returns
-returns c = counting-in c.stays.ensures
+returns c = counting-in {all = c.args.all.now} c.stays.ensures
