@@ -1,7 +1,5 @@
--- `costs::at_most` meets its contract: it joins the excesses of a's figures over b's bit by bit, and an excess is 2^32 or more exactly where the
--- figure of a is greater. Numbers joined are below 2^32 exactly where each is. The loop's invariant: what is joined is below 2^32 and the first i
--- figures are at most b's, or it is 2^32 or more and a figure is greater. The measure is what is left of the three figures.
--- Assumes nothing.
+-- `costs::at_most` meets its contract: it joins the excesses of a's figures over b's bit by bit, and an excess is 2^32 or more exactly where the figure of a
+-- is greater. Numbers joined are below 2^32 exactly where each is. Assumes nothing.
 use mathlib.Core.Logic.{inl, inr, ⊎_elim}
 use mathlib.Core.Path.{◌∙◌, sym}
 use Prim.Native.Nat.{ℕ, ◌≤◌, ◌<◌}

@@ -1,6 +1,4 @@
--- `costs::before` meets its contract. The loop's invariant: the first i figures of a are those of b.
--- The measure is what is left of the three figures.
--- Assumes nothing.
+-- `costs::before` meets its contract. Assumes nothing.
 use mathlib.Core.Path.{sym, subst}
 use mathlib.Core.List.{List}
 use Prim.Native.Nat.{ℕ}

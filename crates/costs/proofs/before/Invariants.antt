@@ -1,6 +1,4 @@
--- `costs::before` meets its contract. The loop's invariant: the first i figures of a are those of b.
--- The measure is what is left of the three figures.
--- Assumes nothing.
+-- `costs::before`. The loop's invariant: the first i figures of a are those of b. The measure is what is left of the three figures.
 use mathlib.Core.Path.{◌≡◌}
 use Prim.Native.Nat.{ℕ, ◌-◌, ◌≤◌, ◌<◌}
 use Rattle.costs.specs.Costs.{fig}

@@ -1,6 +1,4 @@
--- `costs::cost_from` meets its contract. The loop's invariant: the first n figures of r are the numbers from `at` on.
--- The measure is what is left of the three figures.
--- Assumes nothing.
+-- `costs::cost_from` meets its contract. Assumes nothing.
 use mathlib.Core.Path.{refl}
 use native.Mathlib.Omega.{arith}
 use borrow.Author.Rules.{rules}

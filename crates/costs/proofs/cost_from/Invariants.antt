@@ -1,6 +1,4 @@
--- `costs::cost_from` meets its contract. The loop's invariant: the first n figures of r are the numbers from `at` on.
--- The measure is what is left of the three figures.
--- Assumes nothing.
+-- `costs::cost_from`. The loop's invariant: the first n figures of r are the numbers from `at` on. The measure is what is left of the three figures.
 use Prim.Native.Nat.{◌+◌, ◌-◌, ◌≤◌}
 use Rattle.sheet.specs.Lists.{number}
 use Rattle.costs.specs.Laws.Figures.{Stored}

@@ -1,6 +1,4 @@
--- `costs::less` meets its contract. The loop's invariant: the first f figures of r are what is left of h's.
--- The measure is what is left of the three figures.
--- Assumes nothing.
+-- `costs::less` meets its contract. Assumes nothing.
 use mathlib.Core.Path.{refl}
 use native.Mathlib.Omega.{arith}
 use Rattle.costs.specs.Laws.Figures.{stored-none, stored_more, stored-all, is-less}

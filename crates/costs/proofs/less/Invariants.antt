@@ -1,6 +1,4 @@
--- `costs::less` meets its contract. The loop's invariant: the first f figures of r are what is left of h's.
--- The measure is what is left of the three figures.
--- Assumes nothing.
+-- `costs::less`. The loop's invariant: the first f figures of r are what is left of h's. The measure is what is left of the three figures.
 use Prim.Native.Nat.{◌-◌, ◌≤◌}
 use Rattle.costs.specs.Costs.{fig}
 use Rattle.costs.specs.Laws.Figures.{Stored}

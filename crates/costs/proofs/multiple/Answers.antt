@@ -1,6 +1,4 @@
--- `costs::multiple` meets its contract. The loop's invariant: the first k figures of r are n times those of w.
--- The measure is what is left of the three figures.
--- Assumes nothing.
+-- `costs::multiple` meets its contract. Assumes nothing.
 use mathlib.Core.Path.{refl}
 use native.Mathlib.Omega.{arith}
 use native.Mathlib.Nat.{mul-le-mul}

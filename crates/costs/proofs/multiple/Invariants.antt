@@ -1,6 +1,4 @@
--- `costs::multiple` meets its contract. The loop's invariant: the first k figures of r are n times those of w.
--- The measure is what is left of the three figures.
--- Assumes nothing.
+-- `costs::multiple`. The loop's invariant: the first k figures of r are n times those of w. The measure is what is left of the three figures.
 use Prim.Native.Nat.{◌*◌, ◌-◌, ◌≤◌}
 use Rattle.costs.specs.Costs.{fig}
 use Rattle.costs.specs.Laws.Figures.{Stored}

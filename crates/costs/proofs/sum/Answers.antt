@@ -1,6 +1,4 @@
--- `costs::sum` meets its contract. The loop's invariant: the first j figures of r are the sums of those of a and b.
--- The measure is what is left of the three figures.
--- Assumes nothing.
+-- `costs::sum` meets its contract. Assumes nothing.
 use mathlib.Core.Path.{refl}
 use native.Mathlib.Omega.{arith}
 use borrow.Author.Rules.{rules}

@@ -1,6 +1,4 @@
--- `costs::sum` meets its contract. The loop's invariant: the first j figures of r are the sums of those of a and b.
--- The measure is what is left of the three figures.
--- Assumes nothing.
+-- `costs::sum`. The loop's invariant: the first j figures of r are the sums of those of a and b. The measure is what is left of the three figures.
 use Prim.Native.Nat.{◌+◌, ◌-◌, ◌≤◌}
 use Rattle.costs.specs.Costs.{fig}
 use Rattle.costs.specs.Laws.Figures.{Stored}

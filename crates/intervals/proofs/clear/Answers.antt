@@ -1,6 +1,4 @@
--- `intervals::clear` meets its contract. The loop's invariant: the first i entries are 0.
--- The measure is what is left of the entries.
--- Assumes nothing.
+-- `intervals::clear` meets its contract. Assumes nothing.
 use native.Mathlib.Omega.{arith}
 use borrow.Author.Rules.{rules}
 use Rattle.costs.specs.Laws.Figures.{stored-none, stored_more}

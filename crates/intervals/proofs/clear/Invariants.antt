@@ -1,6 +1,4 @@
--- `intervals::clear` meets its contract. The loop's invariant: the first i entries are 0.
--- The measure is what is left of the entries.
--- Assumes nothing.
+-- `intervals::clear`. The loop's invariant: the first i entries are 0. The measure is what is left of the entries.
 use Prim.Native.Nat.{◌-◌, ◌≤◌}
 use Rattle.costs.specs.Laws.Figures.{Stored}
 use Rattle.intervals.proofs.clear.Given as goal

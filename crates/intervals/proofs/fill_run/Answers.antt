@@ -1,6 +1,4 @@
--- `intervals::fill_run` meets its contract. The loop's invariant: the steps before t from the first on were not marked and are written, and nothing else
--- is changed. The measure is what is left of the row.
--- Assumes nothing.
+-- `intervals::fill_run` meets its contract. Assumes nothing.
 use mathlib.Core.Logic.{inl, inr}
 use native.Mathlib.Omega.{arith}
 use borrow.Author.Rules.{rules}

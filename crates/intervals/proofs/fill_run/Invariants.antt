@@ -1,6 +1,5 @@
--- `intervals::fill_run` meets its contract. The loop's invariant: the steps before t from the first on were not marked and are written, and nothing else
--- is changed. The measure is what is left of the row.
--- Assumes nothing.
+-- `intervals::fill_run`. The loop's invariant: the steps before t from the first on were not marked and are written, and nothing else is changed. The measure
+-- is what is left of the row.
 use Prim.Native.Nat.{◌-◌, ◌≤◌}
 use Rattle.intervals.proofs.Fill.{Filling}
 use Rattle.intervals.proofs.fill_run.Given as goal

@@ -1,6 +1,4 @@
--- `intervals::mark` meets its contract. The loop's invariant: the line's steps before t are marked, and nothing else is changed.
--- The measure is what is left of the line's steps.
--- Assumes nothing.
+-- `intervals::mark` meets its contract. Assumes nothing.
 use Prim.Native.Nat.{◌+◌, ◌*◌}
 use native.Mathlib.Omega.{arith}
 use borrow.Author.Rules.{rules}

@@ -1,6 +1,5 @@
--- `intervals::mark` meets its contract. The loop's invariant: the line's steps before t are marked, and nothing else is changed.
--- The measure is what is left of the line's steps.
--- Assumes nothing.
+-- `intervals::mark`. The loop's invariant: the line's steps before t are marked, and nothing else is changed. The measure is what is left of the line's
+-- steps.
 use Prim.Native.Nat.{◌+◌, ◌-◌, ◌≤◌}
 use Rattle.intervals.proofs.Tables.{Steps}
 use Rattle.intervals.proofs.mark.Given as goal

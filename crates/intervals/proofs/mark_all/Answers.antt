@@ -1,6 +1,4 @@
--- `intervals::mark_all` meets its contract. The loop's invariant: the entries of the first k lines are marked, and the others are 0.
--- The measure is what is left of the lines.
--- Assumes nothing.
+-- `intervals::mark_all` meets its contract. Assumes nothing.
 use mathlib.Core.Path.{◌≡◌, subst}
 use Prim.Native.Nat.{ℕ, ◌/◌}
 use native.Mathlib.Omega.{arith}

@@ -1,6 +1,4 @@
--- `intervals::mark_all` meets its contract. The loop's invariant: the entries of the first k lines are marked, and the others are 0.
--- The measure is what is left of the lines.
--- Assumes nothing.
+-- `intervals::mark_all`. The loop's invariant: the entries of the first k lines are marked, and the others are 0. The measure is what is left of the lines.
 use mathlib.Core.Path.{◌≡◌}
 use Prim.Native.Nat.{◌-◌, ◌≤◌}
 use lib.ListN.{length}

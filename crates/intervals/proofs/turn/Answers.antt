@@ -1,6 +1,4 @@
--- `intervals::turn` meets its contract. The loop's invariant: the runs after the first k lines are written.
--- The measure is what is left of the lines.
--- Assumes nothing.
+-- `intervals::turn` meets its contract. Assumes nothing.
 use mathlib.Core.Path.{◌≡◌, subst}
 use Prim.Native.Nat.{ℕ, ◌/◌}
 use native.Mathlib.Omega.{arith}

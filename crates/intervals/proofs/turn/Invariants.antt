@@ -1,6 +1,4 @@
--- `intervals::turn` meets its contract. The loop's invariant: the runs after the first k lines are written.
--- The measure is what is left of the lines.
--- Assumes nothing.
+-- `intervals::turn`. The loop's invariant: the runs after the first k lines are written. The measure is what is left of the lines.
 use mathlib.Core.Path.{◌≡◌}
 use Prim.Native.Nat.{◌-◌, ◌≤◌}
 use lib.ListN.{length}

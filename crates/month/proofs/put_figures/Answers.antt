@@ -1,6 +1,4 @@
--- `month::put_figures` meets its contract. The loop's invariant: the lines of the first i figures are written, of at most 62 bytes each.
--- The measure is what is left of the three figures.
--- Assumes nothing.
+-- `month::put_figures` meets its contract. Assumes nothing.
 use mathlib.Core.Path.{refl}
 use native.Mathlib.Omega.{arith}
 use borrow.Author.Rules.{rules}

@@ -1,6 +1,5 @@
--- `month::put_figures` meets its contract. The loop's invariant: the lines of the first i figures are written, of at most 62 bytes each.
--- The measure is what is left of the three figures.
--- Assumes nothing.
+-- `month::put_figures`. The loop's invariant: the lines of the first i figures are written, of at most 62 bytes each. The measure is what is left of the
+-- three figures.
 use mathlib.Core.Path.{◌≡◌}
 use Prim.Native.Nat.{◌-◌, ◌≤◌}
 use lib.ListN.{length}

@@ -1,5 +1,4 @@
--- `arrivals::by_lists::from_part` meets its contract: the costs of the part are gone through. The loop's invariant: what the first i of them come to is offered.
--- Assumes nothing.
+-- `arrivals::by_lists::from_part` meets its contract: the costs of the part are gone through. Assumes nothing.
 use mathlib.Core.Path.{◌∙◌, ap, refl, subst, sym}
 use Prim.Native.Nat.{◌+◌}
 use native.Mathlib.Omega.{arith}

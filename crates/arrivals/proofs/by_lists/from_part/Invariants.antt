@@ -1,5 +1,4 @@
--- `arrivals::by_lists::from_part` meets its contract: the costs of the part are gone through. The loop's invariant: what the first i of them come to is offered.
--- Assumes nothing.
+-- `arrivals::by_lists::from_part`. The loop's invariant: what the first i of them come to is offered.
 use mathlib.Core.Bool.{true}
 use mathlib.Core.Path.{◌≡◌}
 use Prim.Native.Nat.{◌-◌, ◌≤◌}

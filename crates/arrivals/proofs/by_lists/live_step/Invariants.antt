@@ -1,7 +1,5 @@
--- `arrivals::by_lists::live_step` meets its contract: the places of the step's set that are free are visited one after another, unless one gives up, then the
--- lists of those with new rows are settled. The loop's invariant: all is filled in before place v at step t, and v is free, or there is no place left; what
--- corridors lead to from the rows of this step is in `onward`; and the lists stand for the rows before the step, the new rows of the places in `grown` beside.
--- Assumes nothing.
+-- `arrivals::by_lists::live_step`. The loop's invariant: all is filled in before place v at step t, and v is free, or there is no place left; what corridors
+-- lead to from the rows of this step is in `onward`; and the lists stand for the rows before the step, the new rows of the places in `grown` beside.
 use mathlib.Core.Path.{◌≡◌}
 use Prim.Native.Nat.{ℕ, ◌+◌, ◌*◌, ◌-◌, ◌<◌}
 use lib.ListN.{length, get_or}

@@ -1,6 +1,4 @@
--- `arrivals::by_lists::live_steps` meets its contract: the steps are filled in one after another, unless one gives up. The loop's invariant: all is filled in
--- before step t, the lists stand for the rows, and what corridors lead to from the rows of the step before is in `next`.
--- Assumes nothing.
+-- `arrivals::by_lists::live_steps` meets its contract: the steps are filled in one after another, unless one gives up. Assumes nothing.
 use mathlib.Core.Path.{refl}
 use native.Mathlib.Omega.{arith}
 use borrow.Author.Rules.{rules}

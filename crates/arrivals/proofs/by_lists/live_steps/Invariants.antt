@@ -1,6 +1,5 @@
--- `arrivals::by_lists::live_steps` meets its contract: the steps are filled in one after another, unless one gives up. The loop's invariant: all is filled in
--- before step t, the lists stand for the rows, and what corridors lead to from the rows of the step before is in `next`.
--- Assumes nothing.
+-- `arrivals::by_lists::live_steps`. The loop's invariant: all is filled in before step t, the lists stand for the rows, and what corridors lead to from the
+-- rows of the step before is in `next`.
 use mathlib.Core.Path.{◌≡◌}
 use Prim.Native.Nat.{◌*◌, ◌+◌, ◌-◌, ◌≤◌}
 use lib.ListN.{length}

@@ -1,6 +1,4 @@
--- `arrivals::by_lists::over_links` meets its contract: the corridors into the place are gone through from the last. The loop's invariant: what comes over those
--- from j on is offered.
--- Assumes nothing.
+-- `arrivals::by_lists::over_links` meets its contract: the corridors into the place are gone through from the last. Assumes nothing.
 use mathlib.Core.Path.{◌∙◌, refl}
 use native.Mathlib.Omega.{arith}
 use borrow.Author.Rules.{rules}

@@ -1,5 +1,4 @@
--- `arrivals::expand::fresh_before` meets its contract: the departures are gone through downwards. The loop's invariant: a is before step t.
--- Assumes nothing.
+-- `arrivals::expand::fresh_before` meets its contract: the departures are gone through downwards. Assumes nothing.
 use mathlib.Core.Path.{◌∙◌, sym}
 use native.Mathlib.Omega.{arith}
 use Rattle.arrivals.specs.Inner.Pruning.{fresh_at, fresh-none}

@@ -1,5 +1,4 @@
--- `arrivals::expand::fresh_before` meets its contract: the departures are gone through downwards. The loop's invariant: a is before step t.
--- Assumes nothing.
+-- `arrivals::expand::fresh_before`. The loop's invariant: a is before step t.
 use Prim.Native.Nat.{◌<◌}
 use Rattle.arrivals.proofs.expand.fresh_before.Given as goal
 

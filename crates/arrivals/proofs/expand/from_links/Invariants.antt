@@ -1,6 +1,4 @@
--- `arrivals::expand::from_links` meets its contract: the corridors into the place are gone through from the last. The loop's invariant: what
--- comes over those from j on is offered.
--- Assumes nothing.
+-- `arrivals::expand::from_links`. The loop's invariant: what comes over those from j on is offered.
 use mathlib.Core.Bool.{true}
 use mathlib.Core.Path.{◌≡◌}
 use Prim.Native.Nat.{◌≤◌}

@@ -1,6 +1,4 @@
--- `arrivals::expand::from_place` meets its contract: the rows of the source from its floor on are offered, group by group. The loop's invariant:
--- those at step s or later have been.
--- Assumes nothing.
+-- `arrivals::expand::from_place` meets its contract: the rows of the source from its floor on are offered, group by group. Assumes nothing.
 use mathlib.Core.Path.{◌∙◌, refl}
 use native.Mathlib.Omega.{arith}
 use borrow.Author.Rules.{rules}

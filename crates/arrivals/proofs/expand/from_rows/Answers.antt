@@ -1,6 +1,4 @@
--- `arrivals::expand::from_rows` meets its contract: the rows of the span are gone through. The loop's invariant: what those below i arrive with
--- is offered.
--- Assumes nothing.
+-- `arrivals::expand::from_rows` meets its contract: the rows of the span are gone through. Assumes nothing.
 use mathlib.Core.Path.{◌∙◌, refl, subst, sym}
 use Prim.Native.Nat.{◌<◌}
 use native.Mathlib.Omega.{arith}

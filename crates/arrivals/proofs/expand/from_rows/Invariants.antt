@@ -1,6 +1,4 @@
--- `arrivals::expand::from_rows` meets its contract: the rows of the span are gone through. The loop's invariant: what those below i arrive with
--- is offered.
--- Assumes nothing.
+-- `arrivals::expand::from_rows`. The loop's invariant: what those below i arrive with is offered.
 use mathlib.Core.Bool.{true}
 use mathlib.Core.Path.{◌≡◌}
 use Prim.Native.Nat.{◌-◌, ◌≤◌}

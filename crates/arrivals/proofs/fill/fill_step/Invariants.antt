@@ -1,6 +1,5 @@
--- `arrivals::fill::fill_step` meets its contract: the places of the step's set that are free are visited one after another. The loop's invariant: all is
--- filled in before place v at step t, and v is free, or there is no place left; and what corridors lead to from the rows of this step is in `onward`.
--- Assumes nothing.
+-- `arrivals::fill::fill_step`. The loop's invariant: all is filled in before place v at step t, and v is free, or there is no place left; and what corridors
+-- lead to from the rows of this step is in `onward`.
 use mathlib.Core.Path.{◌≡◌}
 use Prim.Native.Nat.{◌+◌, ◌-◌, ◌<◌}
 use lib.ListN.{length}

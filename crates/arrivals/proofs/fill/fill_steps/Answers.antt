@@ -1,6 +1,4 @@
--- `arrivals::fill::fill_steps` meets its contract: the steps are filled in one after another. The loop's invariant: all is filled in before step
--- t, and what corridors lead to from the rows of the step before is in `next`.
--- Assumes nothing.
+-- `arrivals::fill::fill_steps` meets its contract: the steps are filled in one after another. Assumes nothing.
 use mathlib.Core.Path.{◌≡◌, refl, subst}
 use Prim.Native.Nat.{◌+◌, ◌-◌}
 use native.Mathlib.Omega.{arith}

@@ -1,5 +1,4 @@
--- `arrivals::fill::next_place` meets its contract. The loop's invariant: the places from v to u are passed over.
--- Assumes nothing.
+-- `arrivals::fill::next_place` meets its contract. Assumes nothing.
 use native.Mathlib.Omega.{arith}
 use Rattle.arrivals.specs.Inner.Walking.{pass-to, pass-occupied}
 use Rattle.arrivals.proofs.fill.next_place.Goals as goal

@@ -1,5 +1,4 @@
--- `arrivals::fill::next_place` meets its contract. The loop's invariant: the places from v to u are passed over.
--- Assumes nothing.
+-- `arrivals::fill::next_place`. The loop's invariant: the places from v to u are passed over.
 use mathlib.Core.List.{List}
 use Prim.Native.Nat.{ℕ, ◌-◌, ◌≤◌}
 use Rattle.arrivals.specs.Inner.Due.{Lookout}

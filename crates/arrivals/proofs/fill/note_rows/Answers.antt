@@ -1,6 +1,5 @@
--- `arrivals::fill::note_rows` meets its contract: the rows are noted step by step, and what a later row undercuts is left out after each step. The loop's
--- invariant: the rows below k are those of so many steps, and are noted.
--- Assumes nothing.
+-- `arrivals::fill::note_rows` meets its contract: the rows are noted step by step, and what a later row undercuts is left out after each step. Assumes
+-- nothing.
 use mathlib.Core.Path.{refl}
 use Prim.Native.Nat.{◌<◌}
 use native.Mathlib.Omega.{arith}

@@ -1,6 +1,4 @@
--- `arrivals::fill::note_rows` meets its contract: the rows are noted step by step, and what a later row undercuts is left out after each step. The loop's
--- invariant: the rows below k are those of so many steps, and are noted.
--- Assumes nothing.
+-- `arrivals::fill::note_rows`. The loop's invariant: the rows below k are those of so many steps, and are noted.
 use mathlib.Core.Path.{◌≡◌}
 use Prim.Native.Nat.{◌-◌}
 use lib.ListN.{length}

@@ -1,6 +1,4 @@
--- `arrivals::index::group_end` meets its contract: rows are passed until one is of another place or step. The loop's invariant: the rows from k to i are of
--- one place and step.
--- Assumes nothing.
+-- `arrivals::index::group_end` meets its contract: rows are passed until one is of another place or step. Assumes nothing.
 use native.Mathlib.Omega.{arith}
 use Rattle.arrivals.specs.Inner.Renoting.{same-one, same_more}
 use Rattle.arrivals.proofs.index.group_end.Goals as goal

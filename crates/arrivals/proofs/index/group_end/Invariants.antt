@@ -1,6 +1,4 @@
--- `arrivals::index::group_end` meets its contract: rows are passed until one is of another place or step. The loop's invariant: the rows from k to i are of
--- one place and step.
--- Assumes nothing.
+-- `arrivals::index::group_end`. The loop's invariant: the rows from k to i are of one place and step.
 use Prim.Native.Nat.{◌-◌, ◌≤◌, ◌<◌}
 use Rattle.arrivals.specs.Inner.Renoting.{Same}
 use Rattle.arrivals.proofs.index.group_end.Given as goal

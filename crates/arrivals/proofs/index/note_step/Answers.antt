@@ -1,6 +1,4 @@
--- `arrivals::index::note_step` meets its contract: the groups of the step are noted one after another. The loop's invariant: the rows from k to i are noted,
--- and a group begins at i.
--- Assumes nothing.
+-- `arrivals::index::note_step` meets its contract: the groups of the step are noted one after another. Assumes nothing.
 use native.Mathlib.Omega.{arith}
 use Rattle.arrivals.specs.Inner.Renoting.{noting-none, noting-more, noting-done}
 use Rattle.arrivals.proofs.index.note_step.Goals as goal

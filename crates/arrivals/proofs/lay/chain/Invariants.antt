@@ -1,6 +1,4 @@
--- `arrivals::lay::chain` meets its contract: the corridors are chained one after another. The loop's invariant: those below j are, and all else
--- is kept.
--- Assumes nothing.
+-- `arrivals::lay::chain`. The loop's invariant: those below j are, and all else is kept.
 use mathlib.Core.Path.{◌≡◌}
 use Prim.Native.Nat.{◌*◌, ◌+◌, ◌-◌, ◌≤◌}
 use Rattle.arrivals.specs.Inner.Chains.{by_place, past_of, Chained}

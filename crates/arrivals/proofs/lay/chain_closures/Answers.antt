@@ -1,6 +1,4 @@
--- `arrivals::lay::chain_closures` meets its contract: the closures are chained one after another. The loop's invariant: those below x are, and all
--- else is kept.
--- Assumes nothing.
+-- `arrivals::lay::chain_closures` meets its contract: the closures are chained one after another. Assumes nothing.
 use mathlib.Core.Logic.{inl, inr}
 use mathlib.Core.Path.{◌∙◌, refl, subst}
 use native.Mathlib.Omega.{arith}

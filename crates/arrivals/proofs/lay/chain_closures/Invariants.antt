@@ -1,6 +1,4 @@
--- `arrivals::lay::chain_closures` meets its contract: the closures are chained one after another. The loop's invariant: those below x are, and all
--- else is kept.
--- Assumes nothing.
+-- `arrivals::lay::chain_closures`. The loop's invariant: those below x are, and all else is kept.
 use mathlib.Core.Path.{◌≡◌}
 use Prim.Native.Nat.{◌-◌, ◌≤◌}
 use Rattle.arrivals.specs.Inner.Chains.{by_cell, Chained}

@@ -1,5 +1,4 @@
--- `arrivals::lay::copy` meets its contract: the numbers are copied one after another. The loop's invariant: those below i are, and all else is kept.
--- Assumes nothing.
+-- `arrivals::lay::copy` meets its contract: the numbers are copied one after another. Assumes nothing.
 use Prim.Native.Nat.{◌+◌}
 use native.Mathlib.Omega.{arith}
 use Rattle.sheet.specs.Lists.{number}

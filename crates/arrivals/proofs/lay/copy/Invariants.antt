@@ -1,5 +1,4 @@
--- `arrivals::lay::copy` meets its contract: the numbers are copied one after another. The loop's invariant: those below i are, and all else is kept.
--- Assumes nothing.
+-- `arrivals::lay::copy`. The loop's invariant: those below i are, and all else is kept.
 use mathlib.Core.Path.{◌≡◌}
 use Prim.Native.Nat.{ℕ, ◌+◌, ◌-◌, ◌<◌, ◌≤◌}
 use lib.ListN.{get_or}

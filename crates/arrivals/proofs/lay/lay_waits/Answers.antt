@@ -1,6 +1,4 @@
--- `arrivals::lay::lay_waits` meets its contract: the costs are stored place by place. The loop's invariant: those of the places below v are, and
--- all else is kept.
--- Assumes nothing.
+-- `arrivals::lay::lay_waits` meets its contract: the costs are stored place by place. Assumes nothing.
 use mathlib.Core.Path.{subst}
 use native.Mathlib.Omega.{arith}
 use Rattle.arrivals.specs.Inner.Laying.{WaitsTo, waits-more}

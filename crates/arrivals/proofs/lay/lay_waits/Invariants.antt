@@ -1,6 +1,4 @@
--- `arrivals::lay::lay_waits` meets its contract: the costs are stored place by place. The loop's invariant: those of the places below v are, and
--- all else is kept.
--- Assumes nothing.
+-- `arrivals::lay::lay_waits`. The loop's invariant: those of the places below v are, and all else is kept.
 use Prim.Native.Nat.{◌-◌, ◌≤◌}
 use Rattle.sheet.specs.Lists.{number}
 use Rattle.sheet.specs.Store.{sheet_in}

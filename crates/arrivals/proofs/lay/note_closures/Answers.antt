@@ -1,6 +1,4 @@
--- `arrivals::lay::note_closures` meets its contract: the closures are gone through one after another. The loop's invariant: the places of those below x
--- are noted, and all else is kept.
--- Assumes nothing.
+-- `arrivals::lay::note_closures` meets its contract: the closures are gone through one after another. Assumes nothing.
 use mathlib.Core.Logic.{inl, inr}
 use mathlib.Core.List.{List}
 use mathlib.Core.Path.{◌∙◌, ◌≡◌, refl, sym, subst}

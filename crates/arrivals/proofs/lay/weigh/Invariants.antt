@@ -1,6 +1,4 @@
--- `arrivals::lay::weigh` meets its contract: the corridors are weighed one after another. The loop's invariant: those below j are, and all else
--- is kept.
--- Assumes nothing.
+-- `arrivals::lay::weigh`. The loop's invariant: those below j are, and all else is kept.
 use mathlib.Core.Path.{◌≡◌}
 use Prim.Native.Nat.{◌-◌, ◌≤◌}
 use Rattle.arrivals.specs.Inner.Laying.{WeighedTo}

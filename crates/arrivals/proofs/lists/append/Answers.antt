@@ -1,5 +1,4 @@
--- `arrivals::lists::append` meets its contract: row after row. The loop's invariant: the first i rows are added.
--- Assumes nothing.
+-- `arrivals::lists::append` meets its contract: row after row. Assumes nothing.
 use mathlib.Core.List.{List}
 use mathlib.Core.Path.{◌∙◌, ap, refl}
 use Prim.Native.Nat.{ℕ}

@@ -1,5 +1,4 @@
--- `arrivals::lists::append` meets its contract: row after row. The loop's invariant: the first i rows are added.
--- Assumes nothing.
+-- `arrivals::lists::append`. The loop's invariant: the first i rows are added.
 use Prim.Native.Nat.{◌-◌, ◌≤◌}
 use Rattle.arrivals.specs.Inner.Lists.{Appended}
 use Rattle.arrivals.proofs.lists.append.Given as goal

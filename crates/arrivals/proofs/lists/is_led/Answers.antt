@@ -1,5 +1,4 @@
--- `arrivals::lists::is_led` meets its contract: a cost of the part is nowhere above c, or none is. The loop's invariant: none of the first i costs is.
--- Assumes nothing.
+-- `arrivals::lists::is_led` meets its contract: a cost of the part is nowhere above c, or none is. Assumes nothing.
 use mathlib.Core.List.{List}
 use mathlib.Core.Path.{subst, sym}
 use Prim.Native.Nat.{ℕ}

@@ -1,5 +1,4 @@
--- `arrivals::lists::is_led` meets its contract: a cost of the part is nowhere above c, or none is. The loop's invariant: none of the first i costs is.
--- Assumes nothing.
+-- `arrivals::lists::is_led`. The loop's invariant: none of the first i costs is.
 use Prim.Native.Nat.{ℕ, ◌-◌, ◌<◌, ◌≤◌}
 use Rattle.costs.specs.Costs.{AtMost}
 use Rattle.arrivals.specs.Inner.Lists.{cost_in}

@@ -1,6 +1,4 @@
--- `arrivals::lists::retain` meets its contract: cost after cost is kept or dropped. The loop's invariant: k of the first i costs are kept, and the others are
--- led.
--- Assumes nothing.
+-- `arrivals::lists::retain` meets its contract: cost after cost is kept or dropped. Assumes nothing.
 use native.Mathlib.Omega.{arith}
 use Rattle.arrivals.specs.Inner.Keeping.{retained-end, retained-more, retained-none}
 use Rattle.arrivals.proofs.lists.retain.Goals as goal

@@ -1,6 +1,4 @@
--- `arrivals::lists::retain` meets its contract: cost after cost is kept or dropped. The loop's invariant: k of the first i costs are kept, and the others are
--- led.
--- Assumes nothing.
+-- `arrivals::lists::retain`. The loop's invariant: k of the first i costs are kept, and the others are led.
 use Prim.Native.Nat.{◌-◌, ◌≤◌}
 use Rattle.arrivals.specs.Inner.Lists.{RetainedTo}
 use Rattle.arrivals.proofs.lists.retain.Given as goal

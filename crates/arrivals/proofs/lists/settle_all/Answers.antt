@@ -1,6 +1,4 @@
--- `arrivals::lists::settle_all` meets its contract: the places of the set are settled one after another. The loop's invariant: those below v are settled, and
--- all other places are as they were.
--- Assumes nothing.
+-- `arrivals::lists::settle_all` meets its contract: the places of the set are settled one after another. Assumes nothing.
 use Prim.Native.Nat.{◌<◌}
 use native.Mathlib.Omega.{arith}
 use Rattle.arrivals.specs.Inner.Settled.{settled-none, settled-past, settled-next, settled-more, has_of}

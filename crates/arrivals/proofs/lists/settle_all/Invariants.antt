@@ -1,6 +1,4 @@
--- `arrivals::lists::settle_all` meets its contract: the places of the set are settled one after another. The loop's invariant: those below v are settled, and
--- all other places are as they were.
--- Assumes nothing.
+-- `arrivals::lists::settle_all`. The loop's invariant: those below v are settled, and all other places are as they were.
 use Prim.Native.Nat.{◌-◌, ◌≤◌}
 use Rattle.arrivals.specs.Inner.Lists.{SettledTo}
 use Rattle.arrivals.proofs.lists.settle_all.Given as goal

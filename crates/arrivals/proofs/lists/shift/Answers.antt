@@ -1,5 +1,4 @@
 -- `arrivals::lists::shift` meets its contract: cost after cost is moved down, and as `to` is not above `from`, each is still the old one when it is read.
--- The loop's invariant: the costs below i are moved, and all numbers besides them are the old ones.
 -- Assumes nothing.
 use native.Mathlib.Omega.{arith}
 use Rattle.arrivals.specs.Inner.Settled.{moved_none, moved_more, moved_all, shifted_none}

@@ -1,6 +1,4 @@
--- `arrivals::lists::shift` meets its contract: cost after cost is moved down, and as `to` is not above `from`, each is still the old one when it is read.
--- The loop's invariant: the costs below i are moved, and all numbers besides them are the old ones.
--- Assumes nothing.
+-- `arrivals::lists::shift`. The loop's invariant: the costs below i are moved, and all numbers besides them are the old ones.
 use Prim.Native.Nat.{◌-◌, ◌≤◌}
 use Rattle.arrivals.specs.Inner.Settled.{Moved}
 use Rattle.arrivals.proofs.lists.shift.Given as goal

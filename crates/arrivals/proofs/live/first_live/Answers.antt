@@ -1,5 +1,4 @@
--- `arrivals::live::first_live` meets its contract. The loop's invariant: the rows of the span below k are undercut.
--- Assumes nothing.
+-- `arrivals::live::first_live` meets its contract. Assumes nothing.
 use mathlib.Core.Path.{◌≡◌, subst}
 use mathlib.Core.Logic.{⊎_elim}
 use native.Mathlib.Omega.{arith}

@@ -1,5 +1,4 @@
--- `arrivals::live::first_live` meets its contract. The loop's invariant: the rows of the span below k are undercut.
--- Assumes nothing.
+-- `arrivals::live::first_live`. The loop's invariant: the rows of the span below k are undercut.
 use Prim.Native.Nat.{ℕ, ◌-◌, ◌≤◌, ◌<◌}
 use Rattle.arrivals.specs.Inner.Settling.{Undercut}
 use Rattle.arrivals.proofs.live.first_live.Given as goal

@@ -1,5 +1,4 @@
--- `arrivals::live::last_live` meets its contract. The loop's invariant: the rows of the span from k on are undercut.
--- Assumes nothing.
+-- `arrivals::live::last_live` meets its contract. Assumes nothing.
 use mathlib.Core.Path.{◌≡◌, subst}
 use mathlib.Core.Logic.{⊎_elim}
 use Prim.Native.Nat.{◌-◌}

@@ -1,5 +1,4 @@
--- `arrivals::live::last_live` meets its contract. The loop's invariant: the rows of the span from k on are undercut.
--- Assumes nothing.
+-- `arrivals::live::last_live`. The loop's invariant: the rows of the span from k on are undercut.
 use Prim.Native.Nat.{ℕ, ◌≤◌, ◌<◌}
 use Rattle.arrivals.specs.Inner.Settling.{Undercut}
 use Rattle.arrivals.proofs.live.last_live.Given as goal

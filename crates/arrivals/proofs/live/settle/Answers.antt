@@ -1,5 +1,4 @@
--- `arrivals::live::settle` meets its contract: place by place. The loop's invariant: the index has what it promises.
--- Assumes nothing.
+-- `arrivals::live::settle` meets its contract: place by place. Assumes nothing.
 use mathlib.Core.Path.{refl, ◌∙◌}
 use native.Mathlib.Omega.{arith}
 use mathlib.Core.Bool.{not}

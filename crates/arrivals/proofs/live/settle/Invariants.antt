@@ -1,5 +1,4 @@
--- `arrivals::live::settle` meets its contract: place by place. The loop's invariant: the index has what it promises.
--- Assumes nothing.
+-- `arrivals::live::settle`. The loop's invariant: the index has what it promises.
 use Prim.Native.Nat.{◌-◌, ◌≤◌}
 use Rattle.arrivals.specs.Inner.Settling.{Settles}
 use Rattle.arrivals.proofs.live.settle.Given as goal

@@ -1,5 +1,4 @@
 -- `arrivals::live::settle_place` meets its contract: the groups of the place are shortened from the newest on, and one that has no rows left is pointed past.
--- The loop's invariant: the index has what it promises, and the listed rows of the place before step p begin below step s.
 -- Assumes nothing.
 use mathlib.Core.Path.{◌≡◌, refl, sym, ◌∙◌, subst}
 use Prim.Native.Nat.{◌+◌, ◌-◌, ◌≤◌, ◌<◌}

@@ -1,6 +1,5 @@
--- `arrivals::network::none_between` meets its contract: the closures of the cell are gone through from the last. The loop's invariant: none of those
--- from x on is of the corridor at step s. One that is of it is of the cell.
--- Assumes nothing.
+-- `arrivals::network::none_between` meets its contract: the closures of the cell are gone through from the last. One that is of it is of the cell. Assumes
+-- nothing.
 use mathlib.Core.Path.{◌∙◌, sym, ap₂}
 use Prim.Native.Nat.{◌-◌}
 use native.Mathlib.Omega.{arith}

@@ -1,6 +1,4 @@
--- `arrivals::network::none_between` meets its contract: the closures of the cell are gone through from the last. The loop's invariant: none of those
--- from x on is of the corridor at step s. One that is of it is of the cell.
--- Assumes nothing.
+-- `arrivals::network::none_between`. The loop's invariant: none of those from x on is of the corridor at step s.
 use mathlib.Core.Path.{◌≡◌}
 use Rattle.arrivals.specs.Inner.Chains.{by_cell, cell, Passed}
 use Rattle.arrivals.specs.Inner.Network.{closures_of, Closes}

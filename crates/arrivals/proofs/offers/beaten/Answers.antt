@@ -1,6 +1,4 @@
--- `arrivals::offers::beaten` meets its contract: a row of the group is nowhere above g, or none is. The loop's invariant: none of the first i
--- rows is.
--- Assumes nothing.
+-- `arrivals::offers::beaten` meets its contract: a row of the group is nowhere above g, or none is. Assumes nothing.
 use mathlib.Core.List.{List}
 use mathlib.Core.Path.{subst, sym}
 use Prim.Native.Nat.{ℕ}

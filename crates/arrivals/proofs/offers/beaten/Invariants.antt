@@ -1,6 +1,4 @@
--- `arrivals::offers::beaten` meets its contract: a row of the group is nowhere above g, or none is. The loop's invariant: none of the first i
--- rows is.
--- Assumes nothing.
+-- `arrivals::offers::beaten`. The loop's invariant: none of the first i rows is.
 use Prim.Native.Nat.{◌-◌, ◌≤◌}
 use Rattle.arrivals.specs.Inner.Offering.{Beaten}
 use Rattle.arrivals.specs.Inner.Rows.{tail_of}

@@ -1,6 +1,4 @@
--- `arrivals::offers::insert` meets its contract: the rows move up by one, the last first. The loop's invariant: those from k on have, and the rest
--- is as it was.
--- Assumes nothing.
+-- `arrivals::offers::insert` meets its contract: the rows move up by one, the last first. Assumes nothing.
 use mathlib.Core.Path.{refl}
 use native.Mathlib.Omega.{arith}
 use borrow.Author.Rules.{rules}

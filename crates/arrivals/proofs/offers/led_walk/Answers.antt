@@ -1,6 +1,4 @@
--- `arrivals::offers::led_walk` meets its contract: the groups of the place are gone through from the newest. The loop's invariant: no row of it
--- at step s or later leads g.
--- Assumes nothing.
+-- `arrivals::offers::led_walk` meets its contract: the groups of the place are gone through from the newest. Assumes nothing.
 use mathlib.Core.Path.{◌≡◌}
 use Prim.Native.Nat.{◌+◌, ◌-◌}
 use native.Mathlib.Omega.{arith}

@@ -1,5 +1,4 @@
--- `arrivals::offers::place_of` meets its contract: the place is searched from the end. The loop's invariant: the rows from k on come after g.
--- Assumes nothing.
+-- `arrivals::offers::place_of` meets its contract: the place is searched from the end. Assumes nothing.
 use native.Mathlib.Omega.{arith}
 use Rattle.sheet.specs.Laws.Decided.{no_of, yes_of}
 use Rattle.arrivals.specs.Inner.Offering.{after_more}

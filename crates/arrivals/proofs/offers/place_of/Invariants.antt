@@ -1,5 +1,4 @@
--- `arrivals::offers::place_of` meets its contract: the place is searched from the end. The loop's invariant: the rows from k on come after g.
--- Assumes nothing.
+-- `arrivals::offers::place_of`. The loop's invariant: the rows from k on come after g.
 use Prim.Native.Nat.{◌≤◌}
 use Rattle.arrivals.specs.Inner.Offering.{After}
 use Rattle.arrivals.proofs.offers.place_of.Given as goal

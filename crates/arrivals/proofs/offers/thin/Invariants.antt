@@ -1,6 +1,4 @@
--- `arrivals::offers::thin` meets its contract: row after row is kept or dropped. The loop's invariant: k of the first i rows are kept, and the
--- rows past them are as they were.
--- Assumes nothing.
+-- `arrivals::offers::thin`. The loop's invariant: k of the first i rows are kept, and the rows past them are as they were.
 use mathlib.Core.Path.{◌≡◌}
 use Prim.Native.Nat.{◌*◌, ◌+◌, ◌-◌, ◌<◌, ◌≤◌, ℕ}
 use lib.ListN.{get_or, length}

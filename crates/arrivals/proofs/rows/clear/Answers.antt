@@ -1,5 +1,4 @@
--- `arrivals::rows::clear` meets its contract: zeros all through. The loop's invariant: the numbers below i are zero.
--- Assumes nothing.
+-- `arrivals::rows::clear` meets its contract: zeros all through. Assumes nothing.
 use mathlib.Core.List.{◌++◌, append-nil}
 use mathlib.Core.Path.{◌∙◌, ◌≡◌, ap}
 use Prim.Native.Nat.{ℕ}

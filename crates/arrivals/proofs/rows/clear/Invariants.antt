@@ -1,5 +1,4 @@
--- `arrivals::rows::clear` meets its contract: zeros all through. The loop's invariant: the numbers below i are zero.
--- Assumes nothing.
+-- `arrivals::rows::clear`. The loop's invariant: the numbers below i are zero.
 use mathlib.Core.List.{◌++◌}
 use mathlib.Core.Path.{◌≡◌}
 use Prim.Native.Nat.{◌-◌, ◌≤◌}

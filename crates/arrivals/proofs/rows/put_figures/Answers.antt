@@ -1,5 +1,4 @@
--- `arrivals::rows::put_figures` meets its contract: three stores. The loop's invariant: the figures below i are stored, and all else is kept.
--- Assumes nothing.
+-- `arrivals::rows::put_figures` meets its contract: three stores. Assumes nothing.
 use Prim.Native.Nat.{◌+◌}
 use native.Mathlib.Omega.{arith}
 use Rattle.sheet.specs.Laws.Decided.{fill-from, from-of}

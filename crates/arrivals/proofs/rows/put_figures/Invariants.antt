@@ -1,5 +1,4 @@
--- `arrivals::rows::put_figures` meets its contract: three stores. The loop's invariant: the figures below i are stored, and all else is kept.
--- Assumes nothing.
+-- `arrivals::rows::put_figures`. The loop's invariant: the figures below i are stored, and all else is kept.
 use mathlib.Core.Path.{◌≡◌}
 use Prim.Native.Nat.{◌+◌, ◌-◌, ◌<◌, ◌≤◌, ℕ}
 use lib.ListN.{get_or}

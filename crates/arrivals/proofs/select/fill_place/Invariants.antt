@@ -1,6 +1,4 @@
--- `arrivals::select::fill_place` meets its contract: row after row is chosen and put in. The loop's invariant: the place is being filled in,
--- with the rows below n.
--- Assumes nothing.
+-- `arrivals::select::fill_place`. The loop's invariant: the place is being filled in, with the rows below n.
 use mathlib.Core.Path.{◌≡◌}
 use Prim.Native.Nat.{◌*◌, ◌-◌, ◌≤◌}
 use lib.ListN.{length}

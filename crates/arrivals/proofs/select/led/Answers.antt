@@ -1,5 +1,4 @@
--- `arrivals::select::led` meets its contract: the rows are gone through from the last. The loop's invariant: no row from k on leads.
--- Assumes nothing.
+-- `arrivals::select::led` meets its contract: the rows are gone through from the last. Assumes nothing.
 use Prim.Native.Nat.{◌-◌}
 use native.Mathlib.Omega.{arith}
 use Rattle.sheet.specs.Laws.Decided.{fails, holds, no_of, yes_of}

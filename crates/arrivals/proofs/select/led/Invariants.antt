@@ -1,5 +1,4 @@
--- `arrivals::select::led` meets its contract: the rows are gone through from the last. The loop's invariant: no row from k on leads.
--- Assumes nothing.
+-- `arrivals::select::led`. The loop's invariant: no row from k on leads.
 use Prim.Native.Nat.{◌<◌, ◌≤◌, ℕ}
 use Rattle.arrivals.specs.Inner.Entering.{RowLeadsAt}
 use Rattle.arrivals.specs.Rows.{row_at}

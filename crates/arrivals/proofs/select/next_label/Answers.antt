@@ -1,6 +1,4 @@
--- `arrivals::select::next_label` meets its contract: the corridors are tried one after another. The loop's invariant: b is the best over those
--- below j.
--- Assumes nothing.
+-- `arrivals::select::next_label` meets its contract: the corridors are tried one after another. Assumes nothing.
 use mathlib.Core.Path.{refl}
 use native.Mathlib.Omega.{arith}
 use Rattle.arrivals.specs.Inner.Entering.{Enters, LedAt}

@@ -1,6 +1,4 @@
--- `arrivals::select::next_label` meets its contract: the corridors are tried one after another. The loop's invariant: b is the best over those
--- below j.
--- Assumes nothing.
+-- `arrivals::select::next_label`. The loop's invariant: b is the best over those below j.
 use mathlib.Core.Bool.{false}
 use mathlib.Core.Path.{◌≡◌}
 use Prim.Native.Nat.{◌-◌, ◌≤◌}

@@ -1,6 +1,4 @@
--- `arrivals::select::scan_rows` meets its contract: the rows are tried one after another. The loop's invariant: b is the best of best and of the
--- rows below k.
--- Assumes nothing.
+-- `arrivals::select::scan_rows`. The loop's invariant: b is the best of best and of the rows below k.
 use Prim.Native.Nat.{◌-◌, ◌≤◌}
 use Rattle.arrivals.specs.Inner.Entering.{LedAt}
 use Rattle.arrivals.specs.Inner.Pruning.{Tried}

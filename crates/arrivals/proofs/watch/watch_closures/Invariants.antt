@@ -1,5 +1,4 @@
--- `arrivals::watch::watch_closures` meets its contract. The loop's invariant: the places of the first x closures are added.
--- Assumes nothing.
+-- `arrivals::watch::watch_closures`. The loop's invariant: the places of the first x closures are added.
 use mathlib.Core.Path.{◌≡◌}
 use Prim.Native.Nat.{◌-◌, ◌≤◌}
 use lib.ListN.{length}

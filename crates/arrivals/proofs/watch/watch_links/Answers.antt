@@ -1,5 +1,4 @@
--- `arrivals::watch::watch_links` meets its contract. The loop's invariant: the places of the first j corridors are added.
--- Assumes nothing.
+-- `arrivals::watch::watch_links` meets its contract. Assumes nothing.
 use mathlib.Core.Path.{◌≡◌, refl, subst}
 use Prim.Native.Nat.{ℕ}
 use native.Mathlib.Omega.{arith}

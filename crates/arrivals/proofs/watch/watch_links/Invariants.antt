@@ -1,5 +1,4 @@
--- `arrivals::watch::watch_links` meets its contract. The loop's invariant: the places of the first j corridors are added.
--- Assumes nothing.
+-- `arrivals::watch::watch_links`. The loop's invariant: the places of the first j corridors are added.
 use mathlib.Core.Path.{◌≡◌}
 use Prim.Native.Nat.{◌-◌, ◌≤◌}
 use lib.ListN.{length}

@@ -1,6 +1,4 @@
--- `intervals::sets::add_ends` meets its contract. The loop's invariant: the places of the first k lines are added.
--- The measure is what is left of the lines.
--- Assumes nothing.
+-- `intervals::sets::add_ends` meets its contract. Assumes nothing.
 use mathlib.Core.Path.{◌≡◌, refl, subst}
 use Prim.Native.Nat.{ℕ, ◌/◌}
 use native.Mathlib.Omega.{arith}

@@ -1,6 +1,4 @@
--- `intervals::sets::add_ends` meets its contract. The loop's invariant: the places of the first k lines are added.
--- The measure is what is left of the lines.
--- Assumes nothing.
+-- `intervals::sets::add_ends`. The loop's invariant: the places of the first k lines are added. The measure is what is left of the lines.
 use mathlib.Core.Path.{◌≡◌}
 use Prim.Native.Nat.{◌-◌, ◌≤◌}
 use lib.ListN.{length}

@@ -1,6 +1,4 @@
--- `intervals::stays::stays` meets its contract. The loop's invariant: the first t steps are told.
--- The measure is what is left of the steps.
--- Assumes nothing.
+-- `intervals::stays::stays` meets its contract. Assumes nothing.
 use mathlib.Core.Path.{refl}
 use native.Mathlib.Omega.{arith}
 use Rattle.costs.specs.Laws.Figures.{stored-none, stored_more, stored-all}

@@ -1,6 +1,4 @@
--- `intervals::stays::stays` meets its contract. The loop's invariant: the first t steps are told.
--- The measure is what is left of the steps.
--- Assumes nothing.
+-- `intervals::stays::stays`. The loop's invariant: the first t steps are told. The measure is what is left of the steps.
 use Prim.Native.Nat.{◌-◌, ◌≤◌}
 use Rattle.costs.specs.Laws.Figures.{Stored}
 use Rattle.intervals.specs.Inner.{stay_by}

@@ -1,6 +1,4 @@
--- `journeys::chain::release` meets its contract. The loop's invariant: the rows taken out have gone, and those after the gap are rows of the table.
--- The measure is the count of rows after the gap.
--- Assumes nothing.
+-- `journeys::chain::release` meets its contract. Assumes nothing.
 use Rattle.journeys.proofs.Chains.{after-room, gone-none, gone-next}
 use Rattle.journeys.specs.declared.chain.Gap.{Gap}
 use Rattle.costs.specs.Costs.{Cost, fig}

@@ -1,6 +1,5 @@
--- `journeys::chain::release` meets its contract. The loop's invariant: the rows taken out have gone, and those after the gap are rows of the table.
--- The measure is the count of rows after the gap.
--- Assumes nothing.
+-- `journeys::chain::release`. The loop's invariant: the rows taken out have gone, and those after the gap are rows of the table. The measure is the count of
+-- rows after the gap.
 use Rattle.journeys.specs.Inner.Chain.{Releasable, Gone}
 use Rattle.journeys.proofs.chain.release.Given as goal
 

@@ -1,5 +1,4 @@
--- `journeys::compare::same_cost` meets its contract. The loop's invariant: the first j figures are equal. The measure is what is left of three.
--- Assumes nothing.
+-- `journeys::compare::same_cost` meets its contract. Assumes nothing.
 use native.Mathlib.Omega.{arith}
 use borrow.Author.Count.{below_more}
 use borrow.Author.Rules.{rules}

@@ -1,5 +1,4 @@
--- `journeys::compare::same_cost` meets its contract. The loop's invariant: the first j figures are equal. The measure is what is left of three.
--- Assumes nothing.
+-- `journeys::compare::same_cost`. The loop's invariant: the first j figures are equal. The measure is what is left of three.
 use Prim.Native.Nat.{◌≤◌, ◌-◌}
 use Rattle.journeys.specs.Inner.{SameFigures}
 use Rattle.journeys.proofs.compare.same_cost.Given as goal

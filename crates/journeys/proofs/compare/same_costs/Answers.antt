@@ -1,5 +1,4 @@
--- `journeys::compare::same_costs` meets its contract. The loop's invariant: the first k costs are equal. The measure is what is left of n.
--- Assumes nothing.
+-- `journeys::compare::same_costs` meets its contract. Assumes nothing.
 use native.Mathlib.Omega.{arith}
 use borrow.Author.Count.{below_more}
 use borrow.Author.Rules.{rules}

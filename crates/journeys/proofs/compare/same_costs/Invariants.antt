@@ -1,5 +1,4 @@
--- `journeys::compare::same_costs` meets its contract. The loop's invariant: the first k costs are equal. The measure is what is left of n.
--- Assumes nothing.
+-- `journeys::compare::same_costs`. The loop's invariant: the first k costs are equal. The measure is what is left of n.
 use Prim.Native.Nat.{◌≤◌, ◌-◌}
 use Rattle.journeys.specs.Inner.{SameRows}
 use Rattle.journeys.proofs.compare.same_costs.Given as goal

@@ -1,6 +1,4 @@
--- `journeys::front::climb` meets its contract. The loop's invariant: no row before the gap is nowhere above row k, and each has a lower third figure.
--- The measure is the count of rows after the gap.
--- Assumes nothing.
+-- `journeys::front::climb` meets its contract. Assumes nothing.
 use Rattle.journeys.proofs.Climbing.{climbing-start, tested, climb-room, climb-led, climb-next, climb-stop, climb-end}
 use Rattle.journeys.specs.declared.chain.Gap.{Gap}
 use Rattle.arrivals.specs.Rows.{cost_at}

@@ -1,6 +1,5 @@
--- `journeys::front::climb` meets its contract. The loop's invariant: no row before the gap is nowhere above row k, and each has a lower third figure.
--- The measure is the count of rows after the gap.
--- Assumes nothing.
+-- `journeys::front::climb`. The loop's invariant: no row before the gap is nowhere above row k, and each has a lower third figure. The measure is the count
+-- of rows after the gap.
 use Rattle.journeys.proofs.Climbing.{Climbing}
 use Rattle.journeys.specs.Inner.Chain.{chain}
 use Rattle.journeys.proofs.front.climb.Given as goal

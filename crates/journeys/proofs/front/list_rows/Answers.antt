@@ -1,6 +1,4 @@
--- `journeys::front::list_rows` meets its contract. The loop's invariant: the rows taken so far are listed.
--- The measure is the count of rows ahead.
--- Assumes nothing.
+-- `journeys::front::list_rows` meets its contract. Assumes nothing.
 use Rattle.journeys.proofs.Listing.{listable-next}
 use native.Mathlib.Omega.{arith}
 use mathlib.Core.Path.{refl, ◌∙◌}

@@ -1,6 +1,4 @@
--- `journeys::front::list_rows` meets its contract. The loop's invariant: the rows taken so far are listed.
--- The measure is the count of rows ahead.
--- Assumes nothing.
+-- `journeys::front::list_rows`. The loop's invariant: the rows taken so far are listed. The measure is the count of rows ahead.
 use Rattle.journeys.specs.Inner.Sweep.{Listable, ListedOn}
 use lib.ListN.{length}
 use mathlib.Core.Path.{◌≡◌}

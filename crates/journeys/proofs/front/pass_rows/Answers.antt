@@ -1,6 +1,4 @@
--- `journeys::front::pass_rows` meets its contract. The loop's invariant: the table is being swept, and no more rows than asked for are taken.
--- The measure is the count of rows ahead.
--- Assumes nothing.
+-- `journeys::front::pass_rows` meets its contract. Assumes nothing.
 use Rattle.journeys.proofs.Passing.{sweepable-next}
 use native.Mathlib.Omega.{arith}
 use mathlib.Core.Logic.{inl, inr, ⊎_elim}

@@ -1,6 +1,5 @@
--- `journeys::front::pass_rows` meets its contract. The loop's invariant: the table is being swept, and no more rows than asked for are taken.
--- The measure is the count of rows ahead.
--- Assumes nothing.
+-- `journeys::front::pass_rows`. The loop's invariant: the table is being swept, and no more rows than asked for are taken. The measure is the count of rows
+-- ahead.
 use Rattle.journeys.specs.Inner.Sweep.{Sweepable, SweptOn}
 use lib.ListN.{length}
 use Prim.Native.Nat.{◌≤◌}

@@ -1,5 +1,4 @@
--- `journeys::front::put_cost` meets its contract. The loop's invariant: the first j figures are written. The measure is what is left of the three.
--- Assumes nothing.
+-- `journeys::front::put_cost` meets its contract. Assumes nothing.
 use mathlib.Core.Path.{◌≡◌, refl, sym, ◌∙◌, ap}
 use mathlib.Core.List.{List, [], ◌∷◌}
 use Prim.Native.Nat.{ℕ, ◌+◌, ◌*◌, ◌<◌}

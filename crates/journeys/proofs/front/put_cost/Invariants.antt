@@ -1,5 +1,4 @@
--- `journeys::front::put_cost` meets its contract. The loop's invariant: the first j figures are written. The measure is what is left of the three.
--- Assumes nothing.
+-- `journeys::front::put_cost`. The loop's invariant: the first j figures are written. The measure is what is left of the three.
 use mathlib.Core.Path.{◌≡◌}
 use Prim.Native.Nat.{◌*◌, ◌-◌, ◌≤◌}
 use lib.ListN.{length, take}

@@ -1,5 +1,4 @@
--- `journeys::goal::next_goal` meets its contract. The loop's invariant: none of the rows passed is the goal's. The measure is what is left of the rows.
--- Assumes nothing.
+-- `journeys::goal::next_goal` meets its contract. Assumes nothing.
 use Rattle.journeys.proofs.Ordering.{no-goal-more}
 use native.Mathlib.Omega.{arith}
 use mathlib.Core.Path.{sym, ◌∙◌}

@@ -1,5 +1,4 @@
--- `journeys::goal::next_goal` meets its contract. The loop's invariant: none of the rows passed is the goal's. The measure is what is left of the rows.
--- Assumes nothing.
+-- `journeys::goal::next_goal`. The loop's invariant: none of the rows passed is the goal's. The measure is what is left of the rows.
 use Rattle.journeys.specs.Inner.Chain.{NoGoal}
 use Prim.Native.Nat.{◌-◌, ◌≤◌}
 use Rattle.journeys.proofs.goal.next_goal.Given as goal

@@ -1,6 +1,4 @@
--- `journeys::goal::order_rows` meets its contract. The loop's invariant: the goal's rows before row k are ordered, and row k, if there is one, is the goal's.
--- The measure is what is left of the rows.
--- Assumes nothing.
+-- `journeys::goal::order_rows` meets its contract. Assumes nothing.
 use Rattle.journeys.proofs.Ordering.{ordering-none, ordering-next, ordering-all}
 use Rattle.journeys.specs.Inner.Chain.{Ordering}
 use native.Mathlib.Omega.{arith}

@@ -1,6 +1,5 @@
--- `journeys::goal::order_rows` meets its contract. The loop's invariant: the goal's rows before row k are ordered, and row k, if there is one, is the goal's.
--- The measure is what is left of the rows.
--- Assumes nothing.
+-- `journeys::goal::order_rows`. The loop's invariant: the goal's rows before row k are ordered, and row k, if there is one, is the goal's. The measure is
+-- what is left of the rows.
 use Rattle.journeys.specs.Inner.{is_goal_row}
 use Rattle.journeys.specs.Inner.Chain.{Ordering}
 use Rattle.arrivals.specs.Rows.{row_at}

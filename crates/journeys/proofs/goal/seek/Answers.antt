@@ -1,6 +1,4 @@
--- `journeys::goal::seek` meets its contract. The loop's invariant: the gap is one of the same chain, and g is not before the row before it.
--- The measure is the count of rows after the gap.
--- Assumes nothing.
+-- `journeys::goal::seek` meets its contract. Assumes nothing.
 use Rattle.journeys.proofs.Climbing.{tested}
 use Rattle.journeys.proofs.Ordering.{compared, right-room, seekable-next, seekable-from, sought-next, sought-then, sought-led, sought-above}
 use Rattle.journeys.specs.declared.chain.Gap.{Gap}

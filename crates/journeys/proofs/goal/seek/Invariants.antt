@@ -1,6 +1,5 @@
--- `journeys::goal::seek` meets its contract. The loop's invariant: the gap is one of the same chain, and g is not before the row before it.
--- The measure is the count of rows after the gap.
--- Assumes nothing.
+-- `journeys::goal::seek`. The loop's invariant: the gap is one of the same chain, and g is not before the row before it. The measure is the count of rows
+-- after the gap.
 use Rattle.journeys.specs.Inner.Chain.{Seekable, SoughtFrom}
 use Rattle.journeys.proofs.goal.seek.Given as goal
 

@@ -1,6 +1,4 @@
--- `journeys::lookup::rows_before` meets its contract. The loop's invariant: the rows below `low` come before a, and those from `high` on do not. The
--- measure is what lies between.
--- Assumes nothing.
+-- `journeys::lookup::rows_before` meets its contract. Assumes nothing.
 use mathlib.Core.Path.{◌≡◌, ◌∙◌, ap}
 use mathlib.Core.Bool.{Bool}
 use native.Mathlib.Omega.{arith}

@@ -1,6 +1,5 @@
--- `journeys::lookup::rows_before` meets its contract. The loop's invariant: the rows below `low` come before a, and those from `high` on do not. The
--- measure is what lies between.
--- Assumes nothing.
+-- `journeys::lookup::rows_before`. The loop's invariant: the rows below `low` come before a, and those from `high` on do not. The measure is what lies
+-- between.
 use Prim.Native.Nat.{◌-◌}
 use Rattle.sheet.specs.Seek.{Parted}
 use Rattle.arrivals.specs.Arrivals.{key_of}

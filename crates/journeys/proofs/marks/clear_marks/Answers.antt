@@ -1,6 +1,4 @@
--- `journeys::marks::clear_marks` meets its contract. The loop's invariant: the rows below number k have no mark any more, and all else is kept. The measure
--- is what is left of the rows.
--- Assumes nothing.
+-- `journeys::marks::clear_marks` meets its contract. Assumes nothing.
 use native.Mathlib.Omega.{arith}
 use Rattle.journeys.proofs.Marking.{bared-none, bared-more, bared-all}
 use Rattle.journeys.proofs.marks.clear_marks.Goals as goal

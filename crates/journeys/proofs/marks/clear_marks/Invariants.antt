@@ -1,6 +1,5 @@
--- `journeys::marks::clear_marks` meets its contract. The loop's invariant: the rows below number k have no mark any more, and all else is kept. The measure
--- is what is left of the rows.
--- Assumes nothing.
+-- `journeys::marks::clear_marks`. The loop's invariant: the rows below number k have no mark any more, and all else is kept. The measure is what is left of
+-- the rows.
 use Prim.Native.Nat.{◌-◌, ◌≤◌}
 use Rattle.journeys.specs.Inner.Marks.{Bared}
 use Rattle.journeys.proofs.marks.clear_marks.Given as goal

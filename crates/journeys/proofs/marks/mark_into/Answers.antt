@@ -1,6 +1,4 @@
--- `journeys::marks::mark_into` meets its contract. The loop's invariant: the rows from which a cart can cross by a corridor below number l are marked.
--- The measure is what is left of the corridors.
--- Assumes nothing.
+-- `journeys::marks::mark_into` meets its contract. Assumes nothing.
 use mathlib.Core.Path.{refl}
 use native.Mathlib.Omega.{arith}
 use Rattle.sheet.specs.Kinds.{kind_c}

@@ -1,6 +1,5 @@
--- `journeys::marks::mark_into` meets its contract. The loop's invariant: the rows from which a cart can cross by a corridor below number l are marked.
--- The measure is what is left of the corridors.
--- Assumes nothing.
+-- `journeys::marks::mark_into`. The loop's invariant: the rows from which a cart can cross by a corridor below number l are marked. The measure is what is
+-- left of the corridors.
 use mathlib.Core.Path.{◌≡◌}
 use Prim.Native.Nat.{◌-◌, ◌≤◌}
 use Rattle.sheet.specs.Lists.{number}

@@ -1,6 +1,4 @@
--- `journeys::marks::mark_step` meets its contract. The loop's invariant: the rows from which a cart can cross to where a row below number k stands are
--- marked. The measure is what is left of the rows.
--- Assumes nothing.
+-- `journeys::marks::mark_step` meets its contract. Assumes nothing.
 use mathlib.Core.Path.{ap}
 use native.Mathlib.Omega.{arith}
 use Rattle.arrivals.specs.Arrivals.{Arrival}

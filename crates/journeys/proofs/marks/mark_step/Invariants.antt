@@ -1,6 +1,5 @@
--- `journeys::marks::mark_step` meets its contract. The loop's invariant: the rows from which a cart can cross to where a row below number k stands are
--- marked. The measure is what is left of the rows.
--- Assumes nothing.
+-- `journeys::marks::mark_step`. The loop's invariant: the rows from which a cart can cross to where a row below number k stands are marked. The measure is
+-- what is left of the rows.
 use Prim.Native.Nat.{◌-◌, ◌≤◌}
 use Rattle.sheet.specs.Store.{sheet_in}
 use Rattle.journeys.specs.Inner.Marks.{Raised, Onto}

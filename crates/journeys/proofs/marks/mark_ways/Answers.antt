@@ -1,6 +1,4 @@
--- `journeys::marks::mark_ways` meets its contract. The loop's invariant: the table is as it was but for the marks, and the marks of a front cost that were
--- right at the arrival are right from step t on. The measure is t.
--- Assumes nothing.
+-- `journeys::marks::mark_ways` meets its contract. Assumes nothing.
 use mathlib.Core.Path.{◌≡◌, ◌∙◌, subst}
 use native.Mathlib.Omega.{arith}
 use Rattle.sheet.specs.Laws.Store.{store_length, head-number}

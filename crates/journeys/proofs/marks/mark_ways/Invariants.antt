@@ -1,6 +1,5 @@
--- `journeys::marks::mark_ways` meets its contract. The loop's invariant: the table is as it was but for the marks, and the marks of a front cost that were
--- right at the arrival are right from step t on. The measure is t.
--- Assumes nothing.
+-- `journeys::marks::mark_ways`. The loop's invariant: the table is as it was but for the marks, and the marks of a front cost that were right at the arrival
+-- are right from step t on. The measure is t.
 use Prim.Native.Nat.{◌+◌, ◌≤◌}
 use Rattle.sheet.specs.Store.{sheet_in}
 use Rattle.costs.specs.Costs.{Cost}

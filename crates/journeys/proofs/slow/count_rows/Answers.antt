@@ -1,5 +1,4 @@
--- `journeys::slow::count_rows` meets its contract. The loop's invariant: the count is that of the first k rows. The measure is what is left of the rows.
--- Assumes nothing.
+-- `journeys::slow::count_rows` meets its contract. Assumes nothing.
 use mathlib.Core.Path.{◌≡◌, refl, sym, ◌∙◌, ap, ap₂}
 use mathlib.Core.Bool.{Bool, ◌&&◌, ◌||◌}
 use native.Mathlib.Omega.{arith}

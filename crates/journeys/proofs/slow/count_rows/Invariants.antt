@@ -1,5 +1,4 @@
--- `journeys::slow::count_rows` meets its contract. The loop's invariant: the count is that of the first k rows. The measure is what is left of the rows.
--- Assumes nothing.
+-- `journeys::slow::count_rows`. The loop's invariant: the count is that of the first k rows. The measure is what is left of the rows.
 use mathlib.Core.Path.{◌≡◌}
 use Prim.Native.Nat.{◌-◌, ◌≤◌}
 use Rattle.journeys.specs.Inner.Slow.{count_to}

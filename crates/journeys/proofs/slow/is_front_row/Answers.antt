@@ -1,6 +1,4 @@
--- `journeys::slow::is_front_row` meets its contract. The loop's invariant: none of the first j rows keeps row k off.
--- The measure is what is left of the rows.
--- Assumes nothing.
+-- `journeys::slow::is_front_row` meets its contract. Assumes nothing.
 use mathlib.Core.Path.{◌≡◌, refl, sym, ◌∙◌, ap}
 use mathlib.Core.Bool.{true}
 use native.Mathlib.Omega.{arith}

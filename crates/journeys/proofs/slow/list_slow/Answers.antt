@@ -1,5 +1,4 @@
--- `journeys::slow::list_slow` meets its contract. The loop's invariant: the first i costs are listed. The measure is what is left of them.
--- Assumes nothing.
+-- `journeys::slow::list_slow` meets its contract. Assumes nothing.
 use mathlib.Core.Path.{◌≡◌, refl, sym, ◌∙◌, subst}
 use mathlib.Core.List.{[], ◌∷◌}
 use Prim.Native.Nat.{ℕ}

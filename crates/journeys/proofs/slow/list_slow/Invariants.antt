@@ -1,5 +1,4 @@
--- `journeys::slow::list_slow` meets its contract. The loop's invariant: the first i costs are listed. The measure is what is left of them.
--- Assumes nothing.
+-- `journeys::slow::list_slow`. The loop's invariant: the first i costs are listed. The measure is what is left of them.
 use mathlib.Core.Path.{◌≡◌}
 use Prim.Native.Nat.{◌-◌, ◌≤◌}
 use lib.ListN.{length}

@@ -1,5 +1,4 @@
--- `journeys::slow::nth_slow` meets its contract. The loop's invariant: none of the first k rows is the one. The measure is what is left of the rows.
--- Assumes nothing.
+-- `journeys::slow::nth_slow`. The loop's invariant: none of the first k rows is the one. The measure is what is left of the rows.
 use mathlib.Core.Path.{◌≡◌}
 use mathlib.Core.Bool.{true}
 use Prim.Native.Nat.{◌-◌, ◌≤◌}

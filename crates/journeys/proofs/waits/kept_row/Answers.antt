@@ -1,5 +1,4 @@
--- `journeys::waits::kept_row` meets its contract. The loop's invariant: no row at a step from s on becomes the cost. The measure is s.
--- Assumes nothing.
+-- `journeys::waits::kept_row` meets its contract. Assumes nothing.
 use mathlib.Core.Path.{refl}
 use native.Mathlib.Omega.{arith}
 use Rattle.journeys.proofs.Waiting.{none_yet, none-sooner, kept-found, kept-none}

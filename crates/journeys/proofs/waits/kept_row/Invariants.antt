@@ -1,5 +1,4 @@
--- `journeys::waits::kept_row` meets its contract. The loop's invariant: no row at a step from s on becomes the cost. The measure is s.
--- Assumes nothing.
+-- `journeys::waits::kept_row`. The loop's invariant: no row at a step from s on becomes the cost. The measure is s.
 use mathlib.Core.Path.{◌≡◌}
 use Prim.Native.Nat.{◌+◌, ◌≤◌}
 use Rattle.journeys.proofs.Waiting.{NoneFrom}

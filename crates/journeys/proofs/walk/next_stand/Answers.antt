@@ -1,6 +1,4 @@
--- `journeys::walk::next_stand` meets its contract. The loop's invariant: of a wait and the corridors below number l, the best has the lowest place. The
--- measure is the number of corridors left.
--- Assumes nothing.
+-- `journeys::walk::next_stand` meets its contract. Assumes nothing.
 use native.Mathlib.Omega.{arith}
 use Rattle.sheet.specs.Kinds.{kind_c}
 use Rattle.sheet.specs.Laws.Store.{store-counts, store-few}

@@ -1,6 +1,5 @@
--- `journeys::walk::next_stand` meets its contract. The loop's invariant: of a wait and the corridors below number l, the best has the lowest place. The
--- measure is the number of corridors left.
--- Assumes nothing.
+-- `journeys::walk::next_stand`. The loop's invariant: of a wait and the corridors below number l, the best has the lowest place. The measure is the number of
+-- corridors left.
 use Prim.Native.Nat.{◌-◌}
 use Rattle.sheet.specs.Store.{sheet_in}
 use Rattle.journeys.specs.Inner.Lookup.{standing}

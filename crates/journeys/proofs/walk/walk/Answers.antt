@@ -1,6 +1,4 @@
--- `journeys::walk::walk` meets its contract. The loop's invariant: for any front cost that the marks are of, the walk has come to `at`, and the places gone to
--- are written. The measure is what is left of the steps.
--- Assumes nothing.
+-- `journeys::walk::walk` meets its contract. Assumes nothing.
 use mathlib.Core.Path.{refl, ◌∙◌}
 use native.Mathlib.Omega.{arith}
 use lib.ListN.{length-set}

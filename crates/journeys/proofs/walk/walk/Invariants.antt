@@ -1,6 +1,5 @@
--- `journeys::walk::walk` meets its contract. The loop's invariant: for any front cost that the marks are of, the walk has come to `at`, and the places gone to
--- are written. The measure is what is left of the steps.
--- Assumes nothing.
+-- `journeys::walk::walk`. The loop's invariant: for any front cost that the marks are of, the walk has come to `at`, and the places gone to are written. The
+-- measure is what is left of the steps.
 use mathlib.Core.Path.{◌≡◌}
 use Prim.Native.Nat.{◌-◌, ◌≤◌, ◌<◌}
 use lib.ListN.{length}

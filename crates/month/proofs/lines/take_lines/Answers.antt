@@ -1,6 +1,4 @@
--- `month::lines::take_lines` meets its contract. The loop's invariant: the lines from `at` on are judged, after those before, as the whole.
--- The measure is what is left of the bytes: each line taken ends further on.
--- Assumes nothing.
+-- `month::lines::take_lines` meets its contract. Assumes nothing.
 use native.Mathlib.Omega.{arith}
 use borrow.Author.Rules.{rules}
 use Rattle.month.proofs.Reading.{read-begun, reached-few, reached-gathered, read-refused, read-over}

@@ -1,6 +1,5 @@
--- `month::lines::take_lines` meets its contract. The loop's invariant: the lines from `at` on are judged, after those before, as the whole.
--- The measure is what is left of the bytes: each line taken ends further on.
--- Assumes nothing.
+-- `month::lines::take_lines`. The loop's invariant: the lines from `at` on are judged, after those before, as the whole. The measure is what is left of the
+-- bytes: each line taken ends further on.
 use Prim.Native.Nat.{◌-◌}
 use lib.ListN.{length}
 use Rattle.month.specs.Month.{month_of}

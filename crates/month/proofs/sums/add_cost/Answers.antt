@@ -1,6 +1,4 @@
--- `month::sums::add_cost` meets its contract. The loop's invariant: the first i figures have the cost besides, the rest are as they were.
--- The measure is what is left of the three figures.
--- Assumes nothing.
+-- `month::sums::add_cost` meets its contract. Assumes nothing.
 use mathlib.Core.Path.{◌∙◌, ap}
 use Prim.Native.Nat.{ℕ, ◌+◌}
 use native.Mathlib.Omega.{arith}

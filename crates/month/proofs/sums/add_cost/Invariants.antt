@@ -1,6 +1,5 @@
--- `month::sums::add_cost` meets its contract. The loop's invariant: the first i figures have the cost besides, the rest are as they were.
--- The measure is what is left of the three figures.
--- Assumes nothing.
+-- `month::sums::add_cost`. The loop's invariant: the first i figures have the cost besides, the rest are as they were. The measure is what is left of the
+-- three figures.
 use Prim.Native.Nat.{◌+◌, ◌-◌, ◌≤◌}
 use lib.Dec.{leb}
 use Rattle.costs.specs.Costs.{fig}

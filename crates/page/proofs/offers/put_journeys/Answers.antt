@@ -1,5 +1,4 @@
--- `page::offers::put_journeys` meets its contract. Invariant: the lines of the rows below position i are written, and the table is what it was.
--- Assumes nothing.
+-- `page::offers::put_journeys` meets its contract. Assumes nothing.
 use mathlib.Core.Path.{◌≡◌, refl, sym, ◌∙◌, ap, subst}
 use mathlib.Core.List.{List}
 use native.Mathlib.Omega.{arith}

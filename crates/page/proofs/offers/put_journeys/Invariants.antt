@@ -1,5 +1,4 @@
--- `page::offers::put_journeys` meets its contract. Invariant: the lines of the rows below position i are written, and the table is what it was.
--- Assumes nothing.
+-- `page::offers::put_journeys`. Invariant: the lines of the rows below position i are written, and the table is what it was.
 use mathlib.Core.Path.{◌≡◌}
 use Prim.Native.Nat.{◌-◌, ◌≤◌}
 use lib.ListN.{length}

@@ -1,6 +1,4 @@
--- `sheet::bytes::feed_from` meets its contract. Invariant, as for `near_feed`: i and the bytes that stand before the first line feed from there on make the
--- position sought. Each of the four bytes of a turn is that line feed, or is passed.
--- Assumes nothing.
+-- `sheet::bytes::feed_from`. Invariant, as for `near_feed`: i and the bytes that stand before the first line feed from there on make the position sought.
 use mathlib.Core.Path.{◌≡◌}
 use mathlib.Core.List.{List}
 use Prim.Native.Nat.{ℕ, ◌≤◌, ◌-◌, ◌+◌}

@@ -1,6 +1,4 @@
--- `sheet::bytes::near_feed` meets its contract. Invariant: i and the bytes that stand before the first line feed from there on make the
--- position sought.
--- Assumes nothing.
+-- `sheet::bytes::near_feed` meets its contract. Assumes nothing.
 use mathlib.Core.Path.{refl, sym, ◌∙◌}
 use native.Mathlib.Omega.{arith}
 use Rattle.sheet.specs.Bytes.{line_feed}

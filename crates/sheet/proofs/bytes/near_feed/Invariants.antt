@@ -1,6 +1,4 @@
--- `sheet::bytes::near_feed` meets its contract. Invariant: i and the bytes that stand before the first line feed from there on make the
--- position sought.
--- Assumes nothing.
+-- `sheet::bytes::near_feed`. Invariant: i and the bytes that stand before the first line feed from there on make the position sought.
 use mathlib.Core.Path.{◌≡◌}
 use Prim.Native.Nat.{◌≤◌, ◌-◌, ◌+◌}
 use lib.ListN.{length, drop}

@@ -1,6 +1,4 @@
--- `sheet::judge::is_behind` meets its contract. The loop's invariant: the counts from j on decide the same as all the later ones.
--- The measure is what is left of the kinds.
--- Assumes nothing.
+-- `sheet::judge::is_behind` meets its contract. Assumes nothing.
 use mathlib.Core.Path.{◌≡◌, sym, ◌∙◌, ap}
 use mathlib.Core.Bool.{Bool, true, false, not}
 use Prim.Native.Nat.{suc}

@@ -1,6 +1,4 @@
--- `sheet::judge::is_outside` meets its contract. The loop's invariant: the first i numbers are within their limits, so what is left is outside
--- exactly where the whole is. The measure is what is left of w.
--- Assumes nothing.
+-- `sheet::judge::is_outside` meets its contract. Assumes nothing.
 use mathlib.Core.Path.{refl, sym, ◌∙◌}
 use native.Mathlib.Omega.{arith}
 use borrow.Author.Rules.{rules}

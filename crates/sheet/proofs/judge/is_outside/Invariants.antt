@@ -1,6 +1,5 @@
--- `sheet::judge::is_outside` meets its contract. The loop's invariant: the first i numbers are within their limits, so what is left is outside
--- exactly where the whole is. The measure is what is left of w.
--- Assumes nothing.
+-- `sheet::judge::is_outside`. The loop's invariant: the first i numbers are within their limits, so what is left is outside exactly where the whole is. The
+-- measure is what is left of w.
 use mathlib.Core.Path.{◌≡◌}
 use mathlib.Core.List.{map}
 use Prim.Native.Nat.{◌-◌, ◌≤◌}

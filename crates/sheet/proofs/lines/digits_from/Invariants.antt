@@ -1,6 +1,5 @@
--- `sheet::lines::digits_from` meets its contract. Invariant: the field ends where it ended, what is still to be read of it, from the value
--- so far, is what the whole reads as, and the value has at most i - at digits, of which there are at most eight before one more is read.
--- Assumes nothing.
+-- `sheet::lines::digits_from`. Invariant: the field ends where it ended, what is still to be read of it, from the value so far, is what the whole reads as,
+-- and the value has at most i - at digits, of which there are at most eight before one more is read.
 use mathlib.Core.Path.{◌≡◌}
 use Prim.Native.Nat.{◌≤◌, ◌<◌, ◌+◌, ◌-◌, ◌^◌}
 use lib.ListN.{length, drop}

@@ -1,6 +1,4 @@
--- `sheet::lines::numbers_in` meets its contract. Invariant: the numbers so far, in front of what is left to read, are what the whole reads
--- as.
--- Assumes nothing.
+-- `sheet::lines::numbers_in` meets its contract. Assumes nothing.
 use mathlib.Core.Bool.{Bool, false}
 use mathlib.Core.Path.{◌≡◌, refl, sym, ◌∙◌, ap}
 use mathlib.Core.Option.{some, none}

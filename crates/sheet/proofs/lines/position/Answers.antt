@@ -1,5 +1,4 @@
--- `sheet::lines::position` meets its contract: the letters are gone through from the last. Invariant: `found` is the position among the letters from k on.
--- Assumes nothing.
+-- `sheet::lines::position` meets its contract: the letters are gone through from the last. Assumes nothing.
 use mathlib.Core.Path.{◌≡◌}
 use mathlib.Core.List.{List}
 use Prim.Native.Nat.{ℕ, zero, suc, ◌≤◌, ◌<◌, ◌+◌, ◌-◌}

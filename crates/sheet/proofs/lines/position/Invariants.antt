@@ -1,5 +1,4 @@
--- `sheet::lines::position` meets its contract: the letters are gone through from the last. Invariant: `found` is the position among the letters from k on.
--- Assumes nothing.
+-- `sheet::lines::position`. Invariant: `found` is the position among the letters from k on.
 use mathlib.Core.Path.{◌≡◌}
 use Prim.Native.Nat.{◌≤◌, ◌+◌}
 use lib.ListN.{length, drop}

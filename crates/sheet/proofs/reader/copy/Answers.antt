@@ -1,5 +1,4 @@
--- `sheet::reader::copy` meets its contract. Invariant: the first i numbers are copied.
--- Assumes nothing.
+-- `sheet::reader::copy` meets its contract. Assumes nothing.
 use mathlib.Core.Path.{refl, sym, ◌∙◌}
 use native.Mathlib.Omega.{arith}
 use lib.ListN.{length-set}

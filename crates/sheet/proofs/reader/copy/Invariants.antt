@@ -1,5 +1,4 @@
--- `sheet::reader::copy` meets its contract. Invariant: the first i numbers are copied.
--- Assumes nothing.
+-- `sheet::reader::copy`. Invariant: the first i numbers are copied.
 use mathlib.Core.Path.{◌≡◌}
 use Prim.Native.Nat.{◌-◌, ◌≤◌}
 use lib.ListN.{length, take}

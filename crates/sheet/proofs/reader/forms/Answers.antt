@@ -1,5 +1,4 @@
--- `sheet::reader::forms` meets its contract. Invariant: the first k letters and counts are those of the first k kinds.
--- Assumes nothing.
+-- `sheet::reader::forms` meets its contract. Assumes nothing.
 use mathlib.Core.Path.{◌≡◌, refl, sym, ◌∙◌, ap, subst}
 use mathlib.Core.List.{List, map}
 use Prim.Native.Nat.{ℕ, ◌+◌, ◌≤◌, ◌<◌}

@@ -1,5 +1,4 @@
--- `sheet::reader::forms` meets its contract. Invariant: the first k letters and counts are those of the first k kinds.
--- Assumes nothing.
+-- `sheet::reader::forms`. Invariant: the first k letters and counts are those of the first k kinds.
 use mathlib.Core.Path.{◌≡◌}
 use mathlib.Core.List.{map}
 use Prim.Native.Nat.{◌-◌, ◌≤◌}

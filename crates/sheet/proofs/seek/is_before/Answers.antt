@@ -1,6 +1,4 @@
--- `sheet::seek::is_before` meets its contract. The loop's invariant: the first i numbers of both are the same, so the order of what is left is
--- the order of the whole. The measure is what is left of n.
--- Assumes nothing.
+-- `sheet::seek::is_before` meets its contract. Assumes nothing.
 use mathlib.Core.Path.{refl, sym, ◌∙◌}
 use native.Mathlib.Omega.{arith}
 use borrow.Author.Rules.{rules}

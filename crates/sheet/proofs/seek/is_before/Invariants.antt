@@ -1,6 +1,5 @@
--- `sheet::seek::is_before` meets its contract. The loop's invariant: the first i numbers of both are the same, so the order of what is left is
--- the order of the whole. The measure is what is left of n.
--- Assumes nothing.
+-- `sheet::seek::is_before`. The loop's invariant: the first i numbers of both are the same, so the order of what is left is the order of the whole. The
+-- measure is what is left of n.
 use mathlib.Core.Path.{◌≡◌}
 use Prim.Native.Nat.{◌-◌, ◌≤◌}
 use lib.ListN.{length, take, drop}

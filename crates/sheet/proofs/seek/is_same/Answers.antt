@@ -1,5 +1,4 @@
--- `sheet::seek::is_same` meets its contract. The loop's invariant: the first i numbers of both are the same. The measure is what is left of n.
--- Assumes nothing.
+-- `sheet::seek::is_same` meets its contract. Assumes nothing.
 use mathlib.Core.Path.{◌≡◌, refl, subst}
 use Prim.Native.Nat.{ℕ}
 use native.Mathlib.Omega.{arith}

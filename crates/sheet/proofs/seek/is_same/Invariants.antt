@@ -1,5 +1,4 @@
--- `sheet::seek::is_same` meets its contract. The loop's invariant: the first i numbers of both are the same. The measure is what is left of n.
--- Assumes nothing.
+-- `sheet::seek::is_same`. The loop's invariant: the first i numbers of both are the same. The measure is what is left of n.
 use mathlib.Core.Path.{◌≡◌}
 use Prim.Native.Nat.{◌-◌, ◌≤◌}
 use lib.ListN.{length, take, drop}

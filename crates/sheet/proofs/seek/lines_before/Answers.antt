@@ -1,6 +1,4 @@
--- `sheet::seek::lines_before` meets its contract. The loop's invariant: the lines below `low` come before v, and those from `high` on do not. The measure
--- is what lies between.
--- Assumes nothing.
+-- `sheet::seek::lines_before` meets its contract. Assumes nothing.
 use Prim.Native.Nat.{ℕ, ◌+◌, ◌*◌, ◌/◌, ◌-◌, ◌≤◌, ◌<◌}
 use native.Mathlib.Omega.{arith}
 use Rattle.sheet.specs.Laws.Seek.{parted-none, parted-low, parted-high, parted-all}

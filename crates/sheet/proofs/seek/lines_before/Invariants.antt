@@ -1,6 +1,4 @@
--- `sheet::seek::lines_before` meets its contract. The loop's invariant: the lines below `low` come before v, and those from `high` on do not. The measure
--- is what lies between.
--- Assumes nothing.
+-- `sheet::seek::lines_before`. The loop's invariant: the lines below `low` come before v, and those from `high` on do not. The measure is what lies between.
 use Prim.Native.Nat.{◌-◌}
 use lib.ListN.{take}
 use Rattle.sheet.specs.Seek.{Parted, key_in}

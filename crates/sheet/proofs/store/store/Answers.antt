@@ -1,6 +1,4 @@
--- `sheet::store::store` meets its contract. The loop's invariant: of the first w numbers, the first i are written. The measure is what is left of the
--- eight.
--- Assumes nothing.
+-- `sheet::store::store` meets its contract. Assumes nothing.
 use mathlib.Core.Path.{◌≡◌, refl, sym, ◌∙◌, ap}
 use mathlib.Core.Bool.{Bool, true, false}
 use mathlib.Core.List.{List}

@@ -1,6 +1,4 @@
--- `sheet::store::store` meets its contract. The loop's invariant: of the first w numbers, the first i are written. The measure is what is left of the
--- eight.
--- Assumes nothing.
+-- `sheet::store::store`. The loop's invariant: of the first w numbers, the first i are written. The measure is what is left of the eight.
 use mathlib.Core.Path.{◌≡◌}
 use Prim.Native.Nat.{◌-◌, ◌≤◌}
 use lib.ListN.{length, take}

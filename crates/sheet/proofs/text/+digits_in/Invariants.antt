@@ -1,5 +1,4 @@
--- `sheet::text::digits_in` meets its contract: by recursion on the count of digits that are left.
--- Assumes nothing.
+-- The measure of `sheet::text::digits_in`: the count of digits that are left.
 use Rattle.sheet.proofs.text.+digits_in.Given as goal
 
 abbrev pub decreases-digits_in : goal.decreases-digits_in

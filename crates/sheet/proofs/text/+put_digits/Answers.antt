@@ -1,5 +1,4 @@
--- `sheet::text::put_digits` meets its contract: by recursion on the count of digits that are left.
--- Assumes nothing.
+-- `sheet::text::put_digits` meets its contract: by recursion on the count of digits that are left. Assumes nothing.
 use mathlib.Core.Path.{ap}
 use native.Mathlib.Omega.{arith}
 use lib.ListN.{length}

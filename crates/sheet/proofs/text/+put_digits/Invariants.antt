@@ -1,5 +1,4 @@
--- `sheet::text::put_digits` meets its contract: by recursion on the count of digits that are left.
--- Assumes nothing.
+-- The measure of `sheet::text::put_digits`: the count of digits that are left.
 use Rattle.sheet.proofs.text.+put_digits.Given as goal
 
 abbrev pub decreases-put_digits : goal.decreases-put_digits

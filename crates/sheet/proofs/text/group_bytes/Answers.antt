@@ -1,6 +1,4 @@
--- `sheet::text::group_bytes` meets its contract. Invariant: two bytes for each line, and the length of the text of the first i numbers.
--- A number takes at most six bytes, so that the sum fits.
--- Assumes nothing.
+-- `sheet::text::group_bytes` meets its contract. A number takes at most six bytes, so that the sum fits. Assumes nothing.
 use mathlib.Core.Path.{◌≡◌, ap}
 use Prim.Native.Nat.{ℕ, ◌≤◌, ◌*◌}
 use native.Mathlib.Omega.{arith}

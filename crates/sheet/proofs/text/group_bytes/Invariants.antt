@@ -1,6 +1,4 @@
--- `sheet::text::group_bytes` meets its contract. Invariant: two bytes for each line, and the length of the text of the first i numbers.
--- A number takes at most six bytes, so that the sum fits.
--- Assumes nothing.
+-- `sheet::text::group_bytes`. Invariant: two bytes for each line, and the length of the text of the first i numbers.
 use mathlib.Core.Path.{◌≡◌}
 use Prim.Native.Nat.{◌≤◌, ◌-◌, ◌+◌, ◌*◌}
 use lib.ListN.{length, take, drop}

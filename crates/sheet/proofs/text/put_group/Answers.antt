@@ -1,5 +1,4 @@
--- `sheet::text::put_group` meets its contract. Invariant: the text of the first i lines is written.
--- Assumes nothing.
+-- `sheet::text::put_group` meets its contract. Assumes nothing.
 use mathlib.Core.Path.{◌≡◌, refl, sym, ◌∙◌, ap}
 use mathlib.Core.List.{List, []}
 use Prim.Native.Nat.{ℕ, ◌≤◌, ◌<◌, ◌*◌, ◌+◌}

@@ -1,5 +1,4 @@
--- `sheet::text::put_group` meets its contract. Invariant: the text of the first i lines is written.
--- Assumes nothing.
+-- `sheet::text::put_group`. Invariant: the text of the first i lines is written.
 use mathlib.Core.Path.{◌≡◌}
 use Prim.Native.Nat.{◌≤◌, ◌-◌, ◌*◌, ◌+◌}
 use lib.ListN.{length, take}

@@ -1,5 +1,4 @@
--- `sheet::text::put_line` meets its contract. Invariant: the first i numbers are written after the letter.
--- Assumes nothing.
+-- `sheet::text::put_line` meets its contract. Assumes nothing.
 use mathlib.Core.Path.{◌∙◌}
 use Prim.Native.Nat.{◌+◌}
 use native.Mathlib.Omega.{arith}

@@ -1,5 +1,4 @@
--- `sheet::text::put_line` meets its contract. Invariant: the first i numbers are written after the letter.
--- Assumes nothing.
+-- `sheet::text::put_line`. Invariant: the first i numbers are written after the letter.
 use Prim.Native.Nat.{◌≤◌, ◌-◌, ◌+◌}
 use lib.ListN.{length, take}
 use Rattle.sheet.specs.Lists.{bind}

@@ -1,5 +1,4 @@
--- `sheet::text::put_sheet` meets its contract. Invariant: the texts of the first k kinds' groups are written.
--- Assumes nothing.
+-- `sheet::text::put_sheet` meets its contract. Assumes nothing.
 use mathlib.Core.Path.{sym, ◌∙◌, ap}
 use mathlib.Core.List.{[]}
 use native.Mathlib.Omega.{arith}

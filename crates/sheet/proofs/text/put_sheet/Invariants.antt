@@ -1,5 +1,4 @@
--- `sheet::text::put_sheet` meets its contract. Invariant: the texts of the first k kinds' groups are written.
--- Assumes nothing.
+-- `sheet::text::put_sheet`. Invariant: the texts of the first k kinds' groups are written.
 use Prim.Native.Nat.{◌≤◌, ◌-◌}
 use lib.ListN.{take}
 use Rattle.sheet.specs.Lists.{flat}

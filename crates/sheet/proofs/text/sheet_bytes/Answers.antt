@@ -1,5 +1,4 @@
--- `sheet::text::sheet_bytes` meets its contract. Invariant: the length of the texts of the first k kinds' groups.
--- Assumes nothing.
+-- `sheet::text::sheet_bytes` meets its contract. Assumes nothing.
 use mathlib.Core.Path.{refl, sym, ◌∙◌, ap}
 use mathlib.Core.List.{List, []}
 use Prim.Native.Nat.{ℕ}

@@ -1,5 +1,4 @@
--- `sheet::text::sheet_bytes` meets its contract. Invariant: the length of the texts of the first k kinds' groups.
--- Assumes nothing.
+-- `sheet::text::sheet_bytes`. Invariant: the length of the texts of the first k kinds' groups.
 use mathlib.Core.Path.{◌≡◌}
 use Prim.Native.Nat.{◌≤◌, ◌-◌, ◌*◌}
 use lib.ListN.{length, take}

@@ -1,5 +1,4 @@
--- `sheet::text::widen` meets its contract. Invariant: the first i numbers are written.
--- Assumes nothing.
+-- `sheet::text::widen` meets its contract. Assumes nothing.
 use mathlib.Core.Path.{◌≡◌, refl, ◌∙◌, ap}
 use Prim.Native.Nat.{◌+◌, ◌<◌}
 use native.Mathlib.Omega.{arith}

@@ -1,5 +1,4 @@
--- `sheet::text::widen` meets its contract. Invariant: the first i numbers are written.
--- Assumes nothing.
+-- `sheet::text::widen`. Invariant: the first i numbers are written.
 use mathlib.Core.Path.{◌≡◌}
 use Prim.Native.Nat.{◌-◌, ◌≤◌}
 use lib.ListN.{length, take}

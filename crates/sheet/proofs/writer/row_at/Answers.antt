@@ -1,5 +1,4 @@
--- `sheet::writer::row_at` meets its contract. Invariant: the first i numbers are there, and zeros after them.
--- Assumes nothing.
+-- `sheet::writer::row_at` meets its contract. Assumes nothing.
 use mathlib.Core.Path.{◌≡◌, refl, ◌∙◌, ap}
 use Prim.Native.Nat.{ℕ, ◌<◌}
 use native.Mathlib.Omega.{arith}

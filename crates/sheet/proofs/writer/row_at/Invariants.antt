@@ -1,5 +1,4 @@
--- `sheet::writer::row_at` meets its contract. Invariant: the first i numbers are there, and zeros after them.
--- Assumes nothing.
+-- `sheet::writer::row_at`. Invariant: the first i numbers are there, and zeros after them.
 use mathlib.Core.Path.{◌≡◌}
 use Prim.Native.Nat.{◌≤◌, ◌-◌}
 use lib.ListN.{length, take, drop}

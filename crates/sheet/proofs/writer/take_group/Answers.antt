@@ -1,6 +1,4 @@
--- `sheet::writer::take_group` meets its contract: a refusal is handed on; else the lines are taken one by one. Invariant: the first i lines of
--- the group were taken, and the array holds them.
--- Assumes nothing.
+-- `sheet::writer::take_group` meets its contract: a refusal is handed on; else the lines are taken one by one. Assumes nothing.
 use mathlib.Core.Path.{◌≡◌, refl, sym, ◌∙◌, ap, subst}
 use mathlib.Core.List.{List}
 use Prim.Native.Nat.{ℕ, ◌+◌, ◌*◌, ◌/◌, ◌≤◌, ◌<◌}
