@@ -159,7 +159,7 @@ PlannerSheetRead planner_read(const uint8_t *sheet, size_t sheet_len);
  * (line 0). 3 is for waits alone: a row of another place than the next, or one more than places, at its line; too few,
  * at the line after the last of them, also where no line follows. PLANNER_MOST_BYTES bytes are always enough.
  * out: the bytes of the sheet, and past them kept. Refused: kept.
- * Stack: 12,721 bytes measured. */
+ * Stack: 12,776 bytes measured. */
 PlannerSheetWritten planner_write(const uint32_t *head, size_t head_len, const uint32_t *waits, size_t waits_len,
                                   const uint32_t *corridors, size_t corridors_len, const uint32_t *closures,
                                   size_t closures_len, const uint32_t *occupancies, size_t occupancies_len,
@@ -177,7 +177,7 @@ PlannerSheetWritten planner_write(const uint32_t *head, size_t head_len, const u
  * arrival step is the earliest at which a lawful journey with that cost arrives. Refused: kept.
  * Time: where the table has little more room than needed, or less, the last rows are found by scans of all rows, which
  * can take a hundred times as long. Twice the room needed is enough to be spared that.
- * Stack: 198,824 bytes measured. */
+ * Stack: 199,096 bytes measured. */
 PlannerFrontAnswer planner_front(const uint8_t *sheet, size_t sheet_len, uint32_t *arrivals, size_t arrivals_len,
                                  uint32_t *list, size_t list_len);
 
@@ -192,7 +192,7 @@ PlannerFrontAnswer planner_front(const uint8_t *sheet, size_t sheet_len, uint32_
  * arrivals: as planner_front leaves it. Refused with one of the sheet: kept. Refused with 8, 10 or 11: zeros from its
  * first element to its last.
  * path: a place for each step from 0 to the arrival step, then zeros to its end. Refused: kept.
- * Stack: 199,064 bytes measured. */
+ * Stack: 199,048 bytes measured. */
 PlannerJourneyAnswer planner_journey(const uint8_t *sheet, size_t sheet_len, uint32_t number, uint32_t *arrivals,
                                      size_t arrivals_len, uint32_t *path, size_t path_len);
 

@@ -2,7 +2,7 @@
 -- zeros; where there is no room, the rows found and the one more are leading arrivals, so that there are more of them than room.
 -- These laws stand here, and not in specs/, so that a must-fail edit of what they rest on is refused by them, and not as a text that cannot be read.
 -- Assumes nothing.
-use Rattle.std.specs.Prelude.{◌≡◌, Bool, true, false, ◌⊎◌, ℕ, zero, suc, ◌+◌, ◌*◌, ◌-◌, ◌≤◌, ◌<◌, ◌/◌, get_or}
+use Rattle.std.specs.Prelude.{◌≡◌, Bool, true, false, ◌⊎◌, ℕ, zero, suc, ◌+◌, ◌*◌, ◌-◌, ◌≤◌, ◌<◌, ◌/◌, get_or, Result, Ok, Err}
 use Rattle.std.proofs.Math.Path.{refl, sym, ap, ap₂}
 use Rattle.std.proofs.Common.{◌∙◌, subst, inl, inr, ⊎_elim, arith, length-append, ext_get_or, take-suc, length-take-le, lt-ltb, le-ltb}
 use mathlib.Core.List.{List, ◌∷◌, ◌++◌, reverse, reverse-cons, append-nil, append_assoc, []}
@@ -11,6 +11,7 @@ use Rattle.std.proofs.lemmas.List.{length-reverse, length-replicate}
 use Rattle.sheet.specs.Lists.{◌∈◌, numbers_from, number, bind, Lex}
 use Rattle.sheet.specs.Sorting.{Ascending}
 use Rattle.sheet.specs.Sheet.{Sheet, steps}
+use Rattle.sheet.specs.declared.refusal.Refusal.{Refusal}
 use Rattle.sheet.specs.Laws.Binds.{bind-append}
 use Rattle.sheet.specs.Laws.Order.{Lex-irrefl, Lex-trans}
 use Rattle.sheet.specs.Laws.Members.{mem-left, mem-right, mem-append}
@@ -18,7 +19,7 @@ use Rattle.sheet.specs.Laws.Ascending.{before-all, ascending-append, ascending-u
 use Rattle.arrivals.specs.Arrivals.{Arrival, key_of}
 use Rattle.arrivals.specs.Computed.{leading}
 use Rattle.arrivals.specs.Table.{arrival_row, crowded, arrival_table}
-use Rattle.arrivals.specs.Search.{SearchEnd, search_on}
+use Rattle.arrivals.specs.Search.{SearchEnd, search_on, search_end}
 use Rattle.sheet.specs.Laws.Decided.{lt-or-le, In, here, there, in_all}
 use Rattle.arrivals.specs.Rows.{Row, row_at}
 use Rattle.arrivals.specs.Inner.Rows.{rows_of, count-rows}
@@ -26,6 +27,7 @@ use Rattle.arrivals.specs.Inner.Network.{Case}
 use Rattle.arrivals.specs.Inner.Filling.{RowBefore, Falling, none-falling, more-falling, Filled, Crowded}
 use Rattle.arrivals.specs.Inner.Meaning.{Fits}
 use Rattle.arrivals.specs.Inner.Ending.{Search, cut_below, cut-past}
+use Rattle.arrivals.specs.Inner.Outcomes.{served}
 use Rattle.arrivals.proofs.Leading.{is_leading, leading-is, leading-ascending}
 use Rattle.arrivals.proofs.Meaning.{rows-lead, leads-rows, filling-lead}
 
@@ -164,3 +166,9 @@ module _ (s : Sheet) (k : Case) (fit : Fits s k) (xs ys : List ℕ) (n : ℕ) wh
   pub search-end : (ok : Bool) → Search k (steps s + 1) (length xs) ys ok n → ◌≡◌ {A = SearchEnd} (record { served = ok; arrivals = n; table = ys }) (search_on s xs)
   search-end true e = ended-well e
   search-end false e = ended-full e
+
+-- the same of an answer
+pub search-answer : (s : Sheet) (k : Case) (fit : Fits s k) (xs ys : List ℕ) (r : Result ℕ Refusal) → Search k (steps s + 1) (length xs) ys (served r).ok (served r).rows
+    → search_end r ys ≡ search_on s xs
+search-answer s k fit xs ys (Ok n) e = search-end s k fit xs ys n true e
+search-answer s k fit xs ys (Err f) e = search-end s k fit xs ys 0 false e

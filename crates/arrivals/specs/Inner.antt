@@ -1,10 +1,12 @@
 -- What the functions of the search promise each other.
 pub mod Facts
+pub mod Compared
 pub mod Rows
 pub mod Network
 pub mod Chains
 pub mod Lent
 pub mod Laying
+pub mod Outcomes
 pub mod Entering
 pub mod Filling
 pub mod Pruning

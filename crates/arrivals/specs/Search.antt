@@ -1,10 +1,10 @@
 -- What the search hands back and leaves in the lent table.
-use Rattle.std.specs.Prelude.{Bool, true, false, List, [], ℕ, length}
+use Rattle.std.specs.Prelude.{Bool, true, false, List, [], ℕ, length, Result, Ok, Err}
 use Rattle.sheet.specs.Lists.{pick, filled}
 use Rattle.sheet.specs.Sheet.{Sheet}
+use Rattle.sheet.specs.declared.refusal.Refusal.{Refusal}
 use Rattle.arrivals.specs.Computed.{leading}
 use Rattle.arrivals.specs.Table.{crowded, arrival_table}
-use Rattle.arrivals.specs.declared.Searched.{Searched}
 
 -- the search: whether it is served, the number of leading arrivals handed back, and the table afterwards
 pub record SearchEnd : Type 0 where
@@ -20,5 +20,6 @@ search_on s table =
     pick (crowded s (length table)) (record { served = false; arrivals = 0; table = filled (length table) [] }) r
 
 -- the answer of the search with the table that it left
-abbrev pub search_end : Searched → List ℕ → SearchEnd
-search_end r table = record { served = r.served; arrivals = r.arrivals; table = table }
+abbrev pub search_end : Result ℕ Refusal → List ℕ → SearchEnd
+search_end (Ok n) table = record { served = true; arrivals = n; table = table }
+search_end (Err e) table = record { served = false; arrivals = 0; table = table }

@@ -1,5 +1,5 @@
 // Every cost at which a place can be entered at a step is offered, but for those that the pruning rule spares.
-ghost use Rattle.std.specs.Prelude.{◌≡◌, ◌⊎◌, ◌+◌, ◌*◌, ◌<◌, ◌≤◌, length};
+ghost use Rattle.std.specs.Prelude.{◌≡◌, ◌+◌, ◌*◌, ◌<◌, ◌≤◌, length};
 ghost use Rattle.arrivals.specs.Rows.{row_at};
 ghost use Rattle.arrivals.specs.Inner.Rows.{Bounded};
 ghost use Rattle.arrivals.specs.Inner.Network.{case_of, link_of, link_at, count_of, dear_of};
@@ -9,13 +9,14 @@ ghost use Rattle.arrivals.specs.Inner.Pruning.{FreshIs, Sourced, Fair};
 ghost use Rattle.arrivals.specs.Inner.Filling.{Reaching};
 ghost use Rattle.arrivals.specs.Inner.Index.{Covers};
 ghost use Rattle.arrivals.specs.Inner.Due.{Covered};
+ghost use Rattle.arrivals.specs.Inner.Outcomes.{offered};
 ghost use Rattle.arrivals.specs.Inner.Sweeps.{Startable, Sweepable, Before, OffersRows, OffersSource, OffersLink, OffersLinks};
 
 use crate::index::{Span, group, latest, newest, older};
 use crate::network::{
     Here, Source, is_dear, is_open, last_link, link_cost, link_end, next_link, wait_of,
 };
-use crate::offers::{Outcome, offer};
+use crate::offers::{Full, offer};
 use crate::rows::row_cost;
 use costs::{multiple, sum};
 use intervals::first_step;
@@ -26,15 +27,13 @@ pub fn fresh_before(net: &[u32], j: usize, here: Here, past: Step) -> Step
     requires { (j < 256) × (link_of net.now 1 j < 64) × (Closing net.now) × (past.0 < here.step.0) × (dear_of net.now j ≡ 0) }
     ensures { FreshIs net.now j here result.0 }
 {
-    let mut a = past.0;
-    while 0 < a {
-        if a < here.since.0 {
+    for a in (0..past.0).rev() {
+        if a + 1 < here.since.0 {
             return Step(0);
         }
-        if is_open(net, j, Step(a - 1)) {
-            return Step(a);
+        if is_open(net, j, Step(a)) {
+            return Step(a + 1);
         }
-        a -= 1;
     }
     Step(0)
 }
@@ -62,16 +61,6 @@ pub fn fresh(net: &[u32], j: usize, here: Here) -> Step
     fresh_before(net, j, here, Step(last - 1))
 }
 
-// The later of two steps.
-pub fn later(s: Step, t: Step) -> Step
-    ensures { (s.0 ≤ result.0) × (t.0 ≤ result.0) × ((result.0 ≡ s.0) ⊎ (result.0 ≡ t.0)) }
-{
-    if s.0 < t.0 {
-        return t;
-    }
-    s
-}
-
 // Where corridor j comes from, for a departure before step t, with rows from step first on.
 pub fn source_of(net: &[u32], runs: &[u16], j: usize, t: Step, first: Step) -> Source
     requires { (Given runs.now net.now) × (j < count_of net.now) × (1 ≤ t.0) × (t.0 ≤ 255) }
@@ -81,7 +70,7 @@ pub fn source_of(net: &[u32], runs: &[u16], j: usize, t: Step, first: Step) -> S
     let since = first_step(runs, place, Step(t.0 - 1));
     Source {
         place,
-        floor: later(first, since),
+        floor: first.max(since),
         wait: wait_of(net, link_end(net, j, 0)),
         cost: link_cost(net, j),
     }
@@ -93,9 +82,8 @@ pub fn reach_cost(table: &[u32], k: usize, t: Step, from: Source) -> [u32; 3]
     ensures { result ≡ reach t.0 from.wait from.cost (row_at table.now k) }
 {
     let s = Step(table[k * 5 + 1]);
-    let wait = from.wait;
-    let cost = from.cost;
-    sum(sum(row_cost(table, k), multiple(t.0 - 1 - s.0, wait)), cost)
+    let lag = multiple(t.0 - 1 - s.0, from.wait);
+    sum(sum(row_cost(table, k), lag), from.cost)
 }
 
 // Offers what the rows of a span arrive with.
@@ -107,21 +95,16 @@ pub fn from_rows(
     span: Span,
     from: Source,
     here: Here,
-) -> Outcome
+) -> Result<usize, Full>
     requires { (Sweepable table.old a d ix.now here) × (Fair from) × (Before table.old a span here.step.0) }
-    ensures { OffersRows table.old table.new a d span from here result }
+    ensures { OffersRows table.old table.new a d span from here (offered result) }
 {
     let mut e = d;
     for i in span.lo..span.hi {
         let g = reach_cost(table, i, here.step, from);
-        let r = offer(table, a, e, ix, here, g);
-        let ok = r.ok;
-        e = r.rows;
-        if !ok {
-            return Outcome { ok: false, rows: 0 };
-        }
+        e = offer(table, a, e, ix, here, g)?;
     }
-    Outcome { ok: true, rows: e }
+    Ok(e)
 }
 
 // Offers what the rows of the source from its floor on arrive with.
@@ -132,26 +115,20 @@ pub fn from_place(
     ix: &[u32],
     from: Source,
     here: Here,
-) -> Outcome
+) -> Result<usize, Full>
     requires { (Sweepable table.old a d ix.now here) × (Fair from)
         × (Covers table.old a ix.now here.step.0 from.place.0 from.wait) }
-    ensures { OffersSource table.old table.new a d from here result }
+    ensures { OffersSource table.old table.new a d from here (offered result) }
 {
     let mut e = d;
-    let last = latest(ix, from.place, here.step);
-    let mut s = last.0;
+    let mut s = latest(ix, from.place, here.step).0;
+    // Stays: the step jumps to where `older` says, no `for` counts it.
     while from.floor.0 < s {
         s -= 1;
-        let r = from_rows(table, a, e, ix, group(ix, from.place, Step(s)), from, here);
-        let ok = r.ok;
-        e = r.rows;
-        if !ok {
-            return Outcome { ok: false, rows: 0 };
-        }
-        let next = older(ix, from.place, Step(s));
-        s = next.0;
+        e = from_rows(table, a, e, ix, group(ix, from.place, Step(s)), from, here)?;
+        s = older(ix, from.place, Step(s)).0;
     }
-    Outcome { ok: true, rows: e }
+    Ok(e)
 }
 
 // Offers what comes over corridor j.
@@ -164,22 +141,20 @@ pub fn from_link(
     runs: &[u16],
     j: usize,
     here: Here,
-) -> Outcome
+) -> Result<usize, Full>
     requires { (Reaching runs.now net.now table.old a here) × (Sweepable table.old a d ix.now here) × (j < count_of net.now)
         × (Covered net.now table.old a ix.now here.step.0) }
-    ensures { OffersLink runs.now net.now j table.old table.new a d here result }
+    ensures { OffersLink runs.now net.now j table.old table.new a d here (offered result) }
 {
-    let to = link_end(net, j, 1);
-    if to.0 != here.place.0 {
-        return Outcome { ok: true, rows: d };
+    if link_end(net, j, 1) != here.place {
+        return Ok(d);
     }
     let first = fresh(net, j, here);
-    let last = newest(ix, link_end(net, j, 0));
-    if last.0 <= first.0 {
-        return Outcome { ok: true, rows: d };
+    if newest(ix, link_end(net, j, 0)) <= first {
+        return Ok(d);
     }
     if !is_open(net, j, Step(here.step.0 - 1)) {
-        return Outcome { ok: true, rows: d };
+        return Ok(d);
     }
     from_place(
         table,
@@ -199,22 +174,18 @@ pub fn from_links(
     net: &[u32],
     runs: &[u16],
     here: Here,
-) -> Outcome
+) -> Result<usize, Full>
     requires { (Reaching runs.now net.now table.old a here) × (Startable table.old a ix.now here)
         × (Covered net.now table.old a ix.now here.step.0) }
-    ensures { OffersLinks runs.now net.now table.old table.new a here result }
+    ensures { OffersLinks runs.now net.now table.old table.new a here (offered result) }
 {
     let mut e = 0;
     let mut j = last_link(net, 1, here.place);
+    // Stays: the chain of the place says which corridor is next, no `for` counts it.
     while 0 < j {
         j -= 1;
-        let r = from_link(table, a, e, ix, net, runs, j, here);
-        let ok = r.ok;
-        e = r.rows;
-        if !ok {
-            return Outcome { ok: false, rows: 0 };
-        }
+        e = from_link(table, a, e, ix, net, runs, j, here)?;
         j = next_link(net, 1, j, here.place);
     }
-    Outcome { ok: true, rows: e }
+    Ok(e)
 }

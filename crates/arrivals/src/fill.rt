@@ -1,14 +1,15 @@
 // All rows, place by place and step by step.
-ghost use Rattle.std.specs.Prelude.{◌≡◌, true, false, ℕ, ◌+◌, ◌*◌, ◌-◌, ◌≤◌, ◌<◌, length, replicate};
+ghost use Rattle.std.specs.Prelude.{◌≡◌, IsOkUnless, true, false, ℕ, ◌+◌, ◌*◌, ◌-◌, ◌≤◌, ◌<◌, length, replicate};
 ghost use Rattle.arrivals.specs.Inner.Network.{places_of, case_of, Vacant};
 ghost use Rattle.arrivals.specs.Rows.{row_at};
 ghost use Rattle.arrivals.specs.Inner.Lent.{Given};
 ghost use Rattle.arrivals.specs.Inner.Filling.{Visiting, Visited, Grown, Result};
 ghost use Rattle.arrivals.specs.Inner.Index.{Indexed, room_of};
 ghost use Rattle.arrivals.specs.Inner.Due.{Covered, IndexedShort, Stepping, Fast, Watching, Searchable, Onward, SteppedOn};
-ghost use Rattle.arrivals.specs.Inner.Walking.{Walking, PassedTo};
-ghost use Rattle.arrivals.specs.Inner.Lists.{Halted};
+ghost use Rattle.arrivals.specs.Inner.Walking.{Walking, NextPlace};
+ghost use Rattle.arrivals.specs.Inner.Lists.{Halted, Resumable};
 ghost use Rattle.arrivals.specs.Inner.Renoting.{Noteable};
+ghost use Rattle.arrivals.specs.Inner.Outcomes.{stored, stepped_to, served};
 ghost use Rattle.arrivals.specs.Inner.Ending.{Ends};
 
 use crate::by_lists::{Halt, search_lists};
@@ -16,12 +17,13 @@ use crate::expand::from_links;
 use crate::index::{INDEX, MIDDLE, SHORT, Span, note, note_step};
 use crate::live::settle;
 use crate::network::{Here, places_of, start_of, wait_of};
-use crate::offers::Outcome;
+use crate::offers::FullAt;
 use crate::rows::{clear, clear_from, push_row};
 use crate::select::fill_place;
 use crate::watch::{is_somewhere_dear, led_on, step_set};
 use intervals::first_step;
 use intervals::sets::next_in;
+use sheet::refusal::Refusal;
 use sheet::{Place, Step};
 
 // Fills in place v at step t: every offer is judged once; where the room runs out on the way, as fill_place does.
@@ -33,9 +35,9 @@ pub fn fill_fast(
     runs: &[u16],
     v: Place,
     t: Step,
-) -> Outcome
+) -> Result<usize, FullAt>
     requires { Fast runs.now net.now table.old ix.now rows v.0 t.0 }
-    ensures { Visited (case_of runs.now net.now) table.old table.new rows v.0 t.0 result }
+    ensures { Visited (case_of runs.now net.now) table.old table.new rows v.0 t.0 (stored result) }
 {
     let here = Here {
         place: v,
@@ -43,12 +45,8 @@ pub fn fill_fast(
         since: first_step(runs, v, t),
         wait: wait_of(net, v),
     };
-    let r = from_links(table, rows, ix, net, runs, here);
-    let ok = r.ok;
-    let d = r.rows;
-    if ok {
-        let n = rows + d;
-        return Outcome { ok: true, rows: n };
+    if let Ok(d) = from_links(table, rows, ix, net, runs, here) {
+        return Ok(rows + d);
     }
     fill_place(table, rows, net, runs, here)
 }
@@ -61,9 +59,9 @@ pub fn fill_slow(
     runs: &[u16],
     v: Place,
     t: Step,
-) -> Outcome
+) -> Result<usize, FullAt>
     requires { (Visiting runs.now net.now table.old n v.0 t.0) × (Vacant (case_of runs.now net.now) v.0 t.0) }
-    ensures { Visited (case_of runs.now net.now) table.old table.new n v.0 t.0 result }
+    ensures { Visited (case_of runs.now net.now) table.old table.new n v.0 t.0 (stored result) }
 {
     let here = Here {
         place: v,
@@ -74,25 +72,26 @@ pub fn fill_slow(
     fill_place(table, n, net, runs, here)
 }
 
-// The first place from v on that is looked at at step t and free then, or the number of places where there is none.
-pub fn next_place(set: u64, net: &[u32], runs: &[u16], v: u32, t: Step) -> u32
+// The first place from v on that is looked at at step t and free then.
+pub fn next_place(set: u64, net: &[u32], runs: &[u16], v: u32, t: Step) -> Option<Place>
     requires { (Given runs.now net.now) × (t.0 ≤ 255) }
-    ensures { PassedTo runs.now net.now set v t.0 result }
+    ensures { NextPlace runs.now net.now set v t.0 result }
 {
     let places = places_of(net);
     let mut u = v;
+    // Stays: the place jumps to where the set says, no `for` counts it.
     while u < places {
         let w = next_in(set, u);
         if places <= w {
-            return places;
+            return None;
         }
         let since = first_step(runs, Place(w), t);
-        if since.0 <= t.0 {
-            return w;
+        if since <= t {
+            return Some(Place(w));
         }
         u = w + 1;
     }
-    u
+    None
 }
 
 // Fills in place v at step t, which is free.
@@ -104,41 +103,27 @@ pub fn visit(
     runs: &[u16],
     v: Place,
     t: Step,
-) -> Outcome
+) -> Result<usize, FullAt>
     requires { (Walking runs.now net.now table.old n v.0 t.0) × (v.0 < places_of net.now)
         × (Vacant (case_of runs.now net.now) v.0 t.0) × (IndexedShort table.old n ix.old t.0 t.0 net.now) }
-    ensures { (Stepping runs.now net.now table.new ix.new t.0 t.0 (v.0 + 1) result)
-        × (Grown table.old table.new n result.rows v.0 t.0) }
+    ensures { (Stepping runs.now net.now table.new ix.new t.0 t.0 (v.0 + 1) (stored result))
+        × (Grown table.old table.new n (stored result).rows v.0 t.0) }
 {
     if 41943039 < table.len() {
         return fill_slow(table, n, net, runs, v, t);
     }
-    let r = fill_fast(table, n, ix, net, runs, v, t);
-    let ok = r.ok;
-    let rows = r.rows;
+    let rows = fill_fast(table, n, ix, net, runs, v, t)?;
     if n < rows {
         note(ix, Span { lo: n, hi: rows }, v, t);
     }
-    Outcome { ok, rows }
+    Ok(rows)
 }
 
-// How a step ends: with its rows and the places that corridors lead to from them, or given up for want of room.
-#[derive(Drop)]
+// The rows after a step, and the places that corridors lead to from those of the step.
+#[derive(Clone, Copy)]
 pub struct Stepped {
-    pub ok: bool,
     pub rows: usize,
     pub next: u64,
-}
-
-// More rows than there is room for.
-fn crowded(rows: usize) -> Stepped
-    ensures { result ≡ record { ok = false; rows = rows; next = 0 } }
-{
-    Stepped {
-        ok: false,
-        rows,
-        next: 0,
-    }
 }
 
 // Fills in step t, where corridors lead to `next` from the rows of the step before.
@@ -151,33 +136,26 @@ pub fn fill_step(
     runs: &[u16],
     t: Step,
     next: u64,
-) -> Stepped
+) -> Result<Stepped, FullAt>
     requires { (Visiting runs.now net.now table.old rows 0 t.0) × (IndexedShort table.old rows ix.old t.0 t.0 net.now)
         × (Watching runs.now net.now sets.now) × (Onward net.now table.old rows t.0 next) }
-    ensures { SteppedOn runs.now net.now table.new ix.new t.0 result }
+    ensures { SteppedOn runs.now net.now table.new ix.new t.0 (stepped_to result) }
 {
     let set = step_set(sets, next, t);
-    let places = places_of(net);
     let mut n = rows;
     let mut onward = 0u64;
-    let mut v = next_place(set, net, runs, 0, t);
-    while v < places {
-        let r = visit(table, n, ix, net, runs, Place(v), t);
-        let ok = r.ok;
-        let m = r.rows;
-        if !ok {
-            return crowded(m);
-        }
-        onward = led_on(sets, onward, Place(v), n, m);
+    let mut at = next_place(set, net, runs, 0, t);
+    while let Some(v) = at {
+        let m = visit(table, n, ix, net, runs, v, t)?;
+        onward = led_on(sets, onward, v, n, m);
         n = m;
-        v = next_place(set, net, runs, v + 1, t);
+        at = next_place(set, net, runs, v.0 + 1, t);
     }
     settle(table, ix, net, runs, t, is_somewhere_dear(sets));
-    Stepped {
-        ok: true,
+    Ok(Stepped {
         rows: n,
         next: onward,
-    }
+    })
 }
 
 // Fills in every step from a step on to the last. At the first of them every place is looked at.
@@ -190,44 +168,43 @@ pub fn fill_steps(
     runs: &[u16],
     last: Step,
     from: Step,
-) -> Outcome
+) -> Result<usize, FullAt>
     requires { (Visiting runs.now net.now table.old rows 0 from.0) × (IndexedShort table.old rows ix.old (from.0 - 1) from.0 net.now)
         × (last.0 ≤ 255) × (from.0 ≤ last.0 + 1)
         × (Watching runs.now net.now sets.now) × (room_of last.0 ≤ length ix.old) }
-    ensures { Result (case_of runs.now net.now) table.new (last.0 + 1) 0 result.ok result.rows }
+    ensures { Result (case_of runs.now net.now) table.new (last.0 + 1) 0 (stored result).ok (stored result).rows }
 {
     let mut n = rows;
-    let mut t = from.0;
-    let mut next = 18446744073709551615u64;
-    while t <= last.0 {
-        let r = fill_step(table, n, ix, sets, net, runs, Step(t), next);
-        let ok = r.ok;
+    let mut next = u64::MAX;
+    for t in from.0..last.0 + 1 {
+        let r = fill_step(table, n, ix, sets, net, runs, Step(t), next)?;
         n = r.rows;
         next = r.next;
-        if !ok {
-            return Outcome { ok: false, rows: n };
-        }
-        t += 1;
     }
-    Outcome { ok: true, rows: n }
+    Ok(n)
 }
 
 // The row of the start, where that is free at step 0.
-pub fn first_row(table: &mut [u32], ix: &mut [u32], net: &[u32], runs: &[u16]) -> Outcome
+pub fn first_row(
+    table: &mut [u32],
+    ix: &mut [u32],
+    net: &[u32],
+    runs: &[u16],
+) -> Result<usize, FullAt>
     requires { (Given runs.now net.now) × (Indexed table.old 0 ix.old 0) }
-    ensures { Stepping runs.now net.now table.new ix.new 0 1 0 result }
+    ensures { Stepping runs.now net.now table.new ix.new 0 1 0 (stored result) }
 {
     let start = start_of(net);
     let since = first_step(runs, start, Step(0));
     if 0 < since.0 {
-        return Outcome { ok: true, rows: 0 };
+        return Ok(0);
     }
     if table.len() < 5 {
-        return Outcome { ok: false, rows: 0 };
+        return Err(FullAt { rows: 0 });
     }
     push_row(table, 0, start, Step(0), [0; 3]);
     note(ix, Span { lo: 0, hi: 1 }, start, Step(0));
-    Outcome { ok: true, rows: 1 }
+    Ok(1)
 }
 
 // All the rows of the search, or more of them than there is room for. Of what stands past the rows nothing is said.
@@ -238,17 +215,12 @@ pub fn search_anew(
     net: &[u32],
     runs: &[u16],
     last: Step,
-) -> Outcome
+) -> Result<usize, FullAt>
     requires { (Searchable runs.now net.now sets.now last.0) × (Indexed table.old 0 ix.old 0) × (room_of last.0 ≤ length ix.old) }
-    ensures { Result (case_of runs.now net.now) table.new (last.0 + 1) 0 result.ok result.rows }
+    ensures { Result (case_of runs.now net.now) table.new (last.0 + 1) 0 (stored result).ok (stored result).rows }
 {
-    let r = first_row(table, ix, net, runs);
-    let ok = r.ok;
-    let rows = r.rows;
-    if ok {
-        return fill_steps(table, rows, ix, sets, net, runs, last, Step(1));
-    }
-    Outcome { ok: false, rows }
+    let rows = first_row(table, ix, net, runs)?;
+    fill_steps(table, rows, ix, sets, net, runs, last, Step(1))
 }
 
 // Notes the rows below n, which stand in order, step by step, each step settled as in the search by the index (live.rt).
@@ -267,6 +239,7 @@ pub fn note_rows(
         × (Covered net.now table.now n ix.new (t.0 + 1)) }
 {
     let mut k = 0;
+    // Stays: the row jumps past those of a step, no `for` counts it.
     while k < n {
         let s = Step(table[k * 5 + 1]);
         k = note_step(table, k, n, ix);
@@ -283,25 +256,17 @@ pub fn search_on(
     runs: &[u16],
     last: Step,
     halt: Halt,
-) -> Outcome
+) -> Result<usize, FullAt>
     requires { (Searchable runs.now net.now sets.now last.0) × (ix.old ≡ replicate (length ix.old) 0) × (room_of last.0 ≤ length ix.old)
         × (1 ≤ halt.step.0) × (Halted runs.now net.now table.old last.0 halt.rows halt.step.0) }
-    ensures { Result (case_of runs.now net.now) table.new (last.0 + 1) 0 result.ok result.rows }
+    ensures { Result (case_of runs.now net.now) table.new (last.0 + 1) 0 (stored result).ok (stored result).rows }
 {
-    let rows = halt.rows;
-    let from = halt.step;
     if table.len() <= 41943039 {
-        note_rows(
-            table,
-            rows,
-            ix,
-            net,
-            runs,
-            Step(from.0 - 1),
-            is_somewhere_dear(sets),
-        );
+        let done = Step(halt.step.0 - 1);
+        let dear = is_somewhere_dear(sets);
+        note_rows(table, halt.rows, ix, net, runs, done, dear);
     }
-    fill_steps(table, rows, ix, sets, net, runs, last, from)
+    fill_steps(table, halt.rows, ix, sets, net, runs, last, halt.step)
 }
 
 // The same from there, or from the beginning.
@@ -312,37 +277,38 @@ pub fn search_by(
     net: &[u32],
     runs: &[u16],
     last: Step,
-    halt: Halt,
-) -> Outcome
+    halt: Option<Halt>,
+) -> Result<usize, FullAt>
     requires { (Searchable runs.now net.now sets.now last.0) × (ix.old ≡ replicate (length ix.old) 0) × (room_of last.0 ≤ length ix.old)
-        × (1 ≤ halt.step.0 → Halted runs.now net.now table.old last.0 halt.rows halt.step.0) }
-    ensures { Result (case_of runs.now net.now) table.new (last.0 + 1) 0 result.ok result.rows }
+        × (Resumable runs.now net.now table.old last.0 halt) }
+    ensures { Result (case_of runs.now net.now) table.new (last.0 + 1) 0 (stored result).ok (stored result).rows }
 {
-    let from = halt.step;
-    if from.0 == 0 {
-        return search_anew(table, ix, sets, net, runs, last);
+    match halt {
+        None => search_anew(table, ix, sets, net, runs, last),
+        Some(from) => search_on(table, ix, sets, net, runs, last, from),
     }
-    search_on(table, ix, sets, net, runs, last, halt)
 }
 
-// The same, with the shortest of three indexes that the steps fit in: clearing it takes most of the time where there are few. The three take one place on the stack.
+// The same, with the shortest of three indexes that the steps fit in: clearing it takes most of the time where there are few. The three take one place on the
+// stack.
 pub fn search_indexed(
     table: &mut [u32],
     sets: &[u64],
     net: &[u32],
     runs: &[u16],
     last: Step,
-    halt: Halt,
-) -> Outcome
+    halt: Option<Halt>,
+) -> Result<usize, FullAt>
     requires { (Searchable runs.now net.now sets.now last.0)
-        × (1 ≤ halt.step.0 → Halted runs.now net.now table.old last.0 halt.rows halt.step.0) }
-    ensures { Result (case_of runs.now net.now) table.new (last.0 + 1) 0 result.ok result.rows }
+        × (Resumable runs.now net.now table.old last.0 halt) }
+    ensures { Result (case_of runs.now net.now) table.new (last.0 + 1) 0 (stored result).ok (stored result).rows }
 {
-    if last.0 < 16 {
+    // Stays: three lengths in one function and none by a const parameter, so that the three take one place on the stack.
+    if last < Step(16) {
         let mut ix = [0; SHORT];
         return search_by(table, &mut ix, sets, net, runs, last, halt);
     }
-    if last.0 < 64 {
+    if last < Step(64) {
         let mut ix = [0; MIDDLE];
         return search_by(table, &mut ix, sets, net, runs, last, halt);
     }
@@ -351,31 +317,38 @@ pub fn search_indexed(
 }
 
 // The same by lists of live costs, and from the step on for which a list or the table has no room, by the index.
-pub fn search_all(table: &mut [u32], sets: &[u64], net: &[u32], runs: &[u16], last: Step) -> Outcome
+pub fn search_all(
+    table: &mut [u32],
+    sets: &[u64],
+    net: &[u32],
+    runs: &[u16],
+    last: Step,
+) -> Result<usize, FullAt>
     requires { Searchable runs.now net.now sets.now last.0 }
-    ensures { Result (case_of runs.now net.now) table.new (last.0 + 1) 0 result.ok result.rows }
+    ensures { Result (case_of runs.now net.now) table.new (last.0 + 1) 0 (stored result).ok (stored result).rows }
 {
-    let r = search_lists(table, sets, net, runs, last);
-    let ok = r.ok;
-    let rows = r.rows;
-    if ok {
-        return Outcome { ok: true, rows };
+    match search_lists(table, sets, net, runs, last) {
+        Ok(rows) => Ok(rows),
+        Err(halt) => search_indexed(table, sets, net, runs, last, halt),
     }
-    search_indexed(table, sets, net, runs, last, r)
 }
 
 // All the rows of the search, and zeros after them; or zeros alone where there is no room.
-pub fn fill(table: &mut [u32], sets: &[u64], net: &[u32], runs: &[u16], last: Step) -> Outcome
+pub fn fill(
+    table: &mut [u32],
+    sets: &[u64],
+    net: &[u32],
+    runs: &[u16],
+    last: Step,
+) -> Result<usize, Refusal>
     requires { Searchable runs.now net.now sets.now last.0 }
-    ensures { Ends (case_of runs.now net.now) last.0 (length table.old) table.new result }
+    ensures ends { Ends (case_of runs.now net.now) last.0 (length table.old) table.new (served result) }
+    ensures room { IsOkUnless result Refusal.RoomArrivals }
 {
-    let r = search_all(table, sets, net, runs, last);
-    let ok = r.ok;
-    let rows = r.rows;
-    if ok {
-        clear_from(table, rows * 5);
-        return Outcome { ok: true, rows };
-    }
-    clear(table);
-    Outcome { ok: false, rows: 0 }
+    let Ok(rows) = search_all(table, sets, net, runs, last) else {
+        clear(table);
+        return Err(Refusal::RoomArrivals);
+    };
+    clear_from(table, rows * 5);
+    Ok(rows)
 }

@@ -4,7 +4,6 @@ ghost use Rattle.arrivals.specs.Rows.{row_at};
 ghost use Rattle.arrivals.specs.Inner.Index.{room_of, group_at, low_of, high_of, newest_of, Indexed, Older, Regrouped, NotedAs};
 ghost use Rattle.arrivals.specs.Inner.Renoting.{GroupEnd, Noteable, First, StepNoted};
 
-use crate::network::wide;
 use sheet::{Place, Step};
 
 // The index: from 0 the step past the rows of each place; then, for each step and place, the first row and the row past the last, with the step before. Its
@@ -18,6 +17,7 @@ pub const MIDDLE: usize = 8256;
 pub const INDEX: usize = 32832;
 
 // The rows from lo to hi.
+// Stays: std's Range is not Copy, and a span is read several times.
 #[derive(Clone, Copy)]
 pub struct Span {
     pub lo: usize,
@@ -39,8 +39,8 @@ pub fn group(ix: &[u32], v: Place, s: Step) -> Span
 {
     let at = group_at(v, s);
     Span {
-        lo: wide(ix[at]),
-        hi: wide(ix[at + 1] / 512),
+        lo: ix[at] as usize,
+        hi: (ix[at + 1] / 512) as usize,
     }
 }
 
@@ -70,11 +70,7 @@ pub fn latest(ix: &[u32], v: Place, t: Step) -> Step
     requires { (v.0 < 64) × (64 ≤ length ix.now) }
     ensures { (result.0 ≤ t.0) × ((newest_of ix.now v.0 ≤ result.0) ⊎ (result.0 ≡ t.0)) }
 {
-    let s = newest(ix, v);
-    if s.0 < t.0 {
-        return s;
-    }
-    t
+    newest(ix, v).min(t)
 }
 
 // Makes the rows of a span those of place v and step s, before which the rows of v begin below step `back`.
@@ -104,17 +100,15 @@ pub fn group_end(table: &[u32], k: usize, n: usize) -> usize
 {
     let place = table[k * 5];
     let step = table[k * 5 + 1];
-    let mut i = k + 1;
-    while i < n {
+    for i in k + 1..n {
         if table[i * 5] != place {
             return i;
         }
         if table[i * 5 + 1] != step {
             return i;
         }
-        i += 1;
     }
-    i
+    n
 }
 
 // Notes the rows of the step of row k, which is the first of its step, and hands back the row past them.
@@ -124,6 +118,7 @@ pub fn note_step(table: &[u32], k: usize, n: usize, ix: &mut [u32]) -> usize
 {
     let step = table[k * 5 + 1];
     let mut i = k;
+    // Stays: i jumps to the end of a group, no `for` counts it.
     while i < n {
         if table[i * 5 + 1] != step {
             return i;

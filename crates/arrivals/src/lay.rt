@@ -1,29 +1,29 @@
-// The network is laid out from the sheet in the array: waits, corridors, closures and counts, then the chains, then where waiting is dearer.
+// The network is laid out from a sheet: waits, corridors, closures and counts, then the chains, then where waiting is dearer.
 ghost use Rattle.std.specs.Prelude.{◌≡◌, ◌+◌, ◌<◌, ◌≤◌, length, set};
-ghost use Rattle.sheet.specs.Kinds.{kind_c, kind_x};
-ghost use Rattle.sheet.specs.Store.{part_of, sheet_in};
+ghost use Rattle.sheet.specs.Lists.{flat};
 ghost use Rattle.arrivals.specs.Inner.Network.{net_room, count_of, link_of, closures_of, closure_of};
 ghost use Rattle.arrivals.specs.Inner.Chains.{by_place, by_cell, Chained, chained_with};
 ghost use Rattle.arrivals.specs.Inner.Lent.{Linked};
-ghost use Rattle.arrivals.specs.Inner.Laying.{WaitsLaid, Copied, LinksLaid, ClosuresLaid, Counted, Layable, Empty, LaidIn};
+ghost use Rattle.arrivals.specs.Inner.Laying.{WaitsLaid, Copied, LinksLaid, ClosuresLaid, Counted, Empty, LaidIn};
 ghost use Rattle.arrivals.specs.Inner.Laying.{Celled, NotedLaid, Blank, ChainedMore, ChainLaid, WeighedTo, WeighedMore, Weighed};
 
 use crate::network::{
     CHAIN, CHAINS, CLOSURES, COUNT, DEAR, INTO, LINKS, PLACES, SHUT, SHUT_COUNT, START, cell_of,
-    closure_number, count_of, link_end, wait_of, wide,
+    closure_number, count_of, link_end, wait_of,
 };
 use crate::rows::put_figures;
 use costs::{at_most, wait_at};
-use sheet::kinds::{C_LINE, CLOSURE, CORRIDOR, FIRST_CLOSURE, FIRST_CORRIDOR, X_LINE};
+use sheet::held::HeldSheet;
+use sheet::kinds::{C_LINE, X_LINE};
 use sheet::{Place, Step};
 
 // The cost of waiting at each place.
-pub fn lay_waits(lines: &[u32], all: &[u32], net: &mut [u32])
-    requires { Layable lines.now all.now net.old }
-    ensures { WaitsLaid (sheet_in lines.now all.now) net.old net.new }
+pub fn lay_waits(sheet: &HeldSheet, net: &mut [u32])
+    requires { net_room ≤ length net.old }
+    ensures { WaitsLaid sheet.now net.old net.new }
 {
-    for v in 0..all[0] {
-        put_figures(net, v as usize * 3, wait_at(lines, all, Place(v)));
+    for v in 0..sheet.places() {
+        put_figures(net, v as usize * 3, wait_at(sheet, Place(v)));
     }
 }
 
@@ -32,27 +32,28 @@ pub fn copy(all: &[u32], from: usize, net: &mut [u32], at: usize, n: usize)
     requires { (from + n ≤ length all.now) × (at + n ≤ length net.old) }
     ensures { Copied from at n all.now net.old net.new }
 {
+    // Stays: by copy_from_slice the archive would call memmove, of which a host has been told nothing (tests/host).
     for i in 0..n {
         net[at + i] = all[from + i];
     }
 }
 
 // The corridors.
-pub fn lay_links(lines: &[u32], all: &[u32], net: &mut [u32])
-    requires { Layable lines.now all.now net.old }
-    ensures { LinksLaid (part_of lines.now all.now kind_c.order) net.old net.new }
+pub fn lay_links(sheet: &HeldSheet, net: &mut [u32])
+    requires { net_room ≤ length net.old }
+    ensures { LinksLaid (flat sheet.now.corridors) net.old net.new }
 {
-    let n = lines[C_LINE] as usize * CORRIDOR;
-    copy(all, FIRST_CORRIDOR, net, LINKS, n);
+    let group = sheet.group(C_LINE);
+    copy(group, 0, net, LINKS, group.len());
 }
 
 // The closures.
-pub fn lay_closures(lines: &[u32], all: &[u32], net: &mut [u32])
-    requires { Layable lines.now all.now net.old }
-    ensures { ClosuresLaid (part_of lines.now all.now kind_x.order) net.old net.new }
+pub fn lay_closures(sheet: &HeldSheet, net: &mut [u32])
+    requires { net_room ≤ length net.old }
+    ensures { ClosuresLaid (flat sheet.now.closures) net.old net.new }
 {
-    let n = lines[X_LINE] as usize * CLOSURE;
-    copy(all, FIRST_CLOSURE, net, CLOSURES, n);
+    let group = sheet.group(X_LINE);
+    copy(group, 0, net, CLOSURES, group.len());
 }
 
 // The number of corridors, the number of places, the start and the number of closures.
@@ -96,6 +97,7 @@ pub fn chain(net: &mut [u32], q: usize)
 }
 
 // One closure more in the chain of its cell.
+// Stays: its twin chain_link makes another key; what they share is chain_item.
 pub fn chain_closure(net: &mut [u32], x: usize)
     requires { (x < 256) × (net_room ≤ length net.old) × (closure_of net.old 1 x < 64) × (Chained by_cell net.old x) }
     ensures { ChainedMore by_cell x net.old net.new }
@@ -106,11 +108,12 @@ pub fn chain_closure(net: &mut [u32], x: usize)
 }
 
 // The closures by their cells.
+// Stays: its twin chain has another count and another key, and a closure for the key is no plainer.
 pub fn chain_closures(net: &mut [u32])
     requires { (Celled net.old) × (Blank by_cell net.old) }
     ensures { ChainLaid by_cell (closures_of net.old) net.old net.new }
 {
-    for x in 0..wide(net[SHUT_COUNT]) {
+    for x in 0..net[SHUT_COUNT] as usize {
         chain_closure(net, x);
     }
 }
@@ -125,11 +128,12 @@ pub fn note_closure(net: &mut [u32], x: usize)
 }
 
 // The places that closures lead to.
+// Stays: the same loop as chain_closures, whose promise is of another part of the array.
 pub fn note_closures(net: &mut [u32])
     requires { Celled net.old }
     ensures { NotedLaid (closures_of net.old) net.old net.new }
 {
-    for x in 0..wide(net[SHUT_COUNT]) {
+    for x in 0..net[SHUT_COUNT] as usize {
         note_closure(net, x);
     }
 }
@@ -156,16 +160,17 @@ pub fn weigh(net: &mut [u32])
     }
 }
 
-// The network of the sheet in the array, laid into a list of zeros.
-pub fn lay(lines: &[u32], all: &[u32], net: &mut [u32])
-    requires { (Layable lines.now all.now net.old) × (Empty net.old) }
-    ensures { LaidIn lines.now all.now net.new }
+// The network of a sheet, laid into a list of zeros.
+pub fn lay(sheet: &HeldSheet, net: &mut [u32])
+    requires { (net_room ≤ length net.old) × (Empty net.old) }
+    ensures { LaidIn sheet.now net.new }
 {
-    lay_waits(lines, all, net);
-    lay_links(lines, all, net);
-    lay_closures(lines, all, net);
-    let start = Place(all[2]);
-    lay_counts(net, lines[C_LINE], all[0], start, lines[X_LINE]);
+    lay_waits(sheet, net);
+    lay_links(sheet, net);
+    lay_closures(sheet, net);
+    let corridors = sheet.count(C_LINE) as u32;
+    let closures = sheet.count(X_LINE) as u32;
+    lay_counts(net, corridors, sheet.places(), sheet.start(), closures);
     chain(net, 0);
     chain(net, 1);
     chain_closures(net);

@@ -2,8 +2,7 @@
 
 #![tactic(auto)]
 
-ghost use Rattle.std.specs.Prelude.{◌≡◌};
-ghost use Rattle.sheet.specs.Store.{sheet_in};
+ghost use Rattle.std.specs.Prelude.{◌≡◌, IsOkUnless};
 ghost use Rattle.intervals.specs.FirstSteps.{Derived};
 ghost use Rattle.arrivals.specs.Search.{search_on, search_end};
 
@@ -11,7 +10,8 @@ use crate::fill::fill;
 use crate::lay::lay;
 use crate::network::NETWORK;
 use crate::watch::{SETS, watch};
-use sheet::Step;
+use sheet::held::HeldSheet;
+use sheet::refusal::Refusal;
 
 pub mod rows; // rows.rt: the rows of the lent table
 pub mod network; // network.rt: what is searched, read by name
@@ -26,28 +26,16 @@ pub mod lists; // lists.rt: the live costs of each place
 pub mod by_lists; // by_lists.rt: the search by lists
 pub mod fill; // fill.rt: all rows, place by place and step by step
 
-// How a search ends: served with the number of leading arrivals, or with more of them than room.
-#[derive(Drop)]
-pub struct Searched {
-    pub served: bool,
-    pub arrivals: usize,
-}
-
-// Searches the leading arrivals of the sheet in the array, with the first steps of its free runs beside it, into the lent table: a row of place, step and
-// three figures for each, ascending by step, place, cost, then zeros; or zeros alone where there are more of them than room.
-pub fn search(lines: &[u32], all: &[u32], since: &[u16], table: &mut [u32]) -> Searched
-    requires { Derived lines.now all.now since.now }
-    ensures { search_end result table.new ≡ search_on (sheet_in lines.now all.now) table.old }
+// Searches the leading arrivals of a sheet, with the first steps of its free runs beside it, into the lent table: a row of place, step and
+// three figures for each, ascending by step, place, cost, then zeros: their number. Or zeros alone and 8, where there are more of them than room.
+pub fn search(sheet: &HeldSheet, since: &[u16], table: &mut [u32]) -> Result<usize, Refusal>
+    requires { Derived sheet.now since.now }
+    ensures end { search_end result table.new ≡ search_on sheet.now table.old }
+    ensures room { IsOkUnless result Refusal.RoomArrivals }
 {
     let mut net = [0; NETWORK];
-    lay(lines, all, &mut net);
+    lay(sheet, &mut net);
     let mut sets = [0u64; SETS];
-    watch(lines, all, &net, &mut sets);
-    let r = fill(table, &sets, &net, since, Step(all[1]));
-    let ok = r.ok;
-    let rows = r.rows;
-    Searched {
-        served: ok,
-        arrivals: rows,
-    }
+    watch(sheet, &net, &mut sets);
+    fill(table, &sets, &net, since, sheet.last_step())
 }

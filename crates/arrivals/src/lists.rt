@@ -8,7 +8,7 @@ ghost use Rattle.arrivals.specs.Inner.Network.{since_in};
 ghost use Rattle.arrivals.specs.Inner.Lists.{list_at, lists_room, LedIn, OwnIs, PartIs, FreshIn, Modest, Appended};
 ghost use Rattle.arrivals.specs.Inner.Lists.{Retained, RetainedOne, Shifted, Headed, Settleable, SettledOne, AllSettleable, SettledTo};
 
-use crate::network::{Here, wide};
+use crate::network::Here;
 use crate::rows::{put_figures, row_cost};
 use costs::{at_most, cost_from, sum};
 use intervals::first_step;
@@ -62,12 +62,7 @@ pub fn is_led(live: &[u32], part: Part, c: [u32; 3]) -> bool
     requires { part.at + part.n * 3 ≤ length live.now }
     ensures { Decided (LedIn live.now part c) result }
 {
-    for i in 0..part.n {
-        if at_most(cost_from(live, part.at + i * 3), c) {
-            return true;
-        }
-    }
-    false
+    (0..part.n).any(|i| at_most(cost_from(live, part.at + i * 3), c))
 }
 
 // The costs of the place that count here: none where all its rows are of an earlier safe interval.
@@ -82,7 +77,7 @@ pub fn own_of(live: &[u32], here: Here) -> Part
     }
     Part {
         at,
-        n: wide(live[SIZE + v.0 as usize]),
+        n: live[SIZE + v.0 as usize] as usize,
     }
 }
 
@@ -92,9 +87,9 @@ pub fn part_of(live: &[u32], v: Place, newest: bool) -> Part
     ensures { PartIs live.now v.0 newest result }
 {
     let at = list_at(v);
-    let n = wide(live[SIZE + v.0 as usize]);
+    let n = live[SIZE + v.0 as usize] as usize;
     if newest {
-        let old = wide(live[FRESH + v.0 as usize]);
+        let old = live[FRESH + v.0 as usize] as usize;
         return Part {
             at: at + old * 3,
             n: n - old,
@@ -151,6 +146,7 @@ pub fn shift(live: &mut [u32], from: usize, to: usize, n: usize)
     if from == to {
         return;
     }
+    // Stays: by copy_within the archive would call memmove, of which a host has been told nothing (tests/host).
     for i in 0..n {
         let c = cost_from(live, from + i * 3);
         put_figures(live, to + i * 3, c);
@@ -173,8 +169,8 @@ pub fn settle_place(live: &mut [u32], runs: &[u16], v: Place, t: Step)
     ensures { SettledOne live.old live.new v.0 (since_in runs.now v.0 t.0) t.0 }
 {
     let at = list_at(v);
-    let n = wide(live[SIZE + v.0 as usize]);
-    let m = wide(live[NEW + v.0 as usize]) - n;
+    let n = live[SIZE + v.0 as usize] as usize;
+    let m = live[NEW + v.0 as usize] as usize - n;
     let since = first_step(runs, v, t);
     if live[v.0 as usize] <= since.0 {
         shift(live, at + n * 3, at, m);
@@ -192,6 +188,7 @@ pub fn settle_all(live: &mut [u32], runs: &[u16], set: u64, places: u32, t: Step
     ensures { SettledTo runs.now live.old live.new set places t.0 }
 {
     let mut v = 0;
+    // Stays: v jumps to the next place of the set, no `for` counts it.
     while v < places {
         let w = next_in(set, v);
         if places <= w {

@@ -29,14 +29,12 @@ pub fn first_live(table: &[u32], span: Span, lag: [u32; 3], by: Span) -> usize
     requires { Spans table.now span lag by }
     ensures { FirstLive table.now span lag by result }
 {
-    let mut k = span.lo;
-    while k < span.hi {
+    for k in span.lo..span.hi {
         if !is_undercut(table, k, lag, by) {
             return k;
         }
-        k += 1;
     }
-    k
+    span.hi
 }
 
 // One more than the last row of a span that is not undercut, or its beginning.
@@ -44,14 +42,12 @@ pub fn last_live(table: &[u32], span: Span, lag: [u32; 3], by: Span) -> usize
     requires { Spans table.now span lag by }
     ensures { LastLive table.now span lag by result }
 {
-    let mut k = span.hi;
-    while span.lo < k {
-        if !is_undercut(table, k - 1, lag, by) {
-            return k;
+    for i in (span.lo..span.hi).rev() {
+        if !is_undercut(table, i, lag, by) {
+            return i + 1;
         }
-        k -= 1;
     }
-    k
+    span.lo
 }
 
 // Leaves out of the group of place v and step s the rows at its ends that a row of step t undercuts, where waiting costs `wait`; whether any is left. The
@@ -92,7 +88,8 @@ pub fn settle_place(table: &[u32], ix: &mut [u32], net: &[u32], runs: &[u16], v:
     let since = first_step(runs, v, t);
     let mut p = t;
     let mut s = older(ix, v, t);
-    while since.0 < s.0 {
+    // Stays: s jumps to where `older` says, no `for` counts it.
+    while since < s {
         let g = Step(s.0 - 1);
         let back = older(ix, v, g);
         if shorten(table, ix, v, g, t, wait, back) {

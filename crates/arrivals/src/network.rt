@@ -59,13 +59,6 @@ pub struct Source {
     pub cost: [u32; 3],
 }
 
-// A number of the network as an index.
-pub fn wide(x: u32) -> usize
-    ensures { result ≡ x }
-{
-    x as usize
-}
-
 // The cost of waiting one step at place v.
 pub fn wait_of(net: &[u32], v: Place) -> [u32; 3]
     requires { (v.0 < 64) × (net_room ≤ length net.now) }
@@ -79,7 +72,7 @@ pub fn count_of(net: &[u32]) -> usize
     requires { net_room ≤ length net.now }
     ensures { result ≡ count_of net.now }
 {
-    wide(net[COUNT])
+    net[COUNT] as usize
 }
 
 // The number of places.
@@ -127,18 +120,20 @@ pub fn cell_of(v: Place, s: Step) -> usize
     requires { v.0 < 64 }
     ensures { (result ≡ cell v.0 s.0) × (result < 1024) }
 {
-    wide(v.0 * 16 + s.0 / 16 % 16)
+    (v.0 * 16 + s.0 / 16 % 16) as usize
 }
 
 // One more than the last closure of a cell.
+// Stays: 0 for none, as it stands in the array of u32, whose memory is fixed.
 pub fn last_shut(net: &[u32], cell: usize) -> usize
     requires { (cell < 1024) × (net_room ≤ length net.now) }
     ensures { result ≡ last_of by_cell net.now cell }
 {
-    wide(net[SHUT + cell])
+    net[SHUT + cell] as usize
 }
 
 // One more than the last closure before closure x of the same cell, as far as the chain shows.
+// Stays: its twin next_link makes another key; what they share is one test.
 pub fn next_shut(net: &[u32], x: usize, cell: usize) -> usize
     requires { (Closing net.now) × (x < closures_of net.now) }
     ensures { NextOne by_cell net.now cell x result }
@@ -148,7 +143,7 @@ pub fn next_shut(net: &[u32], x: usize, cell: usize) -> usize
         Step(closure_number(net, x, 2)),
     );
     if own == cell {
-        return wide(net[SHUT_NEXT + x]);
+        return net[SHUT_NEXT + x] as usize;
     }
     x
 }
@@ -179,6 +174,7 @@ pub fn none_between(net: &[u32], last: usize, u: Place, v: Place, s: Step) -> bo
 {
     let at = cell_of(v, s);
     let mut x = last;
+    // Stays: x jumps along the chain, no `for` counts it.
     while 0 < x {
         x -= 1;
         if closes(net, x, u, v, s) {
@@ -214,11 +210,12 @@ pub fn is_dear(net: &[u32], j: usize) -> bool
 }
 
 // One more than the last corridor whose place q is v.
+// Stays: 0 for none, as it stands in the array of u32, whose memory is fixed.
 pub fn last_link(net: &[u32], q: usize, v: Place) -> usize
     requires { (q < 2) × (v.0 < 64) × (net_room ≤ length net.now) }
     ensures { result ≡ last_of (by_place q) net.now v.0 }
 {
-    wide(net[CHAINS + q * CHAIN + v.0 as usize])
+    net[CHAINS + q * CHAIN + v.0 as usize] as usize
 }
 
 // One more than the last corridor before corridor j whose place q is v, as far as the chain shows.
@@ -227,7 +224,7 @@ pub fn next_link(net: &[u32], q: usize, j: usize, v: Place) -> usize
     ensures { NextOne (by_place q) net.now v.0 j result }
 {
     if net[LINKS + j * 5 + q] == v.0 {
-        return wide(net[CHAINS + q * CHAIN + 64 + j]);
+        return net[CHAINS + q * CHAIN + 64 + j] as usize;
     }
     j
 }

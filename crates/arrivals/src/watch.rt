@@ -3,13 +3,13 @@
 // place the pruning rule spares every row.
 ghost use Rattle.std.specs.Prelude.{◌≡◌, not, ◌<◌, ◌≤◌, eqb, length};
 ghost use Rattle.sheet.specs.Lists.{number};
-ghost use Rattle.sheet.specs.Store.{SomeStore};
 ghost use Rattle.arrivals.specs.Inner.Network.{net_room, count_of, closures_of, closure_of};
 ghost use Rattle.arrivals.specs.Inner.Lent.{Linked, Closing};
 ghost use Rattle.arrivals.specs.Inner.Due.{LinkWatched, LinksWatched, ClosureWatched, ClosuresWatched, Watches, step_set, led_on};
 
-use crate::network::{SHUT_COUNT, closure_number, count_of, is_dear, link_end, wide};
+use crate::network::{SHUT_COUNT, closure_number, count_of, is_dear, link_end};
 use intervals::sets::{add, add_begins, union};
+use sheet::held::HeldSheet;
 use sheet::{Place, Step};
 
 // The sets: from 0, for each step, the places that are looked at then whatever rows there are; for each place, those that corridors lead to from it; those
@@ -26,7 +26,7 @@ pub fn watch_link(net: &[u32], j: usize, sets: &mut [u64])
     ensures { LinkWatched net.now j sets.old sets.new }
 {
     let from = link_end(net, j, 0);
-    add(sets, ONWARD + wide(from.0), link_end(net, j, 1));
+    add(sets, ONWARD + from.0 as usize, link_end(net, j, 1));
     if is_dear(net, j) {
         add(sets, ALWAYS, link_end(net, j, 1));
     }
@@ -47,7 +47,7 @@ pub fn watch_closure(net: &[u32], x: usize, sets: &mut [u64])
     requires { (x < 256) × (net_room ≤ length net.now) × (closure_of net.now 1 x < 64) × (323 ≤ length sets.old) }
     ensures { ClosureWatched net.now x sets.old sets.new }
 {
-    let s = wide(closure_number(net, x, 2));
+    let s = closure_number(net, x, 2) as usize;
     if s < 256 {
         add(sets, s + 2, Place(closure_number(net, x, 1)));
     }
@@ -58,17 +58,17 @@ pub fn watch_closures(net: &[u32], sets: &mut [u64])
     requires { (Closing net.now) × (323 ≤ length sets.old) }
     ensures { ClosuresWatched net.now (closures_of net.now) sets.old sets.new }
 {
-    for x in 0..wide(net[SHUT_COUNT]) {
+    for x in 0..net[SHUT_COUNT] as usize {
         watch_closure(net, x, sets);
     }
 }
 
-// Fills the sets of the sheet in the array, of which the network is laid out.
-pub fn watch(lines: &[u32], all: &[u32], net: &[u32], sets: &mut [u64])
-    requires { (SomeStore lines.now all.now) × (Linked net.now) × (Closing net.now) × (323 ≤ length sets.old) }
-    ensures { Watches lines.now all.now net.now sets.new }
+// Fills the sets of a sheet, of which the network is laid out.
+pub fn watch(sheet: &HeldSheet, net: &[u32], sets: &mut [u64])
+    requires { (Linked net.now) × (Closing net.now) × (323 ≤ length sets.old) }
+    ensures { Watches sheet.now net.now sets.new }
 {
-    add_begins(lines, all, sets);
+    add_begins(sheet, sets);
     watch_links(net, sets);
     watch_closures(net, sets);
 }

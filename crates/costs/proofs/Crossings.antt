@@ -12,13 +12,13 @@ use lib.Seq.{take_all, get_or-take, get_or-drop}
 use Rattle.sheet.specs.Lists.{◌∈◌, number, numbers_from, filled, flat}
 use Rattle.sheet.specs.Kinds.{width, kind_w, kind_c, kind_x}
 use Rattle.sheet.specs.Sheet.{Sheet, from, to}
-use Rattle.sheet.specs.Store.{base_of, store_room, SomeStore, part_of, sheet_in}
+use Rattle.sheet.specs.Store.{base_of, store_room, StoreOf, part_of}
 use Rattle.sheet.specs.Seek.{Seekable, Listed}
 use Rattle.sheet.specs.Laws.Decided.{Decided, holds, fails, decided-as, lt-or-le, from-same}
 use Rattle.sheet.specs.Laws.Keys.{GroupIs}
 use Rattle.sheet.specs.Laws.Rows.{Wide, rows_at, flat-length, flat-at}
 use Rattle.sheet.specs.Laws.Stores.{filled-past}
-use Rattle.sheet.specs.Laws.Store.{part-number, store-valid, store-numbers, store-few, store-full, store-sheet, store_length, store-seekable, store-listed, listed-store}
+use Rattle.sheet.specs.Laws.Store.{part-number, store-count, store-numbers, store-full, store-sheet, store_length, store-seekable, store-listed, listed-store}
 use Rattle.sheet.specs.declared.Place.{Place}
 use Rattle.sheet.specs.declared.seek.Group.{Group}
 use Rattle.costs.specs.Costs.{figures}
@@ -26,7 +26,6 @@ use Rattle.costs.specs.Moves.{wait_of, cost_of, Closed}
 use Rattle.costs.specs.Computed.{wait_at}
 use Rattle.costs.specs.Priced.{CorridorIs}
 use Rattle.costs.specs.Laws.Rows.{row, row_number}
-use Rattle.costs.specs.Laws.Moves.{corridor-count}
 use Rattle.costs.specs.declared.Corridor.{Corridor}
 
 -- what is not, where a claim is decided
@@ -38,27 +37,29 @@ turned (fails n) = holds n
 abbrev line_at : ℕ → ℕ
 line_at k = base_of kind_c.order + k * width kind_c
 
-module _ {lines all : List ℕ} (S : SomeStore lines all) where
+module _ {s : Sheet} {lines all : List ℕ} (S : StoreOf s lines all) where
   abbrev corridors : List ℕ
   corridors = part_of lines all kind_c.order
 
   pub whole-store : length all ≡ store_room
-  whole-store = store_length S.store
+  whole-store = store_length S
 
-  module _ (k : ℕ) (h : k < number lines kind_c.order) where
+  module _ (k : ℕ) (h : k < length s.corridors) where
     pub line-few : k < 256
-    line-few = omega (arith, (store-few S.store kind_c.order (omega arith)).0)
+    line-few = omega (arith, S.valid.most-corridors)
 
     abbrev line : List ℕ
-    line = get_or (sheet_in lines all).corridors k []
+    line = get_or s.corridors k []
 
     line_row : line ≡ row 5 corridors k
-    line_row = rows_at 5 (length corridors / 5) corridors k (omega (arith, store-numbers S.store kind_c.order (omega arith)))
+    line_row =
+        ap (λ (x : Sheet). get_or x.corridors k []) (sym (store-sheet S))
+        ∙ rows_at 5 (length corridors / 5) corridors k (omega (arith, store-numbers S kind_c.order (omega arith), store-count S kind_c.order (omega arith)))
 
     line-number : (j : ℕ) → j < 5 → number line j ≡ number all (line_at k + j)
     line-number j l =
         let e : base_of kind_c.order + (k * 5 + j) ≡ line_at k + j = omega arith in
-        ap (λ (x : List ℕ). number x j) line_row ∙ row_number 5 corridors k j l ∙ part-number lines all kind_c.order (k * 5 + j) (omega arith) ∙ ap (number all) e
+        ap (λ (x : List ℕ). number x j) line_row ∙ row_number 5 corridors k j l ∙ part-number lines all kind_c.order (k * 5 + j) (omega (arith, store-count S kind_c.order (omega arith))) ∙ ap (number all) e
 
     line-from : from line ≡ number all (line_at k)
     line-from = let e : line_at k + 0 ≡ line_at k = omega arith in line-number 0 (omega arith) ∙ ap (number all) e
@@ -75,49 +76,50 @@ module _ {lines all : List ℕ} (S : SomeStore lines all) where
     pub end_is : (q : ℕ) → q < 2 → number all (line_at k + q) ≡ number line q
     end_is q l = sym (line-number q (omega arith))
 
-    pub corridor-is : (t : ℕ) (r : Corridor) {b : Bool} → r.open ≡ not b → Decided (Closed (sheet_in lines all) r.from.0 r.to.0 t) b
-        → r.from.0 ≡ number all (line_at k) → r.to.0 ≡ number all (line_at k + 1) → r.cost ≡ numbers_from figures (line_at k + 2) all → CorridorIs (sheet_in lines all) k t r
+    pub corridor-is : (t : ℕ) (r : Corridor) {b : Bool} → r.open ≡ not b → Decided (Closed s r.from.0 r.to.0 t) b
+        → r.from.0 ≡ number all (line_at k) → r.to.0 ≡ number all (line_at k + 1) → r.cost ≡ numbers_from figures (line_at k + 2) all → CorridorIs s k t r
     corridor-is t r o d f g c =
         record {
-          listed = omega (arith, corridor-count S);
+          listed = h;
           leaves = f ∙ sym line-from;
           enters = g ∙ sym line-to;
           price = c ∙ sym line-cost;
-          opens = subst (Decided (Closed (sheet_in lines all) r.from.0 r.to.0 t → ⊥)) (sym o) (turned d);
+          opens = subst (Decided (Closed s r.from.0 r.to.0 t → ⊥)) (sym o) (turned d);
         }
 
   -- the closures of the sheet, where they stand in the array
   abbrev closures : List (List ℕ)
-  closures = (sheet_in lines all).closures
+  closures = s.closures
 
   module _ {g : Group} (G : GroupIs lines kind_x.order g) where
     pub closures-seekable : Seekable all g
-    closures-seekable = store-seekable S.store kind_x.order (omega arith) G
+    closures-seekable = store-seekable S kind_x.order (omega arith) G
 
-    pub closed-sought : (v : List ℕ) {u w t : ℕ} → take 3 v ≡ u ∷ w ∷ t ∷ [] → {b : Bool} → Decided (Listed all g v) b → Decided (Closed (sheet_in lines all) u w t) b
+    pub closed-sought : (v : List ℕ) {u w t : ℕ} → take 3 v ≡ u ∷ w ∷ t ∷ [] → {b : Bool} → Decided (Listed all g v) b → Decided (Closed s u w t) b
     closed-sought v {u} {w} {t} e d = decided-as there back d
       where
         whole : (x : List ℕ) → x ∈ closures → take 3 x ≡ x
-        whole x m = take_all 3 x (omega (arith, ((store-valid S.store).closures x m).wide))
+        whole x m = take_all 3 x (omega (arith, (S.valid.closures x m).wide))
 
-        there : Listed all g v → Closed (sheet_in lines all) u w t
+        there : Listed all g v → Closed s u w t
         there l =
-            let r = store-listed S.store kind_x.order (omega arith) G v l in
-            subst (λ (x : List ℕ). x ∈ closures) (sym (whole r.0 r.1) ∙ r.2 ∙ e) r.1
+            let r = store-listed S kind_x.order (omega arith) G v l in
+            let m = subst (λ (x : Sheet). r.0 ∈ x.closures) (store-sheet S) r.1 in
+            subst (λ (x : List ℕ). x ∈ closures) (sym (whole r.0 m) ∙ r.2 ∙ e) m
 
-        back : Closed (sheet_in lines all) u w t → Listed all g v
-        back m = listed-store S.store kind_x.order (omega arith) G v (u ∷ w ∷ t ∷ []) m (sym e)
+        back : Closed s u w t → Listed all g v
+        back m = listed-store S kind_x.order (omega arith) G v (u ∷ w ∷ t ∷ []) (subst (λ (x : Sheet). (u ∷ w ∷ t ∷ []) ∈ x.closures) (sym (store-sheet S)) m) (sym e)
 
   -- the W lines, where they stand in the array, zeros past the last
   module _ (v : ℕ) (l : v < 64) where
     abbrev waits : List (List ℕ)
-    waits = S.sheet.waits
+    waits = s.waits
 
     filled-wait : (j : ℕ) → j < 4 → number (filled 256 (flat waits)) (v * 4 + j) ≡ number (get_or waits v []) j
     filled-wait j m = go (lt-or-le v (length waits))
       where
         wide : Wide 4 waits
-        wide w i = (S.store.valid.waits w i).wide
+        wide w i = (S.valid.waits w i).wide
 
         go : (v < length waits) ⊎ (length waits ≤ v) → number (filled 256 (flat waits)) (v * 4 + j) ≡ number (get_or waits v []) j
         go (inl b) =
@@ -125,18 +127,17 @@ module _ {lines all : List ℕ} (S : SomeStore lines all) where
             ∙ flat-at 4 waits wide v j b m
         go (inr b) = rw (get_or-eq_default waits [] b) (filled-past 256 (flat waits) (v * 4 + j) (omega (arith, flat-length 4 waits wide)))
 
-    wait-number : (j : ℕ) → j < 4 → number all (base_of kind_w.order + (v * 4 + j)) ≡ number (get_or (sheet_in lines all).waits v []) j
+    wait-number : (j : ℕ) → j < 4 → number all (base_of kind_w.order + (v * 4 + j)) ≡ number (get_or s.waits v []) j
     wait-number j m =
         sym (get_or-drop (base_of kind_w.order) all (v * 4 + j) 0)
         ∙ sym (get_or-take 256 (drop (base_of kind_w.order) all) (v * 4 + j) 0 (omega arith))
-        ∙ ap (λ (x : List ℕ). number x (v * 4 + j)) (store-full S.store kind_w.order (omega arith))
+        ∙ ap (λ (x : List ℕ). number x (v * 4 + j)) (store-full S kind_w.order (omega arith))
         ∙ filled-wait j m
-        ∙ ap (λ (s : Sheet). number (get_or s.waits v []) j) (sym (store-sheet S.store))
 
-  pub wait-cost : (v : Place) → v.0 < 64 → numbers_from figures (base_of kind_w.order + v.0 * 4 + 1) all ≡ wait_at (sheet_in lines all) v
+  pub wait-cost : (v : Place) → v.0 < 64 → numbers_from figures (base_of kind_w.order + v.0 * 4 + 1) all ≡ wait_at s v
   unfolding wait_at wait_of
   wait-cost v l =
-      from-same figures (base_of kind_w.order + v.0 * 4 + 1) 1 all (get_or (sheet_in lines all).waits v.0 [])
+      from-same figures (base_of kind_w.order + v.0 * 4 + 1) 1 all (get_or s.waits v.0 [])
       (λ j m.
       let e : base_of kind_w.order + v.0 * 4 + 1 + j ≡ base_of kind_w.order + (v.0 * 4 + (1 + j)) = omega arith in
       ap (number all) e ∙ wait-number v.0 l (1 + j) (omega arith))

@@ -1,2 +1,3 @@
 pub mod Crossings
 pub mod Moves
+pub mod Steps

@@ -4,29 +4,22 @@
 
 ghost use Rattle.input.specs.Input.{Within};
 
+use std::io;
 use std::io::Read;
 
-// What standard input gave: so many bytes, or a read that failed.
-#[derive(Clone, Copy)]
-pub enum Input {
-    Bytes(usize),
-    Failed,
-}
-
-// Reads the input that is lent, a program's standard input, to its end, or until the buffer is full. A read that a signal interrupts counts as one
-// that failed.
-pub fn read_input<R: Read>(input: &mut R, buffer: &mut [u8]) -> Input
+// Reads the input that is lent, a program's standard input, to its end, or until the buffer is full; the count of its bytes. A read that a signal
+// interrupts counts as one that failed.
+pub fn read_input(input: &mut impl Read, buffer: &mut [u8]) -> io::Result<usize>
     ensures { Within result buffer.new }
 {
     let mut n = 0;
+    // Stays: the count goes by what each read gave, no `for` counts it.
     while n < buffer.len() {
-        let Ok(more) = input.read(&mut buffer[n..]) else {
-            return Input::Failed;
-        };
+        let more = input.read(&mut buffer[n..])?;
         if more == 0 {
-            return Input::Bytes(n);
+            return Ok(n);
         }
         n += more;
     }
-    Input::Bytes(n)
+    Ok(n)
 }

@@ -22,7 +22,7 @@ use Rattle.intervals.specs.Inner.{entry, MarkableLine, Marked, InRun, FilledRun}
 use Rattle.intervals.specs.FirstSteps.{SinceTable}
 use Rattle.intervals.specs.Laws.Runs.{first_step, first-least, since-first, since-occupied}
 use Rattle.intervals.proofs.Covers.{free-uncovered, taken-covered}
-use Rattle.intervals.proofs.Tables.{Steps, steps-none, steps-more, covers-true, true-covers}
+use Rattle.intervals.proofs.Tables.{Steps, steps-none, steps-more, covers-true, true-covers, LineIs}
 
 -- the entries of the steps f up to t were not marked and are f, and the others as before
 pub record Filling (row f t : ℕ) (before after : List ℕ) : Type 0 where
@@ -141,6 +141,10 @@ module _ (s : Sheet) (l : List ℕ) (k : ℕ) (since : List ℕ) (v : ℕ) (h : 
       at (inr z) =
           let g : first_of s v t - 1 ≡ a = omega arith in
           (h a (omega (arith, (first_step s v t f).soon))).taken (subst (λ (u : ℕ). freeb s v u ≡ false) g z)
+
+-- a run that is written after a line, as the rows of the group have it
+pub line_run : {l : List ℕ} {k w a b : ℕ} {before after : List ℕ} → LineIs l k w a b → FilledRun w b before after → FilledRun (place_at l k) (last_at l k) before after
+line_run {l} {k} {w} {before = x} {after = y} i r = subst (λ (v : ℕ). FilledRun v (last_at l k) x y) i.place (subst (λ (u : ℕ). FilledRun w u x y) i.last r)
 
 -- one line more: the entry of a step that is occupied, of one in the run after the line, and of any other
 module _ (l : List ℕ) (k : ℕ) (before after : List ℕ) (g : MarkableLine l k) (m : Filled l k before) (r : FilledRun (place_at l k) (last_at l k) before after) where

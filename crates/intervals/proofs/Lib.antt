@@ -6,3 +6,4 @@ pub mod Fill
 pub mod Staying
 pub mod Runs
 pub mod Horizon
+pub mod Steps

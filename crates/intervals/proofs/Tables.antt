@@ -11,8 +11,10 @@ use lib.Seq.{get_or-set_same, get_or-set_other}
 use borrow.Author.Tests.{eqb-true, eqb-false, eq-eqb, leb-true, le-leb}
 use Rattle.sheet.specs.Lists.{number}
 use Rattle.sheet.specs.Laws.Order.{and-true, true-and}
-use Rattle.costs.specs.Laws.Rows.{row, row_number, mem-rows}
-use Rattle.intervals.specs.Inner.{coversb, entry, Blank, MarkableLine, MarkedLine, Marked}
+use Rattle.std.specs.Simd.{first_chunks}
+use Rattle.std.specs.Prelude.{[], get_or}
+use Rattle.costs.specs.Laws.Rows.{row, row_number, mem-rows, chunk_number}
+use Rattle.intervals.specs.Inner.{coversb, entry, Blank, MarkableLine, MarkedSteps, Marked}
 use Rattle.intervals.specs.FirstSteps.{ValidGroup}
 
 -- the entries of the steps f up to t are x, and the others as before
@@ -48,13 +50,28 @@ covers-true l v t k h =
 pub true-covers : (l : List ℕ) (v t k : ℕ) → number l (k * 3) ≡ v → number l (k * 3 + 1) ≤ t → t ≤ number l (k * 3 + 2) → coversb l v t k ≡ true
 true-covers l v t k a b c = true-and _ _ (true-and _ _ (eq-eqb _ _ a) (le-leb _ _ b)) (le-leb _ _ c)
 
--- all steps of a line are marked
-pub line_marked : (l : List ℕ) (k t : ℕ) (before after : List ℕ) → number l (k * 3 + 2) ≤ 255 → number l (k * 3 + 2) < t → t ≤ number l (k * 3 + 1) + (number l (k * 3 + 2) + 1 - number l (k * 3 + 1))
-    → Steps 256 (number l (k * 3) * 256) (number l (k * 3 + 1)) t before after → MarkedLine l k before after
-line_marked l k t before after e g h m =
+-- all steps from a to b are marked
+pub steps-marked : (w a b t : ℕ) (before after : List ℕ) → b ≤ 255 → b < t → t ≤ a + (b + 1 - a) → Steps 256 (w * 256) a t before after → MarkedSteps w a b before after
+steps-marked w a b t before after e g h m =
     record {
-      hit = λ v u p q c. (let r = covers-true l v u k c in m.hit (v * 256 + u) (omega (arith, r.0, r.1)) (omega (arith, r.0, r.2)));
-      kept = λ v u p q c. m.kept (v * 256 + u) (λ x y. true≢false (sym (true-covers l v u k (omega arith) (omega arith) (omega arith)) ∙ c));
+      hit = λ u p q r. m.hit (w * 256 + u) (omega arith) (omega arith);
+      kept = λ v u p q n. m.kept (v * 256 + u) (λ x y. n (omega arith) (omega arith) (omega arith));
+    }
+
+-- w, a and b are the place, the first step and the last step of line k, as the rows of the group have them
+pub record LineIs (l : List ℕ) (k w a b : ℕ) : Type 0 where
+  pub place : w ≡ number l (k * 3)
+  pub first : a ≡ number l (k * 3 + 1)
+  pub last : b ≡ number l (k * 3 + 2)
+
+pub line_is : (l : List ℕ) (t : List (List ℕ)) → t ≡ first_chunks 3 (length l / 3) l → (k : ℕ) → k < length l / 3
+    → LineIs l k (number (get_or t k []) 0) (number (get_or t k []) 1) (number (get_or t k []) 2)
+line_is l t e k h =
+    let n : k * 3 + 0 ≡ k * 3 = omega arith in
+    record {
+      place = chunk_number 3 l t e k 0 h (omega arith) ∙ ap (number l) n;
+      first = chunk_number 3 l t e k 1 h (omega arith);
+      last = chunk_number 3 l t e k 2 h (omega arith);
     }
 
 -- the lines of a valid group can be marked
@@ -63,8 +80,6 @@ markable l k h b =
     let m = mem-rows 3 (length l / 3) l k b in
     let e : k * 3 + 0 ≡ k * 3 = omega arith in
     record {
-      few = omega (arith, h.most);
-      whole = omega arith;
       place = omega (arith, h.place (row 3 l k) m, row_number 3 l k 0 (omega arith), ap (number l) e);
       step = omega (arith, h.step (row 3 l k) m, row_number 3 l k 2 (omega arith));
     }
@@ -73,16 +88,22 @@ markable l k h b =
 pub marked-none : (l since : List ℕ) → Blank since → Marked l 0 since
 marked-none l since h = record { hit = λ v t k p q b c. absurd (omega arith); free = λ v t p q c. h.every (v * 256 + t) (omega arith) }
 
-pub marked_more : (l : List ℕ) (n : ℕ) (before after : List ℕ) → Marked l n before → MarkedLine l n before after → Marked l (n + 1) after
-marked_more l n before after m h =
+pub marked_more : (l : List ℕ) (n : ℕ) (before after : List ℕ) → {w a b : ℕ} → LineIs l n w a b → Marked l n before → MarkedSteps w a b before after
+    → Marked l (n + 1) after
+marked_more l n before after i m h =
     record {
       hit = λ v t k p q b c. at v t k p q b c (coversb l v t n) refl;
-      free = λ v t p q c. h.kept v t p q (c n (omega arith)) ∙ m.free v t p q (λ k b. c k (omega arith));
+      free = λ v t p q c. other v t p q (c n (omega arith)) ∙ m.free v t p q (λ k b. c k (omega arith));
     }
   where
+    other : (v t : ℕ) → v < 64 → t < 256 → coversb l v t n ≡ false → entry after v t ≡ entry before v t
+    other v t p q e = h.kept v t p q (λ x y z. true≢false (sym (true-covers l v t n (sym (x ∙ i.place)) (omega (arith, i.first)) (omega (arith, i.last))) ∙ e))
+
     at : (v t k : ℕ) → v < 64 → t < 256 → k < n + 1 → coversb l v t k ≡ true → (d : Bool) → coversb l v t n ≡ d → entry after v t ≡ 256
-    at v t k p q b c true e = h.hit v t p q e
-    at v t k p q b c false e = h.kept v t p q e ∙ earlier (eqb k n) refl
+    at v t k p q b c true e =
+        let r = covers-true l v t n e in
+        ap (λ (w : ℕ). entry after w t) (sym (i.place ∙ r.0)) ∙ h.hit t q (omega (arith, r.1, i.first)) (omega (arith, r.2, i.last))
+    at v t k p q b c false e = other v t p q e ∙ earlier (eqb k n) refl
       where
         earlier : (d : Bool) → eqb k n ≡ d → entry before v t ≡ 256
         earlier true f = absurd (true≢false (sym c ∙ ap (coversb l v t) (eqb-true k n f) ∙ e))

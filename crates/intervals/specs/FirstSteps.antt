@@ -1,10 +1,10 @@
 -- The table of first steps of free runs, as `fill_since` leaves it, and a sheet in one array with that table beside it.
 use Rattle.std.specs.Prelude.{◌≡◌, List, ℕ, ◌+◌, ◌*◌, ◌≤◌, ◌<◌, ◌%◌, length}
-use Rattle.sheet.specs.Lists.{◌∈◌, pick, number}
+use Rattle.sheet.specs.Lists.{◌∈◌, pick, number, flat}
 use Rattle.sheet.specs.Kinds.{width, room, kind_o}
 use Rattle.sheet.specs.Sheet.{Sheet, place_of, last}
 use Rattle.sheet.specs.Calls.{group_rows}
-use Rattle.sheet.specs.Store.{StoreOf, SomeStore, part_of}
+use Rattle.sheet.specs.Valid.{Valid}
 use Rattle.intervals.specs.Computed.{stayb, since_of}
 
 -- whole lines, at most 256, of places below 64 and steps up to 255
@@ -32,11 +32,7 @@ pub record StayTable (since : List ℕ) (v last n : ℕ) (r : List ℕ) : Type 0
   pub of : (occupancies : List ℕ) → SinceTable occupancies since → (s : Sheet) → s.occupancies ≡ group_rows kind_o occupancies
       → (t : ℕ) → number r t ≡ pick (stayb s v last n t) 1 0
 
--- a valid sheet stands in the array, and the table holds the first steps of its free runs
-pub record Derived (lines all since : List ℕ) : Type 0 where
-  pub sheet : Sheet
-  pub store : StoreOf sheet lines all
-  pub firsts : SinceTable (part_of lines all kind_o.order) since
-
-abbrev pub some-derived : {lines all since : List ℕ} → Derived lines all since → SomeStore lines all
-some-derived d = record { sheet = d.sheet; store = d.store }
+-- s is a valid sheet, and the table holds the first steps of its free runs
+pub record Derived (s : Sheet) (since : List ℕ) : Type 0 where
+  pub valid : Valid s
+  pub firsts : SinceTable (flat s.occupancies) since

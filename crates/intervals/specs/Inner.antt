@@ -18,17 +18,15 @@ stay_by since v last n t = pick (leb (t + n) last && leb (entry since v (t + n))
 pub record Blank (since : List ℕ) : Type 0 where
   pub every : (i : ℕ) → i < 16384 → number since i ≡ 0
 
--- line k is whole, and its entries stand in the table
+-- the entries of line k stand in the table
 pub record MarkableLine (occupancies : List ℕ) (k : ℕ) : Type 0 where
-  pub few : k ≤ 255
-  pub whole : k * 3 + 3 ≤ length occupancies
   pub place : number occupancies (k * 3) < 64
   pub step : number occupancies (k * 3 + 2) ≤ 255
 
--- the entries of line k are 256 after, and the others as before
-pub record MarkedLine (occupancies : List ℕ) (k : ℕ) (before after : List ℕ) : Type 0 where
-  pub hit : (v t : ℕ) → v < 64 → t < 256 → coversb occupancies v t k ≡ true → entry after v t ≡ 256
-  pub kept : (v t : ℕ) → v < 64 → t < 256 → coversb occupancies v t k ≡ false → entry after v t ≡ entry before v t
+-- the entries of place w from step a to step b are 256 after, and the others as before
+pub record MarkedSteps (w a b : ℕ) (before after : List ℕ) : Type 0 where
+  pub hit : (t : ℕ) → t < 256 → a ≤ t → t ≤ b → entry after w t ≡ 256
+  pub kept : (v t : ℕ) → v < 64 → t < 256 → (v ≡ w → a ≤ t → t ≤ b → ⊥) → entry after v t ≡ entry before v t
 
 -- the entries of the first n lines are 256, and the others 0
 pub record Marked (occupancies : List ℕ) (n : ℕ) (since : List ℕ) : Type 0 where

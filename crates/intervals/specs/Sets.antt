@@ -2,9 +2,8 @@
 -- look at it is said what it holds, and nothing of what it does not: a place that is looked at in vain adds no row.
 use Rattle.std.specs.Prelude.{◌≡◌, List, ◌⊎◌, ℕ, ◌+◌, ◌*◌, ◌/◌, ◌%◌, ◌^◌, ◌≤◌, ◌<◌, length, set}
 use Rattle.std.specs.Int.Bits.{bit_or}
-use Rattle.sheet.specs.Lists.{number}
-use Rattle.sheet.specs.Store.{part_of}
-use Rattle.sheet.specs.Kinds.{kind_o}
+use Rattle.sheet.specs.Lists.{number, flat}
+use Rattle.sheet.specs.Sheet.{Sheet}
 use Rattle.intervals.specs.FirstSteps.{SinceTable}
 
 -- place v is in the set m
@@ -26,8 +25,8 @@ pub record NextIn (m v r : ℕ) : Type 0 where
   pub none : (w : ℕ) → v ≤ w → w < r → Has m w → ⊥
   pub own : Has m r ⊎ (64 ≤ r)
 
--- set t of the sets after holds every place of which a free run begins at step t, by the table of first steps of the lines' sheet
-pub record Begun (lines all before after : List ℕ) : Type 0 where
+-- set t of the sets after holds every place of which a free run begins at step t, by the table of first steps of s
+pub record Begun (s : Sheet) (before after : List ℕ) : Type 0 where
   pub kept : Kept before after
-  pub of : (since : List ℕ) → SinceTable (part_of lines all kind_o.order) since → (v t : ℕ) → v < 64 → 1 ≤ t → t ≤ 255 → number since (v * 256 + t) ≡ t
+  pub of : (since : List ℕ) → SinceTable (flat s.occupancies) since → (v t : ℕ) → v < 64 → 1 ≤ t → t ≤ 255 → number since (v * 256 + t) ≡ t
       → Has (number after t) v

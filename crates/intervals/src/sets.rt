@@ -2,15 +2,16 @@
 // found without a look at the others.
 ghost use Rattle.std.specs.Prelude.{◌≡◌, ◌+◌, ◌^◌, ◌≤◌, ◌<◌, length};
 ghost use Rattle.std.specs.Int.Bits.{bit_or};
-ghost use Rattle.sheet.specs.Store.{SomeStore};
 ghost use Rattle.intervals.specs.FirstSteps.{ValidGroup};
 ghost use Rattle.intervals.specs.Inner.{FollowedBy};
 ghost use Rattle.intervals.specs.Sets.{with_place, NextIn, Begun};
 
 use sheet::Place;
-use sheet::kinds::{FIRST_OCCUPANCY, O_LINE, OCCUPANCY};
+use sheet::held::HeldSheet;
+use sheet::kinds::{O_LINE, OCCUPANCY};
 
 // Adds place v to set i.
+#[tactic(auto, unfolding(crate::specs::Sets::with_place))]
 pub fn add(sets: &mut [u64], i: usize, v: Place)
     requires { (i < length sets.old) × (v.0 < 64) }
     ensures { sets.new ≡ with_place sets.old i v.0 }
@@ -35,6 +36,7 @@ pub fn with(set: u64, v: Place) -> u64
 }
 
 // The first place from v on that is in a set; 64 or more where there is none.
+// Stays: a number and no Option, since each caller stops at the count of places, which one test ends with "none".
 pub fn next_in(set: u64, v: u32) -> u32
     requires { v < 64 }
     ensures { NextIn set v result }
@@ -47,21 +49,16 @@ fn add_ends(occupancies: &[u32], sets: &mut [u64])
     requires { (ValidGroup occupancies.now) × (257 ≤ length sets.old) }
     ensures { FollowedBy occupancies.now sets.old sets.new }
 {
-    let n = occupancies.len() / OCCUPANCY;
-    let mut k = 0;
-    while k < n {
-        let place = occupancies[k * OCCUPANCY];
-        let last = occupancies[k * OCCUPANCY + 2] as usize;
-        add(sets, last + 1, Place(place));
-        k += 1;
+    let (lines, _) = occupancies.as_chunks::<OCCUPANCY>();
+    for [place, _, last] in lines {
+        add(sets, *last as usize + 1, Place(*place));
     }
 }
 
 // Adds to set t every place of which a free run begins at step t, for each step from 1 on; perhaps others.
-pub fn add_begins(lines: &[u32], all: &[u32], sets: &mut [u64])
-    requires { (SomeStore lines.now all.now) × (257 ≤ length sets.old) }
-    ensures { Begun lines.now all.now sets.old sets.new }
+pub fn add_begins(sheet: &HeldSheet, sets: &mut [u64])
+    requires { 257 ≤ length sets.old }
+    ensures { Begun sheet.now sets.old sets.new }
 {
-    let e = FIRST_OCCUPANCY + lines[O_LINE] as usize * OCCUPANCY;
-    add_ends(&all[FIRST_OCCUPANCY..e], sets);
+    add_ends(sheet.group(O_LINE), sets);
 }

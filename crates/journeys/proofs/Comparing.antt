@@ -23,7 +23,7 @@ use Rattle.costs.specs.Laws.Figures.{at_most_b-true, at-most-at_most_b, at-most-
 use Rattle.sheet.specs.Laws.Decided.{lt-or-le}
 use Rattle.arrivals.specs.Rows.{cost_at, row_at}
 use Rattle.journeys.specs.Computed.{self, front_of}
-use Rattle.journeys.specs.Inner.{is_goal_row, goal_rows, costs_of, NumberIs}
+use Rattle.journeys.specs.Inner.{is_goal_row, goal_rows, costs_of, Numbered}
 use Rattle.journeys.specs.Inner.Chain.{Once, rank, Ordered}
 use Rattle.journeys.specs.Inner.Slow.{below, none_below, kept_off, is_front_row, in_count, count_to, has_number}
 use Rattle.journeys.specs.Inner.Sweep.{swept, FrontRows}
@@ -267,16 +267,16 @@ module _ (v : ℕ) (counting : List ℕ) (n : ℕ) (xs : List ℕ) where
   unfolding c
   before-row i h = counted-rows false (cost_at xs (get_or (front_list v counting n xs) i 0)) ∙ position (cost_at xs) (front_list v counting n xs) i rows-ascend h
 
-  pub slow-on : (i k : ℕ) (o : Offered) → k < n → has_number v counting n xs i k ≡ true → o.found ≡ true → o.cost ≡ cost_at xs k → o.step.0 ≡ (row_at xs k).step → NumberIs (goal_rows v counting n xs) i o
-  slow-on i k o h b t g s =
+  pub slow-on : (i k : ℕ) (o : Offered) → k < n → has_number v counting n xs i k ≡ true → o.cost ≡ cost_at xs k → o.step.0 ≡ (row_at xs k).step → Numbered (goal_rows v counting n xs) i o
+  slow-on i k o h b g s =
       let f = and-true (is_front_row v counting n xs k) (eqb (count_to v counting n xs false (cost_at xs k) n) i) b in
       let p = at_position (front_list v counting n xs) k (front-in k h f.0) in
       let z : i ≡ p.0 = sym (eqb-true (count_to v counting n xs false (cost_at xs k) n) i f.1) ∙ ap (λ (j : ℕ). count_to v counting n xs false (cost_at xs j) n) p.2 ∙ before-row p.0 p.1 in
       let q : k ≡ get_or (front_list v counting n xs) i 0 = p.2 ∙ ap (λ (j : ℕ). get_or (front_list v counting n xs) j 0) (sym z) in
-      number_at slow-front i o t (omega (arith, p.1)) (g ∙ ap (cost_at xs) q) (s ∙ ap (λ (j : ℕ). (row_at xs j).step) q)
+      number_at slow-front i o (omega (arith, p.1)) (g ∙ ap (cost_at xs) q) (s ∙ ap (λ (j : ℕ). (row_at xs j).step) q)
 
-  pub slow-off : (i : ℕ) (o : Offered) → none_below (has_number v counting n xs i) n ≡ true → o.found ≡ false → NumberIs (goal_rows v counting n xs) i o
-  slow-off i o f e = record { on = λ t. absurd (true≢false (sym t ∙ e)); off = λ t. ⊎_elim (λ h. absurd (none h)) (λ h. omega (arith, front-counted slow-front)) (lt-or-le i (length fs)) }
+  pub slow-off : (i : ℕ) → none_below (has_number v counting n xs i) n ≡ true → length (front_of (costs_of (goal_rows v counting n xs))) ≤ i
+  slow-off i f = ⊎_elim (λ h. absurd (none h)) (λ h. omega (arith, front-counted slow-front)) (lt-or-le i (length fs))
     where
       fs : List ℕ
       fs = front_list v counting n xs

@@ -10,26 +10,25 @@ use lib.ListN.{length, get_or}
 use lib.Dec.{leb, ltb}
 use borrow.Author.Tests.{leb-true, le-leb, ltb-true, lt-ltb}
 use Rattle.sheet.specs.Lists.{number, Lex}
-use Rattle.sheet.specs.Kinds.{kind_c}
 use Rattle.sheet.specs.Sheet.{Sheet, to}
-use Rattle.sheet.specs.Store.{SomeStore, sheet_in}
+use Rattle.sheet.specs.Valid.{Valid}
 use Rattle.sheet.specs.Laws.Decided.{false-not-true, lt-or-le, from-length}
 use Rattle.sheet.specs.Laws.Order.{and-true, true-and}
 use Rattle.sheet.specs.Laws.Members.{mem-at}
-use Rattle.sheet.specs.Laws.Store.{store-valid}
 use Rattle.costs.specs.Costs.{Cost, figures, add, times, AtMost}
 use Rattle.costs.specs.Moves.{wait_of, Crossing}
 use Rattle.costs.specs.Computed.{at_most_b}
 use Rattle.costs.specs.Priced.{Within, CrossingBy, CorridorIs}
 use Rattle.costs.specs.declared.Corridor as corridor
 use Rattle.costs.specs.Laws.Figures.{fig-add, length-add, length-times, cancel_right, at-most-antisym, same-figures, at_most_b-true, within_more, within-times}
-use Rattle.costs.specs.Laws.Moves.{wait-three, crossing-three, by-crossing, crossing-by, crossing-also, corridor-count, corridor-crosses, crosses-corridor}
+use Rattle.costs.specs.Laws.Moves.{wait-three, crossing-three, by-crossing, crossing-by, crossing-also, corridor-crosses, crosses-corridor}
 use Rattle.intervals.specs.Computed.{since_of}
 use Rattle.intervals.specs.FirstSteps.{Derived}
 use Rattle.intervals.specs.Laws.Runs.{run_join, since-run}
 use Rattle.arrivals.specs.Arrivals.{Arrival, key_of}
 use Rattle.arrivals.specs.Computed.{arrival}
-use Rattle.arrivals.specs.Laws.Bounds.{arrives-bounded, arrives-place}
+use Rattle.arrivals.specs.Laws.Bounds.{arrives-bounded}
+use Rattle.intervals.proofs.Occupancies.{got-back}
 use Rattle.journeys.specs.Inner.Lookup.{mark_at, stand_at, Sorted}
 use Rattle.journeys.specs.Inner.Waits.{Rowed, WaitingRow}
 use Rattle.journeys.specs.Inner.Marks.{Raised, CrossesBy, CrossesLater, Settled, Enterable, Onto, OntoAny, Passed, Passable}
@@ -39,18 +38,16 @@ use Rattle.journeys.proofs.Waiting.{part-under}
 use Rattle.journeys.proofs.Marking.{same_refl, same-stand, same-rowed, raised-none, raised-as, raised-higher, raised-past, Below, raised-more}
 
 -- a corridor of the sheet in the array leads from a place below 64
-pub from_low : {lines all : List ℕ} → SomeStore lines all → {k u v t : ℕ} {c : Cost} → CrossingBy (sheet_in lines all) k u v t c → u < 64
-from_low {lines} {all} d {k} {u} {v} {t} {c} x =
-    let h = store-valid d.store in
-    let y = by-crossing (sheet_in lines all) k u v t c x in
-    omega (arith, y.leaves, (h.corridors y.line y.listed).from_place, h.most-places)
+pub from_low : {s : Sheet} → Valid s → {k u v t : ℕ} {c : Cost} → CrossingBy s k u v t c → u < 64
+from_low {s} d {k} {u} {v} {t} {c} x =
+    let y = by-crossing s k u v t c x in
+    omega (arith, y.leaves, (d.corridors y.line y.listed).from_place, d.most-places)
 
 -- and to one
-pub to_low : {lines all : List ℕ} → SomeStore lines all → (l : ℕ) → l < number lines kind_c.order → to (get_or (sheet_in lines all).corridors l []) < 64
-to_low {lines} {all} d l h =
-    let v = store-valid d.store in
-    let m = mem-at [] (sheet_in lines all).corridors l (omega (arith, corridor-count d)) in
-    omega (arith, (v.corridors (get_or (sheet_in lines all).corridors l []) m).to-place, v.most-places)
+pub to_low : {s : Sheet} → Valid s → (l : ℕ) → l < length s.corridors → to (get_or s.corridors l []) < 64
+to_low {s} d l h =
+    let m = mem-at [] s.corridors l h in
+    omega (arith, (d.corridors (get_or s.corridors l []) m).to-place, d.most-places)
 
 kept-three : (s : Sheet) (xs : List ℕ) (k t : ℕ) → length (kept s (stand_at xs k) t) ≡ figures
 kept-three s xs k t =
@@ -164,13 +161,10 @@ pub cross-more : {s : Sheet} {n l : ℕ} {xs ys zs : List ℕ} {b : Arrival} →
 cross-more {s} {n} {l} {xs} {ys} {zs} {b} p q =
     raised-more p q (λ k h. subst (CrossesBy s b l) (same-stand p.rows k)) (λ k h. subst (CrossesBy s b l) (sym (same-stand p.rows k)))
 
-pub cross-all : {lines all : List ℕ} → SomeStore lines all → {n l : ℕ} {xs ys : List ℕ} {b : Arrival} → number lines kind_c.order ≤ l
-    → Raised n xs ys b.step (Below (ByCorridor (sheet_in lines all) xs b) l) → Raised n xs ys b.step (λ k. CrossesInto (sheet_in lines all) (stand_at xs k) b)
-cross-all {lines} {all} d {n} {l} {xs} {ys} {b} h = raised-as (λ k i. to k) (λ k i. from k)
+pub cross-all : {s : Sheet} {n l : ℕ} {xs ys : List ℕ} {b : Arrival} → length s.corridors ≤ l
+    → Raised n xs ys b.step (Below (ByCorridor s xs b) l) → Raised n xs ys b.step (λ k. CrossesInto s (stand_at xs k) b)
+cross-all {s} {n} {l} {xs} {ys} {b} h = raised-as (λ k i. to k) (λ k i. from k)
   where
-    s : Sheet
-    s = sheet_in lines all
-
     to : (k : ℕ) → Below (ByCorridor s xs b) l k → CrossesInto s (stand_at xs k) b
     to k x =
         let y = x.holds in
@@ -179,7 +173,7 @@ cross-all {lines} {all} d {n} {l} {xs} {ys} {b} h = raised-as (λ k i. to k) (λ
     from : (k : ℕ) → CrossesInto s (stand_at xs k) b → Below (ByCorridor s xs b) l k
     from k x =
         let y = crossing-by s (stand_at xs k).place b.place (b.step - 1) x.price x.cross in
-        record { at = y.0; below = omega (arith, y.1.listed, corridor-count d); holds = record { price = x.price; cross = y.1; stays = x.stays; sum = x.sum } }
+        record { at = y.0; below = omega (arith, y.1.listed, h); holds = record { price = x.price; cross = y.1; stays = x.stays; sum = x.sum } }
 
 -- onto where row i stands at step t
 module _ {s : Sheet} {n t i : ℕ} {xs : List ℕ} where
@@ -256,11 +250,11 @@ pub settled-kept : {s : Sheet} {n t : ℕ} {xs ys : List ℕ} {b : Arrival} {P :
 settled-kept {s} {n} {t} {xs} {ys} {b} p w =
     record { every = λ k h x. raised-higher p b.step k h (w.every k h (subst (λ (a : Arrival). CrossesInto s a (arrival b.place (b.step + 1) (add b.cost (wait_of s b.place)))) (same-stand p.rows k) x)) }
 
-pub enterable-kept : {lines all since : List ℕ} {n t : ℕ} {xs ys : List ℕ} {b : Arrival} {settled : Bool} {P : ℕ → Type 0} → Raised n xs ys t P
-    → Enterable lines all since n xs b settled → Enterable lines all since n ys b settled
+pub enterable-kept : {s : Sheet} {since : List ℕ} {n t : ℕ} {xs ys : List ℕ} {b : Arrival} {settled : Bool} {P : ℕ → Type 0} → Raised n xs ys t P
+    → Enterable s since n xs b settled → Enterable s since n ys b settled
 enterable-kept p x = record { rowed = same-rowed p.rows x.rowed; moved = x.moved; day = x.day; settles = λ e. settled-kept p (x.settles e) }
 
-pub passable-kept : {lines all since : List ℕ} {n t : ℕ} {xs ys : List ℕ} {P : ℕ → Type 0} → Raised n xs ys t P → Passable lines all since n xs t → Passable lines all since n ys t
+pub passable-kept : {s : Sheet} {since : List ℕ} {n t : ℕ} {xs ys : List ℕ} {P : ℕ → Type 0} → Raised n xs ys t P → Passable s since n xs t → Passable s since n ys t
 passable-kept p x = record { rowed = same-rowed p.rows x.rowed; moved = x.moved; day = x.day; passed = passed-kept (omega arith) p x.passed }
 
 -- rows after a row are no sooner
@@ -288,10 +282,10 @@ module _ {s : Sheet} {n t i : ℕ} {xs : List ℕ} {x : Arrival} {m : ℕ} (e : 
       (ap (arrival x.place t) here ∙ ap (λ (a : Arrival). kept_at s a t) e)
 
 -- where the row stands then can be entered
-pub row-enters : {lines all since : List ℕ} {n t i : ℕ} {xs : List ℕ} → Passable lines all since n xs t → i < n → {x : Arrival} {m : ℕ} → x ≡ stand_at xs i → m ≡ mark_at xs i
-    → leb x.step t && ltb t m ≡ true → {w g : Cost} → w ≡ wait_of (sheet_in lines all) x.place → g ≡ add x.cost (times (t - x.step) w)
-    → {b : Bool} → (b ≡ true → t + 1 < m) → Enterable lines all since n xs (arrival x.place t g) b
-row-enters {lines} {all} {since} {n} {t} {i} {xs} p l {x} {m} e f d {w} {g} q r h =
+pub row-enters : {s : Sheet} {since : List ℕ} {n t i : ℕ} {xs : List ℕ} → Passable s since n xs t → i < n → {x : Arrival} {m : ℕ} → x ≡ stand_at xs i → m ≡ mark_at xs i
+    → leb x.step t && ltb t m ≡ true → {w g : Cost} → w ≡ wait_of s x.place → g ≡ add x.cost (times (t - x.step) w)
+    → {b : Bool} → (b ≡ true → t + 1 < m) → Enterable s since n xs (arrival x.place t g) b
+row-enters {s} {since} {n} {t} {i} {xs} p l {x} {m} e f d {w} {g} q r h =
     record {
       rowed = p.rowed;
       moved = p.moved;
@@ -299,37 +293,27 @@ row-enters {lines} {all} {since} {n} {t} {i} {xs} p l {x} {m} e f d {w} {g} q r 
       settles = λ c. subst (Settled s n xs) (sym here) (row_settled p.passed l (omega (arith, leb-true x.step t (and-true (leb x.step t) (ltb t m) d).0, ap (λ (a : Arrival). a.step) e)) (omega (arith, f, h c)));
     }
   where
-    s : Sheet
-    s = sheet_in lines all
-
     here : arrival x.place t g ≡ kept_at s (stand_at xs i) t
     here = ap (arrival x.place t) (r ∙ ap (λ (c : Cost). add x.cost (times (t - x.step) c)) q) ∙ ap (λ (a : Arrival). kept_at s a t) e
 
 -- figures that can be counted on
-pub row-counted : {lines all since : List ℕ} {n : ℕ} {table : List ℕ} → Rowed lines all since n table → {k : ℕ} → k < n → {x : Arrival} → x ≡ stand_at table k → Within 1000000000 x.cost
-row-counted {lines} {all} {since} {n} {table} d {k} h e =
-    let s = sheet_in lines all in
+pub row-counted : {s : Sheet} {since : List ℕ} {n : ℕ} {table : List ℕ} → Rowed s since n table → {k : ℕ} → k < n → {x : Arrival} → x ≡ stand_at table k → Within 1000000000 x.cost
+row-counted {s} {since} {n} {table} d {k} h e =
     subst (λ (a : Arrival). Within 1000000000 a.cost) (sym e)
-    (record { every = λ i. omega (arith, arrives-bounded s (store-valid d.derived.store) (stand_at table k) (d.rows.each k h).arrives i) })
-
-pub row_low : {lines all since : List ℕ} {n : ℕ} {table : List ℕ} → Rowed lines all since n table → {k : ℕ} → k < n → {x : Arrival} → x ≡ stand_at table k → x.place < 64
-row_low {lines} {all} {since} {n} {table} d {k} h e =
-    let v = store-valid d.derived.store in
-    omega (arith, arrives-place (sheet_in lines all) v (stand_at table k) (d.rows.each k h).arrives, v.most-places, ap (λ (a : Arrival). a.place) e)
+    (record { every = λ i. omega (arith, arrives-bounded s d.derived.valid (stand_at table k) (d.rows.each k h).arrives i) })
 
 pub waits-counted : {n : ℕ} {w r : Cost} → n ≤ 255 → Within 60000 w → r ≡ times n w → Within 1000000000 r
 waits-counted {n} {w} h x e = subst (Within 1000000000) (sym e) (within_more (n * 60000) 1000000000 (times n w) (omega arith) (within-times n 60000 w x))
 
 -- what the code tests of a corridor, its first place and both waits
-pub later-crosses : {lines all since : List ℕ} → Derived lines all since → {l u v t : ℕ} (r : corridor.Corridor) → CorridorIs (sheet_in lines all) l t r → u < 64 → t ≤ 255
-    → {first : ℕ} → first ≡ number since (u * 256 + t) → {a b : Cost} → a ≡ wait_of (sheet_in lines all) u → b ≡ wait_of (sheet_in lines all) v → {p q : Bool} → p ≡ at_most_b a b → q ≡ at_most_b b a
-    → r.open && ltb first t && p && q ≡ true → CrossesLater (sheet_in lines all) l u v t
-later-crosses {lines} {all} d {l} {u} {v} {t} r c low day {first} f {a} {b} e g {p} {q} h k x =
-    let s = sheet_in lines all in
+pub later-crosses : {s : Sheet} {since : List ℕ} → Derived s since → {l u v t : ℕ} (r : corridor.Corridor) → CorridorIs s l t r → u < 64 → t ≤ 255
+    → {first : ℕ} → first ≡ number since (u * 256 + t) → {a b : Cost} → a ≡ wait_of s u → b ≡ wait_of s v → {p q : Bool} → p ≡ at_most_b a b → q ≡ at_most_b b a
+    → r.open && ltb first t && p && q ≡ true → CrossesLater s l u v t
+later-crosses {s} d {l} {u} {v} {t} r c low day {first} f {a} {b} e g {p} {q} h k x =
     let y = and-true (r.open && ltb first t && p) q x in
     let z = and-true (r.open && ltb first t) p y.0 in
     let w = and-true r.open (ltb first t) z.0 in
-    let since-is : first ≡ since_of s u t = f ∙ d.firsts.of s refl u t low (omega arith) in
+    let since-is : first ≡ since_of s u t = f ∙ d.firsts.of s (sym (got-back d.valid)) u t low (omega arith) in
     record {
       crosses = λ m n. crossing-also s l u v (t - 1) m n r.from.0 r.to.0 t r.cost (corridor-crosses c w.0);
       waits = (since-run s u (t - 1) t day (omega arith)).0 (omega (arith, since-is, ltb-true first t w.1));

@@ -3,7 +3,7 @@
 -- Assumes nothing.
 use mathlib.Core.Path.{◌≡◌, refl, sym, ◌∙◌, ap, ap₂, subst}
 use mathlib.Core.Logic.{◌⊎◌, inl, inr, ⊎_elim}
-use mathlib.Core.Bool.{Bool, true, false, true≢false}
+use mathlib.Core.Bool.{Bool}
 use mathlib.Core.List.{List, [], ◌∷◌, ◌++◌, map, append-nil}
 use Prim.Native.Nat.{ℕ, zero, suc, ◌+◌, ◌*◌, ◌-◌, ◌≤◌, ◌<◌}
 use native.Mathlib.Omega.{arith}
@@ -19,7 +19,7 @@ use Rattle.costs.specs.Laws.Figures.{at-most-Lex, at-most-dominates, dominates-i
 use Rattle.sheet.specs.Laws.Decided.{lt-or-le}
 use Rattle.arrivals.specs.Rows.{cost_at, row_at}
 use Rattle.journeys.specs.Computed.{self, front_of}
-use Rattle.journeys.specs.Inner.{counts_at, is_goal_row, goal_rows, costs_of, first_step_of, NumberIs}
+use Rattle.journeys.specs.Inner.{counts_at, is_goal_row, goal_rows, costs_of, first_step_of, Numbered}
 use Rattle.journeys.specs.Inner.Chain.{chain, Once, start_of, InTable, Releasable, Released, rank, Ordered, OrderedAll}
 use Rattle.journeys.specs.Inner.Sweep.{swept, third, stair_of, ahead_of, Sweeps, SweptTo, FrontRows, Begun, list_row}
 use Rattle.journeys.specs.Laws.Front.{front_of-is, is-front_of, front_of-ascending}
@@ -195,32 +195,25 @@ module _ {v : ℕ} {counting : List ℕ} {n : ℕ} {base fs : List ℕ} (f : Fro
   cost-is : i < length fs → cost_at base (get_or fs i 0) ≡ get_or (front_of (costs_of (goal_rows v counting n base))) i []
   cost-is h = sym (get-map (cost_at base) fs i h) ∙ ap (λ (l : List Cost). get_or l i []) f.costs-are
 
-  pub number_at : (o : Offered) → o.found ≡ true → i < length fs → o.cost ≡ cost_at base (get_or fs i 0) → o.step.0 ≡ (row_at base (get_or fs i 0)).step → NumberIs (goal_rows v counting n base) i o
-  number_at o t h e s =
+  pub number_at : (o : Offered) → i < length fs → o.cost ≡ cost_at base (get_or fs i 0) → o.step.0 ≡ (row_at base (get_or fs i 0)).step → Numbered (goal_rows v counting n base) i o
+  number_at o h e s =
       record {
-        on = λ g. (omega (arith, front-counted f), e ∙ cost-is h, s ∙ f.steps-are (get_or fs i 0) (get-member fs i h) ∙ ap (λ (g : Cost). first_step_of g (goal_rows v counting n base)) (sym e));
-        off = λ g. absurd (true≢false (sym t ∙ g));
+        within = omega (arith, front-counted f);
+        cost-is = e ∙ cost-is h;
+        step-is = s ∙ f.steps-are (get_or fs i 0) (get-member fs i h) ∙ ap (λ (g : Cost). first_step_of g (goal_rows v counting n base)) (sym e);
       }
 
-  pub at-number : (o : Offered) → i < length fs → NumberIs (goal_rows v counting n base) i o → o.cost ++ (o.step.0 ∷ []) ≡ list_row base (get_or fs i 0)
-  at-number o h w = go o.found refl
-    where
-      go : (b : Bool) → o.found ≡ b → o.cost ++ (o.step.0 ∷ []) ≡ list_row base (get_or fs i 0)
-      go false t = absurd (omega (arith, w.off t, front-counted f))
-      go true t =
-          let e : o.cost ≡ cost_at base (get_or fs i 0) = (w.on t).1 ∙ sym (cost-is h) in
-          ap₂ (λ (g : Cost) (s : ℕ). g ++ (s ∷ [])) e ((w.on t).2 ∙ ap (λ (g : Cost). first_step_of g (goal_rows v counting n base)) e ∙ sym (f.steps-are (get_or fs i 0) (get-member fs i h)))
+  pub at-number : (o : Offered) → i < length fs → Numbered (goal_rows v counting n base) i o → o.cost ++ (o.step.0 ∷ []) ≡ list_row base (get_or fs i 0)
+  at-number o h w =
+      let e : o.cost ≡ cost_at base (get_or fs i 0) = w.cost-is ∙ sym (cost-is h) in
+      ap₂ (λ (g : Cost) (s : ℕ). g ++ (s ∷ [])) e (w.step-is ∙ ap (λ (g : Cost). first_step_of g (goal_rows v counting n base)) e ∙ sym (f.steps-are (get_or fs i 0) (get-member fs i h)))
 
 module _ {v : ℕ} {counting : List ℕ} {n : ℕ} {base xs ys : List ℕ} {s r : Sweep} (i : ℕ) (b : Begun v counting n base xs s) (t : SweptTo v (i + 1) xs ys s r) where
   p : Sweeps base v ys r b.fs
   p = t.on.of base b.fs b.sweeps
 
-  pub number-off : (o : Offered) → o.found ≡ false → r.count ≤ i → NumberIs (goal_rows v counting n base) i o
-  number-off o e h =
-      record {
-        on = λ f. absurd (true≢false (sym f ∙ e));
-        off = λ f. omega (arith, h, counted-all p (⊎_elim (λ z. z) (λ z. absurd (omega arith)) t.end), front-counted b.front);
-      }
+  pub number-off : r.count ≤ i → length (front_of (costs_of (goal_rows v counting n base))) ≤ i
+  number-off h = omega (arith, h, counted-all p (⊎_elim (λ z. z) (λ z. absurd (omega arith)) t.end), front-counted b.front)
 
   pub number-row : i < r.count → (r.row ∈ b.fs) × (r.row ≡ get_or b.fs i 0) × (i < length b.fs)
   number-row h =
@@ -232,7 +225,7 @@ module _ {v : ℕ} {counting : List ℕ} {n : ℕ} {base xs ys : List ℕ} {s r 
   pub number-room : i < r.count → InTable base r.row
   number-room h = p.on.rooms r.row (number-row h).0
 
-  pub number-on : (o : Offered) → o.found ≡ true → i < r.count → o.cost ≡ cost_at base r.row → o.step.0 ≡ (row_at base r.row).step → NumberIs (goal_rows v counting n base) i o
-  number-on o k h e f =
+  pub number-on : (o : Offered) → i < r.count → o.cost ≡ cost_at base r.row → o.step.0 ≡ (row_at base r.row).step → Numbered (goal_rows v counting n base) i o
+  number-on o h e f =
       let w = number-row h in
-      number_at b.front i o k w.2 (e ∙ ap (cost_at base) w.1) (f ∙ ap (λ (j : ℕ). (row_at base j).step) w.1)
+      number_at b.front i o w.2 (e ∙ ap (cost_at base) w.1) (f ∙ ap (λ (j : ℕ). (row_at base j).step) w.1)

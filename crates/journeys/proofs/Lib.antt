@@ -10,6 +10,7 @@ pub mod Ends
 pub mod Sameness
 pub mod Chains
 pub mod Ordering
+pub mod Orders
 pub mod Swept
 pub mod Climbing
 pub mod Sweeping

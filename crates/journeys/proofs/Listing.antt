@@ -2,6 +2,7 @@
 -- Assumes nothing.
 use mathlib.Core.Path.{◌≡◌, refl, sym, ◌∙◌, ap, ap₂, subst}
 use mathlib.Core.Logic.{inl, inr, ⊎_elim}
+use mathlib.Core.Bool.{Bool}
 use mathlib.Core.List.{List, [], ◌∷◌, ◌++◌, map, append-nil, append_assoc}
 use Prim.Native.Nat.{ℕ, ◌+◌, ◌*◌, ◌-◌, ◌≤◌, ◌<◌}
 use native.Mathlib.Omega.{arith}
@@ -12,7 +13,7 @@ use Rattle.sheet.specs.Lists.{◌∈◌, number, bind, filled}
 use Rattle.costs.specs.Costs.{Cost}
 use Rattle.arrivals.specs.Arrivals.{Arrival}
 use Rattle.arrivals.specs.Rows.{cost_at, row_at}
-use Rattle.journeys.specs.Inner.{goal_rows, offered_rows, first_step_of, NumberIs}
+use Rattle.journeys.specs.Inner.{goal_rows, offered_rows, first_step_of, Numbered}
 use Rattle.journeys.specs.Inner.Chain.{InTable}
 use Rattle.journeys.specs.Inner.Sweep.{stair_of, ahead_of, Sweeps, SweptOne, FrontRows, Begun, list_row, Listed, Listable, ListedOn, ListedAll, ListableFront}
 use Rattle.journeys.specs.declared.front.Offered.{Offered}
@@ -106,7 +107,7 @@ module _ {v : ℕ} {counting : List ℕ} {n : ℕ} {base fs list : List ℕ} (f 
       ∙ ap (λ (j : ℕ). bind fs (list_row base) ++ replicate j 0) q
       ∙ ap (filled m) (offered-rows base fs (goal_rows v counting n base) f.steps-are ∙ ap (λ (x : List Cost). bind x (λ g. g ++ (first_step_of g (goal_rows v counting n base) ∷ []))) f.costs-are)
 
-  pub listed-number : (i : ℕ) (o : Offered) (list' : List ℕ) → i < length fs → NumberIs (goal_rows v counting n base) i o → list' ≡ sets list (i * 4) (o.cost ++ (o.step.0 ∷ [])) → Listed base fs i list → Listed base fs (i + 1) list'
+  pub listed-number : (i : ℕ) (o : Offered) (list' : List ℕ) → i < length fs → Numbered (goal_rows v counting n base) i o → list' ≡ sets list (i * 4) (o.cost ++ (o.step.0 ∷ [])) → Listed base fs i list → Listed base fs (i + 1) list'
   listed-number i o list' h w e l = subst (Listed base fs (i + 1)) (sym (e ∙ ap (sets list (i * 4)) (at-number f i o h w))) (listed_more base fs i list h l)
 
 module _ {v : ℕ} {counting : List ℕ} {n : ℕ} {base xs list : List ℕ} {s : Sweep} (b : Begun v counting n base xs s) (q : ListableFront v counting n base list) where

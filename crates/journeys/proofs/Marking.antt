@@ -48,7 +48,7 @@ module _ {n : ℕ} {xs ys : List ℕ} (r : SameButMarks n xs ys) where
         every = λ e l. let q = x.every e l in (q.0, q.1, same-stand q.0 ∙ q.2);
       }
 
-  pub same-rowed : {lines all since : List ℕ} → Rowed lines all since n xs → Rowed lines all since n ys
+  pub same-rowed : {s : Sheet} {since : List ℕ} → Rowed s since n xs → Rowed s since n ys
   same-rowed x = record { derived = x.derived; rows = same_rows x.rows }
 
 -- one raising

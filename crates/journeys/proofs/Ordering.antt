@@ -2,10 +2,10 @@
 -- equal, since a row is put after those of its cost and comes after them in the table. A row that is left out is covered by one of the chain.
 -- Assumes nothing.
 use mathlib.Core.Path.{◌≡◌, refl, sym, ◌∙◌, ap, subst}
-use mathlib.Core.Logic.{◌⊎◌, inl, inr, ⊎_elim}
+use mathlib.Core.Logic.{◌⊎◌, inl, inr}
 use mathlib.Core.Bool.{Bool, true, false, true≢false}
 use mathlib.Core.List.{List, [], ◌∷◌, ◌++◌}
-use Prim.Native.Nat.{ℕ, zero, suc, ◌+◌, ◌*◌, ◌-◌, ◌≤◌, ◌<◌}
+use Prim.Native.Nat.{ℕ, zero, suc, ◌+◌, ◌*◌, ◌≤◌, ◌<◌}
 use native.Mathlib.Omega.{arith}
 use lib.Dec.{eqb}
 use lib.ListN.{length}
@@ -14,17 +14,16 @@ use Rattle.sheet.specs.Lists.{◌∈◌, number, Lex}
 use Rattle.sheet.specs.Computed.{lexb}
 use Rattle.sheet.specs.Sorting.{Before, Ascending}
 use Rattle.sheet.specs.Laws.Order.{lexb-true, lexb-false}
-use Rattle.sheet.specs.Laws.Decided.{lt-or-le}
 use Rattle.costs.specs.Costs.{Cost, AtMost}
 use Rattle.costs.specs.Computed.{at_most_b}
 use Rattle.costs.specs.Laws.Figures.{at-most-refl, at_most_b-true}
 use Rattle.arrivals.specs.Rows.{cost_at, row_at}
 use Rattle.arrivals.specs.Laws.Rows.{row-path}
 use Rattle.journeys.specs.Inner.{is_goal_row}
-use Rattle.journeys.specs.Inner.Chain.{chain, onto, Heads, InTable, Stands, start_of, next_of, link_in, in_gap, rank, Linkable, Seekable, SoughtFrom, Sought, Covered, Ordered, Ordering, NoGoal, NextGoal, OrderedAll}
+use Rattle.journeys.specs.Inner.Chain.{chain, onto, Heads, InTable, Stands, start_of, next_of, link_in, in_gap, rank, Linkable, Seekable, SoughtFrom, Sought, Covered, Ordered, Ordering, OrderedAll}
 use Rattle.journeys.specs.declared.chain.Gap.{Gap}
 use Rattle.journeys.specs.declared.chain.Spot.{Spot}
-use Rattle.journeys.proofs.Chains.{chain_head, chain-none, left-in-table, left-mem, right-mem, onto-mem, stands-start, stands-next, stands-back, parted-whole, right-ascending, onto-ascending, once-left, never_both, differ-none, differ-then, differ-as, differ-costs, Fits, linked, link-differ}
+use Rattle.journeys.proofs.Chains.{chain_head, chain-none, left-in-table, left-mem, right-mem, onto-mem, stands-next, stands-back, parted-whole, right-ascending, onto-ascending, once-left, never_both, differ-then, differ-as, differ-costs, Fits, linked, link-differ}
 
 -- a comparison with a row's cost
 pub compared : (c a x : List ℕ) (r t : Bool) → x ≡ a → r ≡ lexb c x → r ≡ t → lexb c a ≡ t
@@ -239,33 +238,6 @@ module _ {v : ℕ} {counting : List ℕ} {n : ℕ} {base xs : List ℕ} {g : Gap
           all : (k : ℕ) → k < n + 1 → is_goal_row v counting (row_at base k) ≡ true → (b : Bool) → eqb k n ≡ b → Covered (cost_at base) (onto s.before (n ∷ rs)) k
           all k h t true z = covered-self k (right-mem s.before (n ∷ rs) k (inl (eqb-true k n z)))
           all k h t false z = let d : k ≡ n → ⊥ = eqb-false k n z in covered-as old (o.ordered.all k (omega arith) t)
-
--- the rows up to the next of the goal's are passed over
-pub no-goal-more : {v : ℕ} {counting : List ℕ} {from : ℕ} {xs : List ℕ} {r : ℕ} → NoGoal v counting from xs r → is_goal_row v counting (row_at xs r) ≡ false → NoGoal v counting from xs (r + 1)
-no-goal-more {v} {counting} {from} {xs} {r} f e = record { none = λ k l h. go k l h (eqb k r) refl }
-  where
-    go : (k : ℕ) → from ≤ k → k < r + 1 → (b : Bool) → eqb k r ≡ b → is_goal_row v counting (row_at xs k) ≡ false
-    go k l h true q = ap (λ (i : ℕ). is_goal_row v counting (row_at xs i)) (eqb-true k r q) ∙ e
-    go k l h false q = let d : k ≡ r → ⊥ = eqb-false k r q in f.none k l (omega arith)
-
-pub ordering-next : {v : ℕ} {counting : List ℕ} {n from : ℕ} {base xs : List ℕ} {g : Gap} {r : ℕ} → NextGoal v counting from n xs r → Ordering v counting from base xs g → from ≤ n → Ordering v counting r base xs g
-ordering-next {v} {counting} {n} {from} {base} {xs} {g} {r} f o h =
-    go (r - from) from (⊎_elim (λ l. omega (arith, (f.found l).0)) (λ l. omega (arith, f.within)) (lt-or-le r n)) (omega arith) o
-  where
-    go : (m k : ℕ) → k + m ≡ r → from ≤ k → Ordering v counting k base xs g → Ordering v counting r base xs g
-    go zero k e l q = subst (λ (i : ℕ). Ordering v counting i base xs g) (let z : k ≡ r = omega arith in z) q
-    go (suc m) k e l q = go m (k + 1) (omega arith) (omega arith) (ordering-skip q (f.passed.none k l (omega arith)))
-
--- no row yet
-pub ordering-none : (v : ℕ) (counting : List ℕ) (xs : List ℕ) (g : Gap) → g ≡ start_of 0 0 → Ordering v counting 0 xs xs g
-ordering-none v counting xs g e =
-    rw e
-    record {
-      ks = [];
-      stands = stands-start xs 0 0;
-      ordered = record { ascending = tt; are = λ k m. absurd m; all = λ k h t. absurd (omega arith); differ = differ-none xs [] };
-      few = omega arith;
-    }
 
 -- all rows
 pub ordering-all : (v : ℕ) (counting : List ℕ) (n : ℕ) (xs ys : List ℕ) (g : Gap) → Ordering v counting n xs ys g → OrderedAll v counting n xs ys g

@@ -1,21 +1,41 @@
 -- Two fronts compared, by the lists as the calls returned them: demand 3 of what the comparison hands back.
 -- Assumes nothing.
 use mathlib.Core.Path.{◌≡◌, refl, sym, ◌∙◌, ap, subst}
-use mathlib.Core.Logic.{◌↔◌}
+use mathlib.Core.Logic.{◌↔◌, ⊎_elim}
 use mathlib.Core.Bool.{Bool, true, true≢false}
 use mathlib.Core.List.{List, []}
-use Prim.Native.Nat.{ℕ, ◌*◌, ◌-◌, ◌≤◌}
+use Prim.Native.Nat.{ℕ, ◌+◌, ◌*◌, ◌-◌, ◌≤◌, ◌<◌}
 use native.Mathlib.Omega.{arith}
-use lib.ListN.{length, replicate, length-append}
-use Rattle.sheet.specs.Lists.{bind}
-use Rattle.sheet.specs.Laws.Decided.{Decided, holds, fails}
+use lib.ListN.{length, replicate, take, drop, length-append, length-drop}
+use lib.Seq.{length-take-le}
+use Rattle.std.proofs.lemmas.List.{get_or-take, get_or-drop, get_or_past}
+use Rattle.sheet.specs.Lists.{number, bind}
+use Rattle.sheet.specs.Laws.Decided.{Decided, holds, fails, lt-or-le}
+use Rattle.costs.specs.Costs.{figures}
+use Rattle.costs.specs.Laws.Figures.{same-figures}
 use Rattle.journeys.specs.Computed.{front}
 use Rattle.journeys.specs.Calls.{front_row, FrontEnd, front_end, front_served, front_call}
 use Rattle.journeys.specs.Demand3.{SameLists, CanMeet, ComparedIs}
-use Rattle.journeys.specs.Inner.{SameRows, BothSame}
+use Rattle.journeys.specs.Inner.{SameFigures, SameRows, BothSame}
 use Rattle.journeys.specs.declared.FrontAnswer.{FrontAnswer}
 use Rattle.journeys.specs.Laws.Served.{served, list_length}
 use Rattle.journeys.specs.Laws.Demand3.{demand-3}
+
+-- w numbers of a list from position `at` on
+module _ (w at : ℕ) where
+  part : (l : List ℕ) (j : ℕ) → j < w → number (take w (drop at l)) j ≡ number l (at + j)
+  part l j h = get_or-take w (drop at l) j 0 h ∙ get_or-drop at l j 0
+
+  pub parts-same : {a b : List ℕ} → w ≡ figures → take w (drop at a) ≡ take w (drop at b) → SameFigures figures a b at
+  parts-same {a} {b} q e = record { every = λ j l. sym (part a j (omega (arith, q))) ∙ ap (λ (x : List ℕ). number x j) e ∙ part b j (omega (arith, q)) }
+
+  long : (l : List ℕ) → at + w ≤ length l → length (take w (drop at l)) ≡ w
+  long l h = length-take-le w (drop at l) (omega (arith, length-drop at l))
+
+  pub same-parts : {a b : List ℕ} → w ≡ figures → at + w ≤ length a → at + w ≤ length b → SameFigures figures a b at → take w (drop at a) ≡ take w (drop at b)
+  same-parts {a} {b} q h k s =
+      same-figures (take w (drop at a)) (take w (drop at b)) (long a h ∙ sym (long b k))
+      (λ i. ⊎_elim (λ l. part a i l ∙ s.every i (omega (arith, q)) ∙ sym (part b i l)) (λ l. get_or_past (take w (drop at a)) i 0 (omega (arith, long a h)) ∙ sym (get_or_past (take w (drop at b)) i 0 (omega (arith, long b k)))) (lt-or-le i w))
 
 -- the costs of a served call stand in its list
 pub served-room : (b table list : List ℕ) (e : FrontEnd) → e ≡ front_call b table list → e.answer.refusal ≡ 0 → e.answer.costs * 4 ≤ length e.list

@@ -9,11 +9,9 @@ use native.Mathlib.Omega.{arith}
 use lib.ListN.{get_or, length-map}
 use Rattle.sheet.specs.Lists.{◌∈◌, rows, Lex}
 use Rattle.sheet.specs.Sheet.{Sheet, goal}
-use Rattle.sheet.specs.Store.{sheet_in}
 use Rattle.sheet.specs.Valid.{Valid}
 use Rattle.sheet.specs.Laws.Decided.{lt-or-le}
 use Rattle.sheet.specs.Laws.Rows.{rows-count}
-use Rattle.sheet.specs.Laws.Store.{store-valid}
 use Rattle.sheet.specs.Sorting.{Ascending}
 use Rattle.costs.specs.Costs.{Cost}
 use Rattle.arrivals.specs.Arrivals.{Arrival, Leading, key_of}
@@ -135,35 +133,35 @@ module _ {s : Sheet} {f : Cost} {A n : ℕ} (o : OnFront s f) where
               }
 
 -- where the code begins
-module _ {lines all since : List ℕ} {n : ℕ} {table : List ℕ} {A : ℕ} {f : Cost} (k : Endable lines all since n table A f) where
-  pub end-rows : Rows (sheet_in lines all) n table
-  end-rows = holds_rows (store-valid k.derived.store) k.holds
+module _ {s : Sheet} {since : List ℕ} {n : ℕ} {table : List ℕ} {A : ℕ} {f : Cost} (k : Endable s since n table A f) where
+  pub end-rows : Rows s n table
+  end-rows = holds_rows k.derived.valid k.holds
 
-  pub end-rowed : Rowed lines all since n table
+  pub end-rowed : Rowed s since n table
   end-rowed = record { derived = k.derived; rows = end-rows }
 
-  pub end-leading : Leading (sheet_in lines all) (arrival (goal (sheet_in lines all)) A f)
-  end-leading = subst (λ (t : ℕ). Leading (sheet_in lines all) (arrival (goal (sheet_in lines all)) t f)) (sym k.arrives_at) (arrival_of-leading (sheet_in lines all) f k.on-front)
+  pub end-leading : Leading s (arrival (goal s) A f)
+  end-leading = subst (λ (t : ℕ). Leading s (arrival (goal s) t f)) (sym k.arrives_at) (arrival_of-leading s f k.on-front)
 
-  end-tight : Tight (sheet_in lines all) f A (arrival (goal (sheet_in lines all)) A f) A
+  end-tight : Tight s f A (arrival (goal s) A f) A
   end-tight =
-      tight-end (sheet_in lines all) f A k.on-front end-leading
-      (subst (Counts (sheet_in lines all)) (sym k.arrives_at) (arrival_of-earliest (sheet_in lines all) f k.on-front.has).there.counts)
+      tight-end s f A k.on-front end-leading
+      (subst (Counts s) (sym k.arrives_at) (arrival_of-earliest s f k.on-front.has).there.counts)
 
   pub end-day : A ≤ 255
-  end-day = omega (arith, end-leading.arrives.in-time, (store-valid k.derived.store).most-steps)
+  end-day = omega (arith, end-leading.arrives.in-time, k.derived.valid.most-steps)
 
   -- no row is marked past the arrival
-  pub end-passed : {ys : List ℕ} {r : ℕ} → Raised n table ys (A + 1) (λ j. j ≡ r) → Passed (sheet_in lines all) n ys (A + 1)
-  end-passed p = passed_none (λ j h. ⊎_elim (λ e. omega (arith, e, no-marks (store-valid k.derived.store) k.holds j h)) (λ x. omega (arith, x.1)) (p.either j h))
+  pub end-passed : {ys : List ℕ} {r : ℕ} → Raised n table ys (A + 1) (λ j. j ≡ r) → Passed s n ys (A + 1)
+  end-passed p = passed_none (λ j h. ⊎_elim (λ e. omega (arith, e, no-marks k.derived.valid k.holds j h)) (λ x. omega (arith, x.1)) (p.either j h))
 
   -- the goal's row
-  module _ {v r : ℕ} (e : v ≡ goal (sheet_in lines all)) (w : RowIs n table (arrival v A f) r) where
-    goal-row : RowIs n table (arrival (goal (sheet_in lines all)) A f) r
+  module _ {v r : ℕ} (e : v ≡ goal s) (w : RowIs n table (arrival v A f) r) where
+    goal-row : RowIs n table (arrival (goal s) A f) r
     goal-row = subst (λ (v : ℕ). RowIs n table (arrival v A f) r) e w
 
     pub end-within : r < n
     end-within = let q = end-rows.every _ end-leading in omega (arith, q.1, goal-row.only q.0 q.1 q.2)
 
-    pub end-marks : {ys : List ℕ} → Raised n table ys (A + 1) (λ j. j ≡ r) → Marks (sheet_in lines all) f A n ys A
-    end-marks = marks-start k.on-front end-rows (no-marks (store-valid k.derived.store) k.holds) end-leading end-tight goal-row
+    pub end-marks : {ys : List ℕ} → Raised n table ys (A + 1) (λ j. j ≡ r) → Marks s f A n ys A
+    end-marks = marks-start k.on-front end-rows (no-marks k.derived.valid k.holds) end-leading end-tight goal-row

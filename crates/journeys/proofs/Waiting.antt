@@ -12,8 +12,7 @@ use Rattle.sheet.specs.Sheet.{Sheet}
 use Rattle.sheet.specs.Laws.Decided.{false-not-true, lt-or-le, from-length}
 use Rattle.sheet.specs.Laws.Order.{Lex-irrefl}
 use Rattle.sheet.specs.Lists.{Lex, number}
-use Rattle.sheet.specs.Store.{SomeStore, sheet_in}
-use Rattle.sheet.specs.Laws.Store.{store-valid}
+use Rattle.sheet.specs.Valid.{Valid}
 use Rattle.sheet.specs.declared.Place.{Place}
 use Rattle.sheet.specs.declared.Step.{Step}
 use Rattle.costs.specs.Costs.{Cost, figures, fig, add, times}
@@ -29,9 +28,16 @@ use Rattle.arrivals.specs.Arrivals.{Arrival, key_of}
 use Rattle.arrivals.specs.Computed.{arrival}
 use Rattle.arrivals.specs.declared.network.Here.{Here}
 use Rattle.arrivals.specs.Laws.Leading.{arrival-path}
-use Rattle.journeys.specs.Inner.Lookup.{stand_at, Sorted, RowIs}
+use Rattle.intervals.proofs.Occupancies.{got-back}
+use Rattle.journeys.specs.Inner.Lookup.{stand_at, Sorted, RowIs, RowOr}
+use Rattle.std.specs.Prelude.{Option, None, Some}
 use Rattle.journeys.specs.Inner.Waits.{Becomes, KeptFrom, InRun, KeptRow, Rows, Rowed, WaitingRow}
 use Rattle.journeys.specs.Laws.Exact.{Waits, waits-once}
+
+-- what holds of the row told, if something else does
+pub row-as : (n : ℕ) (P Q : ℕ → Type 0) → ((k : ℕ) → P k → Q k) → (r : Option ℕ) → RowOr n P r → RowOr n Q r
+row-as n P Q f None x = f n x
+row-as n P Q f (Some k) x = (x.0, f k x.1)
 
 -- a part of a sum is nowhere above it
 pub part-under : (g c h : Cost) → add g c ≡ h → at_most_b c h ≡ true
@@ -66,32 +72,6 @@ module _ {here : Here} {h : Cost} {t : ℕ} {w : Cost} (e : w ≡ times (here.st
 -- over the steps of the safe interval, from the last one back: no row at a step from s on becomes h
 pub record NoneFrom (n : ℕ) (xs : List ℕ) (here : Here) (h : Cost) (s : ℕ) : Type 0 where
   pub none : (k : ℕ) → k < n → s ≤ (stand_at xs k).step → (stand_at xs k).step ≤ here.step.0 → Becomes here h (stand_at xs k) → ⊥
-
-module _ {n : ℕ} {xs : List ℕ} {here : Here} {h : Cost} where
-  pub none_yet : NoneFrom n xs here h (here.step.0 + 1)
-  none_yet = record { none = λ k l a b x. omega (arith, a, b) }
-
-  pub none-sooner : (s : ℕ) {r : ℕ} → 0 < s → NoneFrom n xs here h s → KeptFrom n xs here h (s - 1) r → n ≤ r → NoneFrom n xs here h (s - 1)
-  none-sooner s {r} o f x m =
-      record { none = λ k l a b y. ⊎_elim (λ i. let z : (stand_at xs k).step ≡ s - 1 = omega (arith, a, i) in omega (arith, x.only k l z y)) (λ i. f.none k l i b y) (lt-or-le (stand_at xs k).step s) }
-
-  pub kept-found : {s r : ℕ} → here.since.0 ≤ s → s ≤ here.step.0 → KeptFrom n xs here h s r → r < n → KeptRow n xs here h r
-  kept-found a b x l =
-      record {
-        most = x.most;
-        within = λ m. record { since = omega (arith, x.at m); until = omega (arith, x.at m) };
-        is = x.is;
-        none = λ m. absurd (omega arith);
-      }
-
-  pub kept-none : {s : ℕ} → s ≤ here.since.0 → NoneFrom n xs here h s → KeptRow n xs here h n
-  kept-none a f =
-      record {
-        most = omega arith;
-        within = λ m. absurd (omega arith);
-        is = λ m. absurd (omega arith);
-        none = λ m k l w b. f.none k l (omega (arith, w.since)) w.until b;
-      }
 
 -- no row stands twice
 pub rows-once : {n : ℕ} {xs : List ℕ} → Sorted n xs → (i j : ℕ) → i < n → j < n → stand_at xs i ≡ stand_at xs j → i ≡ j
@@ -136,18 +116,18 @@ module _ {s : Sheet} {n : ℕ} {xs : List ℕ} (rows : Rows s n xs) (here : Here
           (lt-or-le r n)
 
 -- what the code reads off the array and the table of first steps
-pub wait-within : {lines all : List ℕ} → SomeStore lines all → (v : Place) {w : Cost} → w ≡ wait_at (sheet_in lines all) v → Within 60000 w
+pub wait-within : {s : Sheet} → Valid s → (v : Place) {w : Cost} → w ≡ wait_at s v → Within 60000 w
 unfolding wait_at
-wait-within {lines} {all} d v e = subst (Within 60000) (sym e) (record { every = wait-bounded (sheet_in lines all) (store-valid d.store) v.0 })
+wait-within {s} d v e = subst (Within 60000) (sym e) (record { every = wait-bounded s d v.0 })
 
 pub wait-is : (s : Sheet) (v : Place) {w : Cost} → w ≡ wait_at s v → w ≡ wait_of s v.0
 unfolding wait_at
 wait-is s v e = e
 
-pub row-waiting : {lines all since : List ℕ} {n : ℕ} {table : List ℕ} → Rowed lines all since n table → {v : Place} {t first : Step} → v.0 < 64 → t.0 ≤ 255
-    → first.0 ≡ number since (v.0 * 256 + t.0) → {w h : Cost} → w ≡ wait_at (sheet_in lines all) v → {r : ℕ}
-    → KeptRow n table (record { place = v; step = t; since = first; wait = w }) h r → WaitingRow (sheet_in lines all) n table (arrival v.0 t.0 h) r
+pub row-waiting : {s : Sheet} {since : List ℕ} {n : ℕ} {table : List ℕ} → Rowed s since n table → {v : Place} {t first : Step} → v.0 < 64 → t.0 ≤ 255
+    → first.0 ≡ number since (v.0 * 256 + t.0) → {w h : Cost} → w ≡ wait_at s v → {r : ℕ}
+    → KeptRow n table (record { place = v; step = t; since = first; wait = w }) h r → WaitingRow s n table (arrival v.0 t.0 h) r
 unfolding wait_at
-row-waiting {lines} {all} d {v} {t} {first} low day f {w} {h} e k =
+row-waiting {s} d {v} {t} {first} low day f {w} {h} e k =
     kept-waiting d.rows (record { place = v; step = t; since = first; wait = w })
-    (f ∙ d.derived.firsts.of (sheet_in lines all) refl v.0 t.0 low (omega arith)) e day h k
+    (f ∙ d.derived.firsts.of s (sym (got-back d.derived.valid)) v.0 t.0 low (omega arith)) e day h k

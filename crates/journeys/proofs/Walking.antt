@@ -9,9 +9,7 @@ use lib.ListN.{length, set, take, drop, replicate, length-append}
 use lib.Seq.{sets, sets-eq, length-sets, take_at}
 use Rattle.sheet.specs.Lists.{filled}
 use Rattle.sheet.specs.Sheet.{Sheet, start, steps}
-use Rattle.sheet.specs.Store.{sheet_in}
 use Rattle.sheet.specs.Valid.{Valid}
-use Rattle.sheet.specs.Laws.Store.{store-valid}
 use Rattle.costs.specs.Costs.{Cost, zero_cost, add}
 use Rattle.costs.specs.Laws.Figures.{zero_right}
 use Rattle.intervals.specs.Intervals.{Free}
@@ -166,23 +164,23 @@ module _ {s : Sheet} {f : Cost} {A n : ℕ} {xs : List ℕ} (k : Guided s f A n 
       ap₂ (λ (u : ℕ) (q : List ℕ). sets (set path 0 u) 1 (drop 1 q)) e x.whole ∙ ap (sets path 0) (sym x.whole)
 
 -- what the code lends
-module _ {lines all since : List ℕ} {n : ℕ} {table : List ℕ} {A : ℕ} {f : Cost} {path : List ℕ} (k : Layable lines all since n table A f path) where
-  module _ {ys : List ℕ} (m : MarkedAll (sheet_in lines all) f A n table ys) where
-    pub rowed : Rowed lines all since n ys
+module _ {s : Sheet} {since : List ℕ} {n : ℕ} {table : List ℕ} {A : ℕ} {f : Cost} {path : List ℕ} (k : Layable s since n table A f path) where
+  module _ {ys : List ℕ} (m : MarkedAll s f A n table ys) where
+    pub rowed : Rowed s since n ys
     rowed = same-rowed m.rows (end-rowed k.ends)
 
-    pub led : Guided (sheet_in lines all) f A n ys
-    led = record { valid = store-valid k.ends.derived.store; on-front = k.ends.on-front; arrives_at = k.ends.arrives_at; rows = rowed.rows; marks = m.marks }
+    pub led : Guided s f A n ys
+    led = record { valid = k.ends.derived.valid; on-front = k.ends.on-front; arrives_at = k.ends.arrives_at; rows = rowed.rows; marks = m.marks }
 
   pub bare-again : {ys zs : List ℕ} → SameButMarks n table ys → Bared n ys zs → zs ≡ table
-  bare-again = bared-back (low-place (store-valid k.ends.derived.store) k.ends.holds)
+  bare-again = bared-back (low-place k.ends.derived.valid k.ends.holds)
 
   -- zeros past the path
-  pub laid : (p : List ℕ) → p ≡ sets path 0 (journey_of (sheet_in lines all) f)
-      → take (A + 1) p ++ replicate (length p - (A + 1)) 0 ≡ filled (length path) (journey_of (sheet_in lines all) f)
+  pub laid : (p : List ℕ) → p ≡ sets path 0 (journey_of s f)
+      → take (A + 1) p ++ replicate (length p - (A + 1)) 0 ≡ filled (length path) (journey_of s f)
   laid p e =
-      let j = journey_of (sheet_in lines all) f in
-      let l : length j ≡ A + 1 = omega (arith, journey-length (sheet_in lines all) f k.ends.on-front.has, k.ends.arrives_at) in
+      let j = journey_of s f in
+      let l : length j ≡ A + 1 = omega (arith, journey-length s f k.ends.on-front.has, k.ends.arrives_at) in
       let q : 0 + length j ≤ length path = omega (arith, l, k.room) in
       let s : p ≡ j ++ drop (0 + length j) path = e ∙ sets-eq j path 0 q in
       let z : length p - (A + 1) ≡ length path - length j = omega (arith, ap (λ (x : List ℕ). length x) e, length-sets path 0 j, l) in
@@ -193,10 +191,9 @@ pub next-step : {s : Sheet} {n : ℕ} {xs : List ℕ} {a b : Arrival} → Lowest
 next-step w = ap (λ (x : Arrival). x.step) w.next.is
 
 -- where the walk has come it can go on
-pub walkable : {lines all since : List ℕ} {n A : ℕ} {table : List ℕ} {f : Cost} → Rowed lines all since n table → Guided (sheet_in lines all) f A n table
-    → {a : Arrival} {path path' : List ℕ} → CameTo (sheet_in lines all) f A a path path' → a.step < A → Walkable lines all since n table a
-walkable {lines} {all} d k {a} x l =
-    let s = sheet_in lines all in
+pub walkable : {s : Sheet} {since : List ℕ} {n A : ℕ} {table : List ℕ} {f : Cost} → Rowed s since n table → Guided s f A n table
+    → {a : Arrival} {path path' : List ℕ} → CameTo s f A a path path' → a.step < A → Walkable s since n table a
+walkable {s} d k {a} x l =
     record {
       rowed = d;
       place = omega (arith, arrives-place s k.valid a x.arrives, k.valid.most-places);

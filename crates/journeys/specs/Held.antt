@@ -2,7 +2,6 @@
 use Rattle.std.specs.Prelude.{◌≡◌, List, map, ℕ, suc, ◌*◌, ◌≤◌, length}
 use Rattle.sheet.specs.Lists.{number, numbers_from, rows}
 use Rattle.sheet.specs.Sheet.{Sheet}
-use Rattle.sheet.specs.Store.{sheet_in}
 use Rattle.costs.specs.Costs.{Cost, figures}
 use Rattle.intervals.specs.FirstSteps.{Derived}
 use Rattle.arrivals.specs.Arrivals.{Arrival}
@@ -24,13 +23,13 @@ pub record Holds (s : Sheet) (n : ℕ) (xs : List ℕ) : Type 0 where
   pub rows_are : table_rows n xs ≡ leading s
 
 -- on the sheet in the array, whose leading arrivals the table holds, the journey of the front cost f arrives at step A
-pub record Endable (lines all since : List ℕ) (n : ℕ) (table : List ℕ) (A : ℕ) (f : Cost) : Type 0 where
-  pub derived : Derived lines all since
-  pub holds : Holds (sheet_in lines all) n table
-  pub on-front : OnFront (sheet_in lines all) f
-  pub arrives_at : A ≡ arrival_of (sheet_in lines all) f
+pub record Endable (s : Sheet) (since : List ℕ) (n : ℕ) (table : List ℕ) (A : ℕ) (f : Cost) : Type 0 where
+  pub derived : Derived s since
+  pub holds : Holds s n table
+  pub on-front : OnFront s f
+  pub arrives_at : A ≡ arrival_of s f
 
 -- and the path buffer has room for it
-pub record Layable (lines all since : List ℕ) (n : ℕ) (table : List ℕ) (A : ℕ) (f : Cost) (path : List ℕ) : Type 0 where
-  pub ends : Endable lines all since n table A f
+pub record Layable (s : Sheet) (since : List ℕ) (n : ℕ) (table : List ℕ) (A : ℕ) (f : Cost) (path : List ℕ) : Type 0 where
+  pub ends : Endable s since n table A f
   pub room : suc A ≤ length path

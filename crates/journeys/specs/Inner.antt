@@ -1,5 +1,5 @@
 -- What the functions that read the front and a journey off the arrivals table promise each other. No exported contract cites this file.
-use Rattle.std.specs.Prelude.{◌≡◌, Bool, true, false, ◌&&◌, List, [], ◌∷◌, ◌++◌, map, ℕ, ◌*◌, ◌+◌, ◌≤◌, ◌<◌, eqb, length, get_or}
+use Rattle.std.specs.Prelude.{◌≡◌, Bool, true, false, ◌&&◌, List, [], ◌∷◌, ◌++◌, map, ℕ, ◌*◌, ◌+◌, ◌≤◌, ◌<◌, eqb, length, get_or, Option, Some, None}
 use Rattle.sheet.specs.Lists.{pick, number, filter, bind}
 use Rattle.costs.specs.Costs.{Cost, figures}
 use Rattle.costs.specs.Computed.{sameb}
@@ -19,7 +19,7 @@ pub mod Chain
 pub mod Sweep
 pub mod Slow
 
--- an arrival at the goal at step t counts, told by an array with a number for each step: 1 where it does
+-- an arrival at the goal at step t counts, told by an array for each step
 abbrev pub counts_at : List ℕ → ℕ → Bool
 counts_at counting t = eqb (number counting t) 1
 
@@ -42,10 +42,16 @@ abbrev pub first_step_of : Cost → List Arrival → ℕ
 first_step_of g [] = 0
 first_step_of g (a ∷ l) = let r = first_step_of g l in pick (sameb a.cost g) a.step r
 
--- r is the cost with number i on the front of the arrivals l, with the step of its first arrival; or there is none
-pub record NumberIs (l : List Arrival) (i : ℕ) (r : Offered) : Type 0 where
-  pub on : r.found ≡ true → (i < length (front_of (costs_of l))) × (r.cost ≡ get_or (front_of (costs_of l)) i []) × (r.step.0 ≡ first_step_of r.cost l)
-  pub off : r.found ≡ false → length (front_of (costs_of l)) ≤ i
+-- o is the cost with number i on the front of the arrivals l, with the step of its first arrival
+pub record Numbered (l : List Arrival) (i : ℕ) (o : Offered) : Type 0 where
+  pub within : i < length (front_of (costs_of l))
+  pub cost-is : o.cost ≡ get_or (front_of (costs_of l)) i []
+  pub step-is : o.step.0 ≡ first_step_of o.cost l
+
+-- that cost, or there is none
+abbrev pub NumberIs : List Arrival → ℕ → Option Offered → Type 0
+NumberIs l i None = length (front_of (costs_of l)) ≤ i
+NumberIs l i (Some o) = Numbered l i o
 
 -- the rows of the front list
 abbrev pub offered_rows : List Arrival → List ℕ

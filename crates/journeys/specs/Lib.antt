@@ -2,6 +2,7 @@ pub mod Journeys
 pub mod Front
 pub mod Computed
 pub mod Calls
+pub mod Answers
 pub mod Held
 pub mod Demand2
 pub mod Demand3

@@ -17,6 +17,7 @@ pub struct Gap {
 }
 
 // Whether a row of a chain is nowhere above another row, and the gap where the search for one ended: if there is none, the gap where the other belongs.
+// Stays: a row that is led hands the gap on as one that is not (`order_row`), so that an enum would hold the gap in both variants.
 #[derive(Drop)]
 pub struct Spot {
     pub led: bool,
@@ -97,6 +98,7 @@ pub fn release(table: &mut [u32], v: Place, gap: Gap, bound: u32) -> Gap
     ensures { Released v.0 bound table.old table.new gap result }
 {
     let mut at = gap;
+    // Stays: the loop goes from row to row as the chain says, and no `for` counts that.
     while 0 < at.rest {
         let h = row_cost(table, at.right as usize);
         if h[1] < bound {

@@ -1,15 +1,15 @@
 // Two sheets' fronts compared: demand 3, by two calls of the front and the lists that they return.
 ghost use Rattle.std.specs.Prelude.{◌≡◌, [], ◌+◌, ◌*◌, ◌≤◌, length};
-ghost use Rattle.costs.specs.Costs.{figures};
 ghost use Rattle.sheet.specs.Laws.Decided.{Decided};
 ghost use Rattle.journeys.specs.Calls.{front_end};
 ghost use Rattle.journeys.specs.Demand3.{ComparedIs};
-ghost use Rattle.journeys.specs.Inner.{SameFigures, SameRows, BothSame};
+ghost use Rattle.journeys.specs.Inner.{SameRows, BothSame};
 
 use crate::FrontAnswer;
 use crate::calls::front;
 
 // The answers of two calls of the front, and whether neither is refused and the lists of costs are equal.
+// Stays: `same` is an answer of its own beside both answers, and no Option of them.
 #[derive(Drop)]
 pub struct Compared {
     pub first: FrontAnswer,
@@ -17,30 +17,15 @@ pub struct Compared {
     pub same: bool,
 }
 
-// Whether the figures of two costs are equal, which stand from position `at` on.
-fn same_cost(a: &[u32], b: &[u32], at: usize) -> bool
-    requires { (at + 3 ≤ length a.now) × (at + 3 ≤ length b.now) }
-    ensures { Decided (SameFigures figures a.now b.now at) result }
-{
-    for j in 0..3 {
-        if a[at + j] != b[at + j] {
-            return false;
-        }
-    }
-    true
-}
-
 // Whether the first n costs of two front lists are equal.
 fn same_costs(a: &[u32], b: &[u32], n: usize) -> bool
     requires { (n * 4 ≤ length a.now) × (n * 4 ≤ length b.now) }
     ensures { Decided (SameRows n a.now b.now) result }
 {
-    let mut k = 0;
-    while k < n {
-        if !same_cost(a, b, k * 4) {
+    for k in 0..n {
+        if a[k * 4..k * 4 + 3] != b[k * 4..k * 4 + 3] {
             return false;
         }
-        k += 1;
     }
     true
 }

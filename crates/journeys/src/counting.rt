@@ -8,14 +8,12 @@ use intervals::stays::stays;
 use sheet::{Place, Step};
 
 // Whether an arrival at the goal at a step counts.
+// Stays: bytes and no `bool`, since the functions of the front promise an answer for any byte (`counts_at`).
 pub fn counts_at(counting: &[u8], step: Step) -> bool
     ensures { result ≡ counts_at counting.now step.0 }
 {
     let t = step.0 as usize;
-    if counting.len() <= t {
-        return false;
-    }
-    counting[t] == 1
+    t < counting.len() && counting[t] == 1
 }
 
 // For each step whether an arrival at the goal then counts, on the sheet in the array with the first steps of its free runs: the goal is free

@@ -13,10 +13,9 @@ use arrivals::rows::{clear_from, row_cost};
 use costs::at_most;
 use sheet::{Place, Step};
 
-// A front cost with its arrival step, if one was found.
-#[derive(Drop)]
+// A front cost with its arrival step.
+#[derive(Clone, Copy)]
 pub struct Offered {
-    pub found: bool,
     pub cost: [u32; 3],
     pub step: Step,
 }
@@ -40,6 +39,7 @@ fn climb(table: &[u32], top: u32, size: usize, k: u32) -> Spot
 {
     let g = row_cost(table, k as usize);
     let mut gap = start(top, size);
+    // Stays: the loop goes from row to row as the chain says, and no `for` counts that.
     while 0 < gap.rest {
         let h = row_cost(table, gap.right as usize);
         if at_most(h, g) {
@@ -73,8 +73,7 @@ fn pass_row(table: &mut [u32], v: Place, s: Sweep) -> Sweep
         };
     }
     let g = row_cost(table, k as usize);
-    let gap = c.gap;
-    let low = release(table, v, gap, g[1]);
+    let low = release(table, v, c.gap, g[1]);
     let stair = link_in(table, low, k);
     Sweep {
         at: next,
@@ -92,6 +91,7 @@ fn pass_rows(table: &mut [u32], v: Place, from: Sweep, most: usize) -> Sweep
     ensures { SweptTo v.0 most table.old table.new from result }
 {
     let mut s = from;
+    // Stays: the loop goes from row to row as the chain says, and no `for` counts that.
     while 0 < s.rest {
         if most <= s.count {
             return s;
@@ -141,7 +141,13 @@ pub fn count_front(table: &mut [u32], n: usize, v: Place, counting: &[u8]) -> us
 }
 
 // The front cost with a number, from 0, with its arrival step.
-pub fn nth_front(table: &mut [u32], n: usize, v: Place, counting: &[u8], number: u32) -> Offered
+pub fn nth_front(
+    table: &mut [u32],
+    n: usize,
+    v: Place,
+    counting: &[u8],
+    number: u32,
+) -> Option<Offered>
     requires { n * 5 ≤ length table.old }
     ensures { FrontNumbered v.0 counting.now n table.old table.new number result }
 {
@@ -152,17 +158,12 @@ pub fn nth_front(table: &mut [u32], n: usize, v: Place, counting: &[u8], number:
     let end = pass_rows(table, v, all, number as usize + 1);
     undo(table, v, end);
     if end.count <= number as usize {
-        return Offered {
-            found: false,
-            cost: [0; 3],
-            step: Step(0),
-        };
+        return None;
     }
-    Offered {
-        found: true,
+    Some(Offered {
         cost: row_cost(table, end.row as usize),
         step: Step(table[end.row as usize * 5 + 1]),
-    }
+    })
 }
 
 // Writes row i of the front list: three figures and the arrival step.
@@ -170,9 +171,7 @@ pub fn put_cost(list: &mut [u32], i: usize, cost: [u32; 3], step: Step)
     requires { i * 4 + 4 ≤ length list.old }
     ensures { list.new ≡ sets list.old (i * 4) (cost ++ (step.0 ∷ [])) }
 {
-    for j in 0..3 {
-        list[i * 4 + j] = cost[j];
-    }
+    list[i * 4..i * 4 + 3].copy_from_slice(&cost);
     list[i * 4 + 3] = step.0;
 }
 
@@ -197,6 +196,7 @@ fn list_rows(table: &mut [u32], v: Place, from: Sweep, list: &mut [u32]) -> Swee
     ensures { ListedAll v.0 table.old table.new from result list.old list.new }
 {
     let mut s = from;
+    // Stays: the loop goes from row to row as the chain says, and no `for` counts that.
     while 0 < s.rest {
         s = list_row(table, v, s, list);
     }

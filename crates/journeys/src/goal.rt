@@ -4,7 +4,7 @@
 ghost use Rattle.std.specs.Prelude.{◌≡◌, ◌+◌, ◌*◌, ◌≤◌, ◌<◌, length};
 ghost use Rattle.arrivals.specs.Rows.{row_at};
 ghost use Rattle.journeys.specs.Inner.{is_goal_row};
-ghost use Rattle.journeys.specs.Inner.Chain.{Seekable, SoughtFrom, Sought, Orderable, OrderedIn, NextGoal, OrderedAll};
+ghost use Rattle.journeys.specs.Inner.Chain.{Seekable, SoughtFrom, Sought, Orderable, OrderedIn, OrderedAll};
 
 use crate::chain::{Gap, Spot, link_in, next_gap, start};
 use crate::counting::counts_at;
@@ -17,10 +17,7 @@ pub fn is_goal_row(table: &[u32], k: usize, v: Place, counting: &[u8]) -> bool
     requires { k * 5 + 5 ≤ length table.now }
     ensures { result ≡ is_goal_row v.0 counting.now (row_at table.now k) }
 {
-    if table[k * 5] != v.0 {
-        return false;
-    }
-    counts_at(counting, Step(table[k * 5 + 1]))
+    table[k * 5] == v.0 && counts_at(counting, Step(table[k * 5 + 1]))
 }
 
 // Where to look for the cost g from on: at the gap, or at the chain's start if g comes before the row before the gap.
@@ -44,6 +41,7 @@ fn seek(table: &[u32], from: Gap, g: [u32; 3]) -> Spot
     ensures { Sought table.now from g result }
 {
     let mut gap = seek_from(table, from, g);
+    // Stays: the loop goes from row to row as the chain says, and no `for` counts that.
     while 0 < gap.rest {
         let h = row_cost(table, gap.right as usize);
         if before(g, h) {
@@ -63,24 +61,10 @@ fn order_row(table: &mut [u32], k: usize, gap: Gap) -> Gap
     ensures { OrderedIn k table.old table.new gap result }
 {
     let s = seek(table, gap, row_cost(table, k));
-    let at = s.gap;
     if s.led {
-        return at;
+        return s.gap;
     }
-    link_in(table, at, k as u32)
-}
-
-// The first arrival at place v that counts of the rows from row `from` to row n, or n if there is none.
-fn next_goal(table: &[u32], from: usize, n: usize, v: Place, counting: &[u8]) -> usize
-    requires { n * 5 ≤ length table.now }
-    ensures { NextGoal v.0 counting.now from n table.now result }
-{
-    for k in from..n {
-        if is_goal_row(table, k, v, counting) {
-            return k;
-        }
-    }
-    n
+    link_in(table, s.gap, k as u32)
 }
 
 // Chains the arrivals at place v that count, of the first n rows, but those left out; the chain's first row and its count of rows are handed back.
@@ -89,10 +73,10 @@ pub fn order_rows(table: &mut [u32], n: usize, v: Place, counting: &[u8]) -> Gap
     ensures { OrderedAll v.0 counting.now n table.old table.new result }
 {
     let mut at = start(0, 0);
-    let mut k = next_goal(table, 0, n, v, counting);
-    while k < n {
-        at = order_row(table, k, at);
-        k = next_goal(table, k + 1, n, v, counting);
+    for k in 0..n {
+        if is_goal_row(table, k, v, counting) {
+            at = order_row(table, k, at);
+        }
     }
     at
 }

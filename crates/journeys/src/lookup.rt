@@ -4,10 +4,11 @@ ghost use Rattle.std.specs.Prelude.{◌≡◌, ◌+◌, ◌*◌, ◌≤◌, leng
 ghost use Rattle.sheet.specs.Computed.{lexb};
 ghost use Rattle.sheet.specs.Seek.{Parted};
 ghost use Rattle.arrivals.specs.Arrivals.{key_of};
-ghost use Rattle.journeys.specs.Inner.Lookup.{standing, stand_at, Sorted, RowIs};
+ghost use Rattle.journeys.specs.Inner.Lookup.{standing, stand_at, Sorted, RowIs, RowOr};
 
 use arrivals::rows::row_cost;
 use costs::before;
+use sheet::seek::partition_point;
 use sheet::{Place, Step};
 
 // Where a cart stands: a place, a step and the cost so far. A row of the table tells one.
@@ -34,15 +35,14 @@ pub fn row_at(table: &[u32], k: usize) -> Stand
 fn comes_before(a: Stand, b: Stand) -> bool
     ensures { result ≡ lexb (key_of (standing a)) (key_of (standing b)) }
 {
-    if a.step.0 != b.step.0 {
-        return a.step.0 < b.step.0;
+    // Stays: the order of tuples would have both costs copied out first, so that it is no shorter.
+    if a.step != b.step {
+        return a.step < b.step;
     }
-    if a.place.0 != b.place.0 {
-        return a.place.0 < b.place.0;
+    if a.place != b.place {
+        return a.place < b.place;
     }
-    let g = a.cost;
-    let h = b.cost;
-    before(g, h)
+    before(a.cost, b.cost)
 }
 
 // How many of the first n rows come before a.
@@ -50,30 +50,20 @@ fn rows_before(table: &[u32], n: usize, a: Stand) -> usize
     requires { Sorted n table.now }
     ensures { Parted n (λ k. key_of (stand_at table.now k)) (key_of (standing a)) result result }
 {
-    let mut low = 0;
-    let mut high = n;
-    while low < high {
-        let k = low + (high - low) / 2;
-        if comes_before(row_at(table, k), a) {
-            low = k + 1;
-        } else {
-            high = k;
-        }
-    }
-    low
+    partition_point(n, |k| comes_before(row_at(table, k), a))
 }
 
-// The number of the row that is a, of the first n; n where none is. The time grows with the logarithm of n.
-pub fn row_of(table: &[u32], n: usize, a: Stand) -> usize
+// The number of the row that is a, of the first n. The time grows with the logarithm of n.
+pub fn row_of(table: &[u32], n: usize, a: Stand) -> Option<usize>
     requires { Sorted n table.now }
-    ensures { RowIs n table.now (standing a) result }
+    ensures { RowOr n (RowIs n table.now (standing a)) result }
 {
     let k = rows_before(table, n, a);
-    if k < n {
-        if comes_before(a, row_at(table, k)) {
-            return n;
-        }
-        return k;
+    if n <= k {
+        return None;
     }
-    n
+    if comes_before(a, row_at(table, k)) {
+        return None;
+    }
+    Some(k)
 }

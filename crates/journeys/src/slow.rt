@@ -27,6 +27,7 @@ fn is_front_row(table: &[u32], n: usize, v: Place, counting: &[u8], k: usize) ->
     requires { (k < n) × (n * 5 ≤ length table.now) }
     ensures { result ≡ is_front_row v.0 counting.now n table.now k }
 {
+    // Stays: tried as `any`, of which the library says the run of a range's steps alone: `is_front_row` was no short proof from that.
     for j in 0..n {
         if is_kept_off(table, v, counting, k, j) {
             return false;
@@ -57,7 +58,13 @@ pub fn count_rows(
 }
 
 // The front cost with a number, from 0, with its arrival step: that of the row with so many of the front's rows before it.
-pub fn nth_slow(table: &[u32], n: usize, v: Place, counting: &[u8], number: usize) -> Offered
+pub fn nth_slow(
+    table: &[u32],
+    n: usize,
+    v: Place,
+    counting: &[u8],
+    number: usize,
+) -> Option<Offered>
     requires { n * 5 ≤ length table.now }
     ensures { NumberIs (goal_rows v.0 counting.now n table.now) number result }
 {
@@ -65,18 +72,13 @@ pub fn nth_slow(table: &[u32], n: usize, v: Place, counting: &[u8], number: usiz
         let cost = row_cost(table, k);
         let place = count_rows(table, n, v, counting, false, cost);
         if is_front_row(table, n, v, counting, k) & (place == number) {
-            return Offered {
-                found: true,
+            return Some(Offered {
                 cost,
                 step: Step(table[k * 5 + 1]),
-            };
+            });
         }
     }
-    Offered {
-        found: false,
-        cost: [0; 3],
-        step: Step(0),
-    }
+    None
 }
 
 // Writes the front list.
@@ -86,9 +88,10 @@ pub fn list_slow(table: &[u32], n: usize, v: Place, counting: &[u8], list: &mut 
 {
     let count = count_rows(table, n, v, counting, true, [0; 3]);
     for i in 0..count {
-        let o = nth_slow(table, n, v, counting, i);
-        let cost = o.cost;
-        put_cost(list, i, cost, o.step);
+        let Some(o) = nth_slow(table, n, v, counting, i) else {
+            unreachable!()
+        };
+        put_cost(list, i, o.cost, o.step);
     }
     clear_from(list, count * 4);
 }

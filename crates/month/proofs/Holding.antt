@@ -1,39 +1,22 @@
 -- The sums of a month, kept line by line: of no costs, and of one cost more.
 -- Assumes nothing.
-use mathlib.Core.Path.{◌≡◌, refl, sym, ◌∙◌, ap}
+use mathlib.Core.Path.{◌≡◌, sym, ◌∙◌, ap}
 use mathlib.Core.Logic.{⊎_elim}
 use mathlib.Core.List.{List, [], ◌∷◌, ◌++◌}
-use Prim.Native.Nat.{ℕ, zero, suc, ◌+◌, ◌≤◌, ◌<◌}
+use Prim.Native.Nat.{ℕ, ◌+◌, ◌≤◌, ◌<◌}
 use native.Mathlib.Omega.{arith}
 use lib.Dec.{leb}
-use lib.ListN.{length, set, replicate, length-append}
+use lib.ListN.{length, set, length-append}
 use lib.Seq.{get_or-set_other}
 use Rattle.sheet.specs.Laws.Members.{mem-append}
 use Rattle.costs.specs.Costs.{Cost, figures, fig}
 use Rattle.costs.specs.Priced.{Within}
 use Rattle.costs.specs.Laws.Figures.{Stored, stored_more}
 use Rattle.month.specs.Month.{Month, figures_at, total}
-use Rattle.month.specs.Inner.{most_figure, most_lines, most_total, better, best_from, above, Sums, sums, Holds, Summed, Gathered, WithCost}
+use Rattle.month.specs.declared.sums.Sums.{Sums}
+use Rattle.month.specs.Inner.{most_figure, most_lines, most_total, better, best_from, above, Holds, Summed, WithCost}
 use Rattle.month.specs.Laws.Page.{total-small}
 use Rattle.month.specs.Laws.Figures.{by-least, by-greatest, best-more, total-more, figures-more}
-
--- three equal numbers
-three : (k : ℕ) → Stored figures (λ i. k) figures (replicate 3 k)
-three k = record { sized = refl; so_far = each }
-  where
-    each : (i : ℕ) → i < 3 → fig (replicate 3 k) i ≡ k
-    each zero h = refl
-    each (suc zero) h = refl
-    each (suc (suc zero)) h = refl
-    each (suc (suc (suc i))) h = absurd (omega arith)
-
-pub none-gathered : Gathered 0 (sums (replicate 3 0) (replicate 3 most_figure) (replicate 3 0))
-none-gathered =
-    record {
-      month = [];
-      holds = record { few = omega arith; inside = λ c m. absurd m; totals-are = three 0; leasts-are = three most_figure; greatests-are = three 0 };
-      count = refl;
-    }
 
 -- what is stored by one rule is stored by another that says the same
 stored-as : {f g : ℕ → ℕ} {r : List ℕ} → ((i : ℕ) → i < figures → f i ≡ g i) → Stored figures f figures r → Stored figures g figures r

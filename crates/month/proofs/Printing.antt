@@ -1,17 +1,17 @@
 -- The page of a month from its sums: each line has the figures that the sums hold, since the least may begin with the most of a figure and the greatest with 0.
 -- Assumes nothing.
 use mathlib.Core.Path.{◌≡◌, refl, sym, ◌∙◌, ap, ap₂}
-use mathlib.Core.Logic.{◌≢◌}
 use mathlib.Core.List.{List, [], ◌∷◌}
 use Prim.Native.Nat.{ℕ, zero, suc, ◌+◌, ◌*◌, ◌≤◌, ◌<◌}
 use native.Mathlib.Omega.{arith}
 use lib.ListN.{length, take, get_or, replicate}
 use Rattle.sheet.specs.Lists.{bind}
 use Rattle.sheet.specs.Text.{printed, refusal_line}
-use Rattle.sheet.specs.Laws.Puts.{Puts, puts-as, puts_none, puts-more, puts-all, puts-filled}
+use Rattle.sheet.specs.Laws.Puts.{Puts, puts-as, puts-more, puts-all, puts-filled}
 use Rattle.costs.specs.Costs.{figures, fig}
 use Rattle.month.specs.Month.{Month, refused, collected, told, whole, judge, month_of, figures_at, total, least, greatest, mean, total_digits, figure_line, figure_lines, page, page_room, held}
-use Rattle.month.specs.Inner.{most_figure, most_lines, most_total, Sums, Holds, Gathered, ReadIs, PutsFigure, PutsFigures}
+use Rattle.month.specs.declared.sums.Sums.{Sums}
+use Rattle.month.specs.Inner.{most_figure, most_lines, most_total, Holds, Gathered, Reached, PutsFigure, PutsFigures}
 use Rattle.month.specs.Laws.Figures.{least-from, greatest-from, figures-count, figures-within}
 use Rattle.month.specs.Laws.Page.{figure-long, page-fits, total-small}
 
@@ -62,9 +62,6 @@ pub record PutsUpTo (n : ℕ) (s : Sums) (i : ℕ) (out out' : List ℕ) (r : �
   pub of : (m : Month) → Holds m s → n ≡ length m → Puts (bind (take i positions) (figure_line m)) out 0 out' r
   pub room : r ≤ i * 62
 
-pub none-put : (n : ℕ) (s : Sums) (out : List ℕ) → PutsUpTo n s 0 out out 0
-none-put n s out = record { of = λ m h e. puts_none out 0; room = omega arith }
-
 position-is : (i : ℕ) → i < 3 → get_or positions i 0 ≡ i
 position-is zero h = refl
 position-is (suc zero) h = refl
@@ -85,25 +82,25 @@ all-put {n} {s} {i} l p = record { of = λ m h e. puts-all (figure_line m) 0 pos
 
 -- the page, by what the month was read as
 module _ (src : List ℕ) where
-  pub page-refused : {s : Sums} {k n : ℕ} → ReadIs src s (record { refusal = k; line = n }) → k ≢ 0 → page src ≡ refusal_line k n
+  pub page-refused : {k n : ℕ} → month_of src ≡ refused k n → page src ≡ refusal_line k n
   unfolding page
-  page-refused R z = ap (told refusal_line figure_lines) (R.refuses z)
+  page-refused e = ap (told refusal_line figure_lines) e
 
-  read-month : {s : Sums} {k n : ℕ} (R : ReadIs src s (record { refusal = k; line = n })) (z : k ≡ 0) → month_of src ≡ whole (R.reaches z).month
+  read-month : {s : Sums} {n : ℕ} (R : Reached (month_of src) [] n s) → month_of src ≡ whole R.month
   unfolding judge
-  read-month R z = sym (R.reaches z).same
+  read-month R = sym R.same
 
-  pub page-none : {s : Sums} {k n : ℕ} → ReadIs src s (record { refusal = k; line = n }) → k ≡ 0 → n ≡ 0 → page src ≡ refusal_line 14 0
+  pub page-none : {s : Sums} {n : ℕ} → Reached (month_of src) [] n s → n ≡ 0 → page src ≡ refusal_line 14 0
   unfolding page
-  page-none R z y = ap (told refusal_line figure_lines) (read-month R z ∙ none-whole (R.reaches z).month (sym y ∙ (R.reaches z).count))
+  page-none R z = ap (told refusal_line figure_lines) (read-month R ∙ none-whole R.month (sym z ∙ R.count))
     where
       none-whole : (m : Month) → 0 ≡ length m → whole m ≡ refused 14 0
       none-whole [] e = refl
       none-whole (c ∷ m) e = absurd (omega arith)
 
-  pub page-served : {s : Sums} {k n : ℕ} (R : ReadIs src s (record { refusal = k; line = n })) (z : k ≡ 0) → (n ≡ 0 → ⊥) → figure_lines (R.reaches z).month ≡ page src
+  pub page-served : {s : Sums} {n : ℕ} (R : Reached (month_of src) [] n s) → (n ≡ 0 → ⊥) → figure_lines R.month ≡ page src
   unfolding page
-  page-served R z y = sym (ap (told refusal_line figure_lines) (read-month R z ∙ some-whole (R.reaches z).month (λ e. y ((R.reaches z).count ∙ sym e))))
+  page-served R y = sym (ap (told refusal_line figure_lines) (read-month R ∙ some-whole R.month (λ e. y (R.count ∙ sym e))))
     where
       some-whole : (m : Month) → (0 ≡ length m → ⊥) → whole m ≡ collected m
       some-whole [] f = absurd (f refl)

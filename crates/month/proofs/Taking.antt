@@ -14,12 +14,17 @@ use Rattle.sheet.specs.Lines.{Line, line, line_of}
 use Rattle.sheet.specs.Sheet.{outside}
 use Rattle.sheet.specs.Forms.{Forms, LineIs}
 use Rattle.sheet.specs.declared.lines.Parsed.{Parsed}
+use Rattle.std.specs.Prelude.{Some, None, Ok, Err}
+use Rattle.sheet.specs.Refusals.{number_of}
+use Rattle.sheet.specs.declared.refusal.Refusal.{Refusal}
+use Rattle.sheet.specs.declared.refusal.Refusal.TheVariants.{Malformed}
 use Rattle.costs.specs.Costs.{Cost}
 use Rattle.costs.specs.Priced.{Within}
 use Rattle.costs.specs.Computed.{at_most_b}
 use Rattle.costs.specs.Laws.Figures.{at_most_b-true}
 use Rattle.month.specs.Month.{kind_m, figure_digits, Month, refused, tests, fault, judge}
-use Rattle.month.specs.Inner.{most_figure, most_lines, kinds_of_month, Sums, WithCost, TakenIs}
+use Rattle.month.specs.declared.sums.Sums.{Sums}
+use Rattle.month.specs.Inner.{most_figure, most_lines, kinds_of_month, WithCost, TakenIs}
 use Rattle.month.proofs.Holding.{held_more}
 
 -- the letter and the count of numbers of the one kind
@@ -31,20 +36,21 @@ month-forms = record { letters-are = refl; widths-are = refl; narrow = narrow }
     narrow (suc i) = omega arith
 
 -- what was parsed
-pub take-three : (v : List ℕ) → 3 ≤ length v → take 3 v ≡ numbers_from 3 0 v
+take-three : (v : List ℕ) → 3 ≤ length v → take 3 v ≡ numbers_from 3 0 v
 take-three [] h = absurd (omega arith)
 take-three (x ∷ []) h = absurd (omega arith)
 take-three (x ∷ y ∷ []) h = absurd (omega arith)
 take-three (x ∷ y ∷ z ∷ v) h = refl
 
-module _ {p : List ℕ} {q : Parsed} (L : LineIs figure_digits (77 ∷ []) (3 ∷ []) p q) where
-  pub parsed-none : q.ok ≡ false → line_of figure_digits kinds_of_month p ≡ none
-  parsed-none b = sym (L.of kinds_of_month month-forms) ∙ rw b
+module _ {p : List ℕ} where
+  pub parsed-none : LineIs figure_digits (77 ∷ []) (3 ∷ []) p None → line_of figure_digits kinds_of_month p ≡ none
+  parsed-none L = sym (L.of kinds_of_month month-forms)
 
-  pub parsed-some : q.ok ≡ true → line_of figure_digits kinds_of_month p ≡ some (line kind_m (take 3 q.values))
-  parsed-some b =
-      let z : q.kind ≡ 0 = omega (arith, L.known b) in
-      sym (L.of kinds_of_month month-forms) ∙ rw (b, z)
+  pub parsed-some : {q : Parsed} → LineIs figure_digits (77 ∷ []) (3 ∷ []) p (Some q) → 3 ≤ length q.values
+      → line_of figure_digits kinds_of_month p ≡ some (line kind_m (numbers_from 3 0 q.values))
+  parsed-some {q} L h =
+      let z : q.kind ≡ 0 = omega (arith, L.known q refl) in
+      sym (L.of kinds_of_month month-forms) ∙ rw z (ap (λ (c : Cost). some (line kind_m c)) (take-three q.values h))
 
 -- test 4 is that a figure is above the most
 beyond-or : (x : ℕ) (u v : Bool) → u ≡ not v → (ltb x 0 || ltb most_figure x) || u ≡ not (leb x most_figure && v)
@@ -100,39 +106,28 @@ judge-bad m rest = refl
 
 -- the line refused, or taken
 module _ {p : List ℕ} {n : ℕ} {s : Sums} where
-  pub taken-bad : line_of figure_digits kinds_of_month p ≡ none → TakenIs p n s s 2
+  pub taken-bad : line_of figure_digits kinds_of_month p ≡ none → TakenIs p n s s (Err Malformed)
   taken-bad e =
-      record {
-        of = λ end rest R. record {
-          refuses = λ z. sym R.same ∙ ap (λ (o : Option Line). judge R.month (o ∷ rest)) e ∙ judge-bad R.month rest ∙ ap (λ (k : ℕ). refused 2 (suc k)) (sym R.count);
-          reaches = λ z. absurd (omega (arith, z));
-        };
-      }
+      record { of = λ end rest R. sym R.same ∙ ap (λ (o : Option Line). judge R.month (o ∷ rest)) e ∙ judge-bad R.month rest ∙ ap (λ (k : ℕ). refused 2 (suc k)) (sym R.count) }
 
   module _ (c : Cost) (e : line_of figure_digits kinds_of_month p ≡ some (line kind_m c)) where
-    pub taken-fault : (f : ℕ) → (f ≡ 0 → ⊥) → ((m : Month) → n ≡ length m → fault m c ≡ f) → TakenIs p n s s f
+    pub taken-fault : (f : Refusal) → (number_of f ≡ 0 → ⊥) → ((m : Month) → n ≡ length m → fault m c ≡ number_of f) → TakenIs p n s s (Err f)
     taken-fault f z h =
         record {
-          of = λ end rest R. record {
-            refuses = λ y.
-                sym R.same
-                ∙ ap (λ (o : Option Line). judge R.month (o ∷ rest)) e
-                ∙ judge-fault R.month (line kind_m c) rest f (h R.month R.count) z
-                ∙ ap (λ (k : ℕ). refused f (suc k)) (sym R.count);
-            reaches = λ y. absurd (z y);
-          };
+          of = λ end rest R.
+              sym R.same
+              ∙ ap (λ (o : Option Line). judge R.month (o ∷ rest)) e
+              ∙ judge-fault R.month (line kind_m c) rest (number_of f) (h R.month R.count) z
+              ∙ ap (λ (k : ℕ). refused (number_of f) (suc k)) (sym R.count);
         }
 
-    pub taken-added : {r : Sums} → n < most_lines → Within most_figure c → ((m : Month) → n ≡ length m → fault m c ≡ 0) → WithCost s c r → TakenIs p n s r 0
+    pub taken-added : {r : Sums} → n < most_lines → Within most_figure c → ((m : Month) → n ≡ length m → fault m c ≡ 0) → WithCost s c r → TakenIs p n s r (Ok tt)
     taken-added {r} l w h g =
         record {
           of = λ end rest R. record {
-            refuses = λ y. absurd (y refl);
-            reaches = λ y. record {
-              month = R.month ++ (c ∷ []);
-              holds = held_more R.month s r c (omega (arith, R.count)) w R.holds g;
-              count = omega (arith, R.count, length-append R.month (c ∷ []));
-              same = sym (judge-next R.month (line kind_m c) rest (h R.month R.count)) ∙ ap (λ (o : Option Line). judge R.month (o ∷ rest)) (sym e) ∙ R.same;
-            };
+            month = R.month ++ (c ∷ []);
+            holds = held_more R.month s r c (omega (arith, R.count)) w R.holds g;
+            count = omega (arith, R.count, length-append R.month (c ∷ []));
+            same = sym (judge-next R.month (line kind_m c) rest (h R.month R.count)) ∙ ap (λ (o : Option Line). judge R.month (o ∷ rest)) (sym e) ∙ R.same;
           };
         }

@@ -8,7 +8,7 @@ use Rattle.sheet.specs.Lines.{Line, text_lines}
 use Rattle.sheet.specs.Sheet.{outside, first_failed}
 use Rattle.sheet.specs.Text.{printed, refusal_line}
 use Rattle.costs.specs.Costs.{Cost, fig}
-use Rattle.month.specs.declared.MonthPage.{MonthPage}
+use Rattle.sheet.specs.declared.printed.Printed.{Printed}
 
 -- a figure on a line, and its most digits
 abbrev pub figure : Limit
@@ -112,6 +112,6 @@ abbrev pub page_room : ℕ
 page_room = 192
 
 -- the page as the program holds it: its bytes, then zeros, and the count of its bytes
-unfoldable pub held : List ℕ → MonthPage
+unfoldable pub held : List ℕ → Printed page_room
 unfolding page
 held b = record { bytes = filled page_room (page b); count = length (page b) }

@@ -1,39 +1,44 @@
 // The figures of the costs so far: total, least and greatest of each (document 02, E3), and the mean (E7).
-ghost use Rattle.std.specs.Prelude.{◌≡◌, ◌≤◌, leb};
+ghost use Rattle.std.specs.Prelude.{◌≡◌, ◌≤◌};
 ghost use Rattle.costs.specs.Priced.{Within};
 ghost use Rattle.month.specs.Month.{mean};
-ghost use Rattle.month.specs.Inner.{most_figure, most_lines, most_total, better, above, sums, Summed, WithCost};
+ghost use Rattle.month.specs.Inner.{most_figure, most_lines, most_total, Gathered, Summed, WithCost};
 
-// The lesser of two numbers.
-fn lesser_of(a: u32, b: u32) -> u32
-    ensures { result ≡ better leb a b }
-{
-    if a <= b {
-        return a;
-    }
-    b
+use costs::Cost;
+
+// The most of a figure.
+pub const MOST_FIGURE: u32 = 15300000;
+
+// Of each figure of costs the total, the least and the greatest.
+#[derive(Drop)]
+pub struct Sums {
+    pub totals: [u64; 3],
+    pub leasts: [u32; 3],
+    pub greatests: [u32; 3],
 }
 
-// The greater of two numbers.
-fn greater_of(a: u32, b: u32) -> u32
-    ensures { result ≡ better above a b }
-{
-    if b <= a {
-        return a;
+impl Sums {
+    // The sums of no costs: no figure is above the most, with which the least begins.
+    pub fn new() -> Sums
+        ensures { Gathered 0 result }
+    {
+        Sums {
+            totals: [0; 3],
+            leasts: [MOST_FIGURE; 3],
+            greatests: [0; 3],
+        }
     }
-    b
-}
 
-// Adds a cost to the sums: of each figure the total, the least and the greatest.
-pub fn add_cost(totals: &mut [u64], leasts: &mut [u32], greatests: &mut [u32], c: [u32; 3])
-    requires { Summed (sums totals.old leasts.old greatests.old) × Within most_figure c }
-    ensures { WithCost (sums totals.old leasts.old greatests.old) c
-        (sums totals.new leasts.new greatests.new) }
-{
-    for i in 0..3 {
-        totals[i] = totals[i] + c[i] as u64;
-        leasts[i] = lesser_of(leasts[i], c[i]);
-        greatests[i] = greater_of(greatests[i], c[i]);
+    // Adds a cost.
+    pub fn add(&mut self, c: Cost)
+        requires { Summed self.old × Within most_figure c }
+        ensures { WithCost self.old c self.new }
+    {
+        for i in 0..3 {
+            self.totals[i] += c[i] as u64;
+            self.leasts[i] = self.leasts[i].min(c[i]);
+            self.greatests[i] = self.greatests[i].max(c[i]);
+        }
     }
 }
 

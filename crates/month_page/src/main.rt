@@ -6,7 +6,7 @@
 
 ghost use Rattle.month_page.specs.Inner.{Enough, WholePage};
 
-use input::{Input, read_input};
+use input::read_input;
 use month::lines::DECIDING;
 use month::{MonthPage, page_of};
 use std::io::Write;
@@ -19,18 +19,15 @@ fn page_from(buffer: &[u8], n: usize) -> MonthPage
     page_of(&buffer[..n])
 }
 
+// Stays: beside the `main` of plan, since a common function would take the buffer, the page and both messages, all that these lines name.
 fn main(rt: HostRuntime) {
     let mut month = [0u8; DECIDING + 1];
-    let input = read_input(&mut rt.stdin(), &mut month);
-    let Input::Bytes(n) = input else {
+    let Ok(n) = read_input(&mut rt.stdin(), &mut month) else {
         let _ = rt.stderr().write_all(b"month: the month cannot be read\n");
         return;
     };
     let page = page_from(&month, n);
-    let count = page.count;
-    let bytes = page.bytes;
-    let written = rt.stdout().write_all(&bytes[..count]);
-    if written.is_err() {
+    if rt.stdout().write_all(page.text()).is_err() {
         let _ = rt
             .stderr()
             .write_all(b"month: the page cannot be written\n");

@@ -4,7 +4,6 @@ use Rattle.std.specs.Prelude.{◌≡◌, List, ℕ, ◌+◌, ◌≤◌, length, 
 use Rattle.std.proofs.Common.{sym, ◌∙◌, ap, arith, length-append, length-take-le}
 use Rattle.sheet.specs.Lists.{number, filled}
 use Rattle.sheet.specs.Sheet.{Sheet}
-use Rattle.sheet.specs.Store.{sheet_in}
 use Rattle.sheet.specs.Text.{printed, most_printed}
 use Rattle.sheet.specs.Laws.Puts.{Puts, puts-as, puts-append, puts-length}
 use Rattle.costs.specs.Costs.{Cost}
@@ -15,10 +14,7 @@ use Rattle.page.specs.Inner.{cost_in, Printable}
 use Rattle.page.specs.Laws.Offers.{printable-row, printable-short, printable-path, path-is}
 
 -- the two lines of a row
-module _ {lines all since table : List ℕ} {n : ℕ} {row out : List ℕ} {at : ℕ} (p : Printable lines all since table n row out at) where
-  abbrev sheet : Sheet
-  sheet = sheet_in lines all
-
+module _ {sheet : Sheet} {since table : List ℕ} {n : ℕ} {row out : List ℕ} {at : ℕ} (p : Printable sheet since table n row out at) where
   abbrev path-of : List ℕ
   path-of = journey_of sheet (cost_in row)
 

@@ -1,7 +1,7 @@
 -- What the functions that print the page promise each other. The contract of `page_of` cites nothing of this file.
 use Rattle.std.specs.Prelude.{◌≡◌, List, ℕ, ◌+◌, ◌≤◌, length}
 use Rattle.sheet.specs.Lists.{numbers_from, bind}
-use Rattle.sheet.specs.Store.{sheet_in}
+use Rattle.sheet.specs.Sheet.{Sheet}
 use Rattle.costs.specs.Costs.{Cost, figures}
 use Rattle.intervals.specs.FirstSteps.{Derived}
 use Rattle.journeys.specs.Front.{OnFront}
@@ -16,8 +16,8 @@ pub record Lent (table list out : List ℕ) : Type 0 where
   pub list-room : length list ≡ list_numbers
   pub out-room : length out ≡ page_room
 
-pub record Servable (lines all since table list out : List ℕ) : Type 0 where
-  pub derived : Derived lines all since
+pub record Servable (s : Sheet) (since table list out : List ℕ) : Type 0 where
+  pub derived : Derived s since
   pub lent : Lent table list out
 
 -- the cost of a row of the front list
@@ -25,16 +25,16 @@ abbrev pub cost_in : List ℕ → Cost
 cost_in row = numbers_from figures 0 row
 
 -- the table holds the leading arrivals of the sheet in the array, the row is that of one of its front costs, and the buffer has room for its two lines
-pub record Printable (lines all since table : List ℕ) (n : ℕ) (row out : List ℕ) (at : ℕ) : Type 0 where
-  pub derived : Derived lines all since
-  pub holds : Holds (sheet_in lines all) n table
-  pub on-front : OnFront (sheet_in lines all) (cost_in row)
-  pub row_is : row ≡ front_row (sheet_in lines all) (cost_in row)
-  pub room : at + length (journey_lines (sheet_in lines all) (cost_in row)) ≤ length out
+pub record Printable (s : Sheet) (since table : List ℕ) (n : ℕ) (row out : List ℕ) (at : ℕ) : Type 0 where
+  pub derived : Derived s since
+  pub holds : Holds s n table
+  pub on-front : OnFront s (cost_in row)
+  pub row_is : row ≡ front_row s (cost_in row)
+  pub room : at + length (journey_lines s (cost_in row)) ≤ length out
 
 -- the same of the rows of all its front costs
-pub record Offered (lines all since table : List ℕ) (n : ℕ) (list out : List ℕ) (at : ℕ) : Type 0 where
-  pub derived : Derived lines all since
-  pub holds : Holds (sheet_in lines all) n table
-  pub listed : list ≡ bind (front (sheet_in lines all)) (front_row (sheet_in lines all))
-  pub room : at + length (offer_lines (sheet_in lines all)) ≤ length out
+pub record Offered (s : Sheet) (since table : List ℕ) (n : ℕ) (list out : List ℕ) (at : ℕ) : Type 0 where
+  pub derived : Derived s since
+  pub holds : Holds s n table
+  pub listed : list ≡ bind (front s) (front_row s)
+  pub room : at + length (offer_lines s) ≤ length out

@@ -9,7 +9,7 @@ use Rattle.arrivals.specs.Computed.{leading}
 use Rattle.arrivals.specs.Table.{crowded}
 use Rattle.journeys.specs.Computed.{journey_of, arrival_of, front}
 use Rattle.journeys.specs.Calls.{front_row, overfull}
-use Rattle.page.specs.declared.PageText.{PageText}
+use Rattle.sheet.specs.declared.printed.Printed.{Printed}
 
 -- `F,costs,arrivals`
 unfoldable pub front_line : Sheet → List ℕ
@@ -50,6 +50,6 @@ abbrev pub page_room : ℕ
 page_room = 163840
 
 -- the page as the program holds it: its bytes, then zeros, and the count of its bytes
-unfoldable pub held : List ℕ → PageText
+unfoldable pub held : List ℕ → Printed page_room
 unfolding page
 held b = record { bytes = filled page_room (page b); count = length (page b) }

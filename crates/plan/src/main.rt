@@ -4,23 +4,20 @@
 
 #![tactic(auto)]
 
-use input::{Input, read_input};
+use input::read_input;
 use page::page_of;
 use sheet::kinds::MOST_BYTES;
 use std::io::Write;
 
+// Stays: beside the `main` of month_page, since a common function would take the buffer, the page and both messages, all that these lines name.
 fn main(rt: HostRuntime) {
     let mut sheet = [0u8; MOST_BYTES + 1];
-    let input = read_input(&mut rt.stdin(), &mut sheet);
-    let Input::Bytes(n) = input else {
+    let Ok(n) = read_input(&mut rt.stdin(), &mut sheet) else {
         let _ = rt.stderr().write_all(b"plan: the sheet cannot be read\n");
         return;
     };
     let page = page_of(&sheet[..n]);
-    let count = page.count;
-    let bytes = page.bytes;
-    let written = rt.stdout().write_all(&bytes[..count]);
-    if written.is_err() {
+    if rt.stdout().write_all(page.text()).is_err() {
         let _ = rt.stderr().write_all(b"plan: the page cannot be written\n");
     }
 }

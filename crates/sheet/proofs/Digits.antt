@@ -1,10 +1,11 @@
 -- Laws of reading the digits of a field: one digit more, a byte that is none, the end, and what is no number.
 -- Assumes nothing.
-use mathlib.Core.Bool.{Bool, true, false, ◌&&◌, ◌||◌, true≢false}
+use mathlib.Core.Bool.{Bool, true, false, ◌&&◌, ◌||◌}
 use mathlib.Core.Path.{◌≡◌, refl, sym, ◌∙◌, ap}
 use mathlib.Core.Logic.{◌⊎◌, inl, inr}
 use mathlib.Core.List.{List, ◌∷◌}
 use mathlib.Core.Option.{Option, some, none}
+use Rattle.std.specs.Prelude.{Some, None}
 use Prim.Native.Nat.{ℕ, ◌+◌, ◌*◌, ◌-◌, ◌≤◌, ◌<◌}
 use native.Mathlib.Omega.{arith}
 use native.Mathlib.Nat.{add-zero}
@@ -12,7 +13,7 @@ use native.Mathlib.Numerals.{add-one}
 use lib.Dec.{ltb, eqb}
 use lib.ListN.{length, get_or, drop, length-drop}
 use lib.Seq.{drop-cons, length-take-le, get_or-take, get_or-drop}
-use borrow.Author.Tests.{le-ltb, eq-eqb, ne_eqb, eqb-true, eqb-false}
+use borrow.Author.Tests.{le-ltb, eq-eqb, ne_eqb, eqb-false}
 use Rattle.sheet.specs.Lists.{pick, number}
 use Rattle.sheet.specs.Bytes.{kind_of, digit, comma}
 use Rattle.sheet.specs.Decimal.{digits_from, number_of}
@@ -60,48 +61,45 @@ module _ (most : ℕ) where
   module _ (l : List ℕ) (at i v : ℕ)
       (s : i + span_of comma (drop i l) ≡ at + span_of comma (drop at l))
       (e : digits_from v (field_from l i) ≡ digits_from 0 (field_from l at)) where
-    pub digits-stop : (k : ℕ) → i < length l → k ≡ kind_of (get_or l i 0) → (k ≡ digit → ⊥) → DigitsAre most l at (record { ok = eqb k comma; end = i; value = v })
-    digits-stop k h q d =
-        let z : eqb k comma ≡ true → span_of comma (drop i l) ≡ 0 = λ t. span-stop l i comma h (sym q ∙ eqb-true k comma t) in
+    -- the field ends at i
+    digits-here : span_of comma (drop i l) ≡ 0 → (j : ℕ) → j ≡ i → DigitsAre most l at (Some (record { end = j; value = v }))
+    digits-here z j d =
         record {
-          ends = λ t. omega (arith, s, z t);
-          reads = λ t. sym e ∙ reads_end l i v (z t);
-          fails = λ t. no_number _ (λ n r.
-              let x = sym e ∙ reads-stop l i h v (λ x. d (q ∙ x)) (λ x. eqb-false k comma t (q ∙ x)) in
-              let y = r.value in
-              let z : ◌≡◌ {A = ℕ} 0 1 = cc in omega arith);
+          ends = λ f t. let q : j ≡ f.end = cc in omega (arith, s, z, d);
+          reads = λ f t. let q : v ≡ f.value = cc in sym e ∙ reads_end l i v z ∙ ap some q;
+          fails = λ t. cc;
         }
 
-    pub digits-over : length l ≤ i → DigitsAre most l at (record { ok = true; end = i; value = v })
-    digits-over h =
-        let z = span-end l i comma h in
-        record {
-          ends = λ t. omega (arith, s, z);
-          reads = λ t. sym e ∙ reads_end l i v z;
-          fails = λ t. absurd (true≢false t);
-        }
+    pub digits-comma : i < length l → kind_of (get_or l i 0) ≡ comma → DigitsAre most l at (Some (record { end = i; value = v }))
+    digits-comma h q = digits-here (span-stop l i comma h q) i refl
 
-    pub digits-many : (r : Field) → r.ok ≡ false → at + most < i → DigitsAre most l at r
-    digits-many r b h =
-        record {
-          ends = λ t. absurd (true≢false (sym t ∙ b));
-          reads = λ t. absurd (true≢false (sym t ∙ b));
-          fails = λ t. no_number _ (λ n q. omega (arith, field-length l at, s, q.few));
-        }
+    pub digits-over : length l ≤ i → i ≤ length l → DigitsAre most l at (Some (record { end = length l; value = v }))
+    digits-over h g = digits-here (span-end l i comma h) (length l) (omega arith)
 
-  pub field-none : (l : List ℕ) (at : ℕ) (r : Field) → r.ok ≡ false → number_of most (field_from l at) ≡ none → FieldIs most l at r
-  field-none l at r b n = record { ends = λ t. absurd (true≢false (sym t ∙ b)); number = rw (b, n) }
+    -- it is no number
+    digits-none : ((n : ℕ) → NumberIs most n (field_from l at) → ⊥) → DigitsAre most l at None
+    digits-none h = record { ends = λ f t. cc; reads = λ f t. cc; fails = λ t. no_number _ h }
+
+    pub digits-stop : i < length l → (kind_of (get_or l i 0) ≡ digit → ⊥) → (kind_of (get_or l i 0) ≡ comma → ⊥) → DigitsAre most l at None
+    digits-stop h d n =
+        digits-none (λ m r.
+        let x = sym e ∙ reads-stop l i h v d n in
+        let y = r.value in
+        let z : ◌≡◌ {A = ℕ} 0 1 = cc in omega arith)
+
+    pub digits-many : at + most < i → DigitsAre most l at None
+    digits-many h = digits-none (λ n q. omega (arith, field-length l at, s, q.few))
+
+  pub field-none : (l : List ℕ) (at : ℕ) → number_of most (field_from l at) ≡ none → FieldIs most l at None
+  field-none l at n = record { ends = λ f t. cc; number = sym n }
 
   -- where the field is digits
-  module _ (l : List ℕ) (at : ℕ) (r : Field) (is : DigitsAre most l at r) (t : r.ok ≡ true) where
-    pub field-ahead : at ≤ r.end
-    field-ahead = omega (arith, is.ends t)
-
+  module _ (l : List ℕ) (at : ℕ) (r : Field) (is : DigitsAre most l at (Some r)) where
     size : length (field_from l at) ≡ r.end - at
-    size = omega (arith, field-length l at, is.ends t)
+    size = omega (arith, field-length l at, is.ends r refl)
 
     first : 0 < r.end - at → number (field_from l at) 0 ≡ get_or l at 0
-    first h = get_or-take (span_of comma (drop at l)) (drop at l) 0 0 (omega (arith, is.ends t)) ∙ get_or-drop at l 0 0 ∙ ap (λ (j : ℕ). get_or l j 0) (add-zero at)
+    first h = get_or-take (span_of comma (drop at l)) (drop at l) 0 0 (omega (arith, is.ends r refl)) ∙ get_or-drop at l 0 0 ∙ ap (λ (j : ℕ). get_or l j 0) (add-zero at)
 
     -- no digit or too many, and a leading zero
     abbrev sized : Bool
@@ -113,7 +111,7 @@ module _ (most : ℕ) where
     pub field-inside : sized ≡ false → at < length l
     field-inside h =
         let z = eqb-false (r.end - at) 0 (or-false (eqb (r.end - at) 0) (ltb most (r.end - at)) h).0 in
-        omega (arith, z, is.ends t, span-le comma (drop at l), length-drop at l)
+        omega (arith, z, is.ends r refl, span-le comma (drop at l), length-drop at l)
 
     zero_test : (1 < r.end - at) ⊎ (r.end - at ≤ 1) → ltb 1 (length (field_from l at)) && eqb (number (field_from l at) 0) 48 ≡ zeroed
     zero_test (inl h) = rw (size, first (omega arith))
@@ -122,7 +120,7 @@ module _ (most : ℕ) where
     -- the definition's tests are these
     field-tests : number_of most (field_from l at) ≡ pick sized none (pick zeroed none (some r.value))
     unfolding number_of
-    field-tests = rw (zero_test (below_or_not 1 (r.end - at)), size, is.reads t) (go (eqb (r.end - at) 0))
+    field-tests = rw (zero_test (below_or_not 1 (r.end - at)), size, is.reads r refl) (go (eqb (r.end - at) 0))
       where
         go : (b : Bool) → pick b none (pick (ltb most (r.end - at)) none (pick zeroed none (some r.value))) ≡ pick (b || ltb most (r.end - at)) none (pick zeroed none (some r.value))
         go true = refl
@@ -134,5 +132,5 @@ module _ (most : ℕ) where
     pub field-zeroed : sized ≡ false → zeroed ≡ true → number_of most (field_from l at) ≡ none
     field-zeroed h z = rw (field-tests, h, z)
 
-    pub field_is : sized ≡ false → zeroed ≡ false → FieldIs most l at r
-    field_is h z = record { ends = is.ends; number = rw (t, field-tests, h, z) }
+    pub field_is : sized ≡ false → zeroed ≡ false → FieldIs most l at (Some r)
+    field_is h z = record { ends = is.ends; number = rw (field-tests, h, z) }

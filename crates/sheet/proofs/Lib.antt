@@ -16,3 +16,4 @@ pub mod Runs
 pub mod Valid
 pub mod TextBound
 pub mod RoundTrip
+pub mod HeldSheets

@@ -1,10 +1,11 @@
 -- Laws of a line: its first field is the letter of its kind, found by its position among the letters, and the fields after it are the kind's numbers.
 -- Assumes nothing.
-use mathlib.Core.Bool.{Bool, true, false, true≢false}
-use mathlib.Core.Path.{◌≡◌, refl, sym, ◌∙◌, ap, subst}
+use mathlib.Core.Bool.{Bool, true, false}
+use mathlib.Core.Path.{◌≡◌, refl, sym, ◌∙◌, ap}
 use mathlib.Core.Logic.{◌⊎◌, inl, inr, ⊎_elim, ◌≢◌}
 use mathlib.Core.List.{List, [], ◌∷◌, map}
 use mathlib.Core.Option.{Option, some, none}
+use Rattle.std.specs.Prelude.{Some, None}
 use Prim.Native.Nat.{ℕ, zero, suc, ◌≤◌, ◌<◌}
 use native.Mathlib.Omega.{arith}
 use lib.Dec.{eqb}
@@ -14,9 +15,8 @@ use Rattle.sheet.specs.Lists.{pick, ◌then◌, number}
 use Rattle.sheet.specs.Bytes.{comma}
 use Rattle.sheet.specs.Kinds.{Kind, width, kind_s}
 use Rattle.sheet.specs.Lines.{line, with_letter, numbers_of, of_fields, line_of}
-use Rattle.sheet.specs.Inner.{span_of, parts_from, as_numbers, position_of}
-use Rattle.sheet.specs.Forms.{Forms, SomeForms, line_of_kinds, LineIs}
-use Rattle.sheet.specs.declared.lines.Parsed.{Parsed}
+use Rattle.sheet.specs.Inner.{span_of, parts_from, position_of}
+use Rattle.sheet.specs.Forms.{Forms, SomeForms, LineIs}
 use Rattle.sheet.specs.Laws.Parts.{span-le, split_step}
 
 -- k is the position of the kind o among ks, or their count where there is none
@@ -40,9 +40,6 @@ width-at (j ∷ ks) (suc k) h = width-at ks k (omega arith)
 module _ (letters widths : List ℕ) where
   forms-letters : (ks : List Kind) → Forms ks letters widths → length letters ≡ length ks
   forms-letters ks F = ap length F.letters-are ∙ length-map ks (λ k. k.letter)
-
-  pub forms-widths : SomeForms letters widths → length widths ≡ length letters
-  forms-widths S = let F = S.forms in ap length F.widths-are ∙ length-map S.kinds-of width ∙ sym (forms-letters S.kinds-of F)
 
   -- the byte c has the position k among the letters
   module _ (c k : ℕ) (d : k ≡ position_of c letters) where
@@ -78,35 +75,41 @@ module _ (most : ℕ) (ks : List Kind) (l : List ℕ) where
 
 -- what is handed back of a line, by what was found of it
 module _ (most : ℕ) (letters widths l : List ℕ) where
-  no_line : (r : Parsed) → r.ok ≡ false → ((ks : List Kind) → Forms ks letters widths → line_of most ks l ≡ none) → LineIs most letters widths l r
-  no_line r b h = record { known = λ t. absurd (true≢false (sym t ∙ b)); of = λ ks F. rw (b, h ks F) }
+  no_line : ((ks : List Kind) → Forms ks letters widths → line_of most ks l ≡ none) → LineIs most letters widths l None
+  no_line h = record { known = λ p t. cc; of = λ ks F. sym (h ks F) }
 
-  pub line-not-one : (r : Parsed) → r.ok ≡ false → (span_of comma l ≡ 1 → ⊥) → LineIs most letters widths l r
-  line-not-one r b h = no_line r b (λ ks F. line_first most ks l h)
+  pub line-not-one : (span_of comma l ≡ 1 → ⊥) → LineIs most letters widths l None
+  line-not-one h = no_line (λ ks F. line_first most ks l h)
 
   -- the first field is one byte, which has the position k
   module _ (e : span_of comma l ≡ 1) (k : ℕ) (d : k ≡ position_of (get_or l 0 0) letters) where
-    pub line-unknown : (r : Parsed) → r.ok ≡ false → k ≡ length letters → LineIs most letters widths l r
-    line-unknown r b h =
-        no_line r b (λ ks F.
+    pub line-unknown : k ≡ length letters → LineIs most letters widths l None
+    line-unknown h =
+        no_line (λ ks F.
         ⊎_elim
         (λ s. rw (line-letter most ks l e, s.1))
         (λ s. absurd (omega (arith, s, forms-letters letters widths ks F)))
         (stands letters widths (get_or l 0 0) k d ks F))
 
-    -- the letter is known, and the reader of its numbers handed back n
-    pub line_known : SomeForms letters widths → k ≢ length letters → (n : Parsed) → n.kind ≡ k
-        → as_numbers (number widths k) n ≡ numbers_of most (number widths k) (parts_from comma 2 l)
-        → LineIs most letters widths l n
-    line_known S h n z q =
-        subst (λ (j : ℕ). LineIs most letters widths l (record { ok = n.ok; kind = j; values = n.values })) (sym z) (record { known = λ _. letter-below letters widths (get_or l 0 0) k d S h; of = of })
-      where
-        made : (b : Bool) (j : Kind) (w : ℕ) → w ≡ width j → pick b (some (line j (take (width j) n.values))) none ≡ pick b (some (take w n.values)) none then λ ns. some (line j ns)
-        made true j w e = rw e
-        made false j w e = refl
+    -- the letter is known, and the reader of its numbers handed back o
+    module _ (S : SomeForms letters widths) (h : k ≢ length letters) where
+      line-numbers : (o : Option (List ℕ)) → o ≡ numbers_of most (number widths k) (parts_from comma 2 l) → (ks : List Kind) (F : Forms ks letters widths)
+          → line_of most ks l ≡ o then λ ns. some (line (get_or ks k kind_s) ns)
+      line-numbers o q ks F =
+          let s = known letters widths (get_or l 0 0) k d ks F h in
+          let w : number widths k ≡ width (get_or ks k kind_s) = rw F.widths-are (width-at ks k s.0) in
+          rw (line-letter most ks l e, s.1, ← w, ← q)
 
-        of : (ks : List Kind) → Forms ks letters widths → pick n.ok (some (line_of_kinds ks k n.values)) none ≡ line_of most ks l
-        of ks F =
-            let s = known letters widths (get_or l 0 0) k d ks F h in
-            let w : number widths k ≡ width (get_or ks k kind_s) = rw F.widths-are (width-at ks k s.0) in
-            made n.ok (get_or ks k kind_s) (number widths k) w ∙ sym (rw (line-letter most ks l e, s.1, ← w, ← q))
+      pub line_known : (v : List ℕ) → some (take (number widths k) v) ≡ numbers_of most (number widths k) (parts_from comma 2 l)
+          → LineIs most letters widths l (Some (record { kind = k; values = v }))
+      line_known v q =
+          record {
+            known = λ p t. let z : k ≡ p.kind = cc in rw (← z) (letter-below letters widths (get_or l 0 0) k d S h);
+            of = λ ks F.
+                let s = known letters widths (get_or l 0 0) k d ks F h in
+                let w : number widths k ≡ width (get_or ks k kind_s) = rw F.widths-are (width-at ks k s.0) in
+                ap (λ (n : ℕ). some (line (get_or ks k kind_s) (take n v))) (sym w) ∙ sym (line-numbers _ q ks F);
+          }
+
+      pub line_bad : none ≡ numbers_of most (number widths k) (parts_from comma 2 l) → LineIs most letters widths l None
+      line_bad q = no_line (λ ks F. line-numbers none q ks F)

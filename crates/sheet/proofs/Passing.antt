@@ -1,21 +1,17 @@
--- Tests that pass along two lists, position by position: the order of two rows, whether they are the same, numbers outside their limits, and counts
--- that are not 0.
+-- Tests that pass along lists, position by position: the order of two rows, and counts that are not 0.
 -- What is left from a position on decides the same as the whole, as long as every position before it decided nothing.
 -- Assumes nothing.
-use mathlib.Core.Path.{◌≡◌, refl, sym, ◌∙◌, ap}
-use mathlib.Core.Bool.{Bool, true, false, not, ◌||◌}
-use mathlib.Core.List.{List, map}
+use mathlib.Core.Path.{◌≡◌, refl, ◌∙◌}
+use mathlib.Core.Bool.{Bool, true, false, not}
+use mathlib.Core.List.{List}
 use Prim.Native.Nat.{ℕ, ◌+◌, ◌≤◌, ◌<◌}
 use native.Mathlib.Omega.{arith}
 use native.Mathlib.Numerals.{add-one}
 use lib.Dec.{ltb, eqb}
 use lib.ListN.{length, get_or, take, drop, length-drop, drop_of_length-le}
-use lib.Seq.{drop-cons, get_or-take, get_or-drop, take-suc, length-take-le}
+use lib.Seq.{drop-cons, get_or-take, get_or-drop, length-take-le}
 use borrow.Author.Tests.{lt-ltb, le-ltb, eq-eqb, ne_eqb}
-use Rattle.sheet.specs.Lists.{any}
 use Rattle.sheet.specs.Computed.{lexb, after}
-use Rattle.sheet.specs.Sheet.{beyond, outside}
-use Rattle.sheet.specs.Inner.{limit_at}
 
 -- n numbers of a from `at` on and the first n of b, from position i on
 abbrev pub lex_from : ℕ → List ℕ → ℕ → List ℕ → ℕ → Bool
@@ -65,49 +61,6 @@ lex-last n a at b p q i e =
     go false true = refl
     go false false = refl
 
--- the first numbers of a from `at` on and the first of b: number i of both
-module _ (a : List ℕ) (at : ℕ) (b : List ℕ) (i : ℕ) where
-  pub same_more : at + i < length a → i < length b → get_or a (at + i) 0 ≡ get_or b i 0 → take i (drop at a) ≡ take i b
-      → take (i + 1) (drop at a) ≡ take (i + 1) b
-  same_more p q e f =
-      let x : i < length (drop at a) = omega (arith, length-drop at a) in
-      rw (add-one, take-suc (drop at a) i 0 x, take-suc b i 0 q, get_or-drop at a i 0, e, f)
-
-  pub same_not : (n : ℕ) → i < n → (get_or a (at + i) 0 ≡ get_or b i 0 → ⊥) → take n (drop at a) ≡ take n b → ⊥
-  same_not n h f e =
-      f (sym (get_or-take n (drop at a) i 0 h ∙ get_or-drop at a i 0) ∙ ap (λ (l : List ℕ). get_or l i 0) e ∙ get_or-take n b i 0 h)
-
--- the first w limits and numbers, from position i on
-abbrev pub outside_from : ℕ → List ℕ → ℕ → List ℕ → ℕ → Bool
-outside_from p xs w v i = outside p (map limit_at (drop i (take w xs))) (drop i (take w v))
-
-module _ (p : ℕ) (xs : List ℕ) (w : ℕ) (v : List ℕ) (h : w ≤ length xs) (q : w ≤ length v) (i : ℕ) where
-  outside-next : i < w → outside_from p xs w v i ≡ beyond p (limit_at (get_or xs i 0)) (get_or v i 0) || outside_from p xs w v (i + 1)
-  outside-next l =
-      let x : i < length (take w xs) = omega (arith, length-take-le w xs h) in
-      let y : i < length (take w v) = omega (arith, length-take-le w v q) in
-      rw (add-one, drop-cons (take w xs) i 0 x, drop-cons (take w v) i 0 y, get_or-take w xs i 0 l, get_or-take w v i 0 l)
-
-  pub outside-here : i < w → beyond p (limit_at (get_or xs i 0)) (get_or v i 0) ≡ true → outside_from p xs w v i ≡ true
-  outside-here l e = outside-next l ∙ rw e
-
-  pub outside-later : i < w → beyond p (limit_at (get_or xs i 0)) (get_or v i 0) ≡ false → outside_from p xs w v i ≡ outside_from p xs w v (i + 1)
-  outside-later l e = outside-next l ∙ rw e
-
-  pub outside-none : w ≤ i → outside_from p xs w v i ≡ false
-  outside-none l = let x : length (take w xs) ≤ i = omega (arith, length-take-le w xs h) in rw (drop_of_length-le (take w xs) x)
-
 -- a count that is not 0
 abbrev pub counted : ℕ → Bool
 counted n = not (eqb n 0)
-
--- a test of each number from position i on
-module _ (t : ℕ → Bool) (l : List ℕ) (i : ℕ) where
-  pub any_here : i < length l → t (get_or l i 0) ≡ true → any t (drop i l) ≡ true
-  any_here h e = rw (drop-cons l i 0 h, e)
-
-  pub any-later : i < length l → t (get_or l i 0) ≡ false → any t (drop i l) ≡ any t (drop (i + 1) l)
-  any-later h e = rw (add-one, drop-cons l i 0 h, e)
-
-  pub any_none : length l ≤ i → any t (drop i l) ≡ false
-  any_none h = rw (drop_of_length-le l h)

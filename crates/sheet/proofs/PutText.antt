@@ -7,7 +7,7 @@ use Prim.Native.Nat.{ℕ, zero, suc, ◌+◌, ◌*◌, ◌-◌, ◌≤◌, ◌<�
 use native.Mathlib.Omega.{arith}
 use native.Mathlib.Nat.{suc-mul, zero-mul, mul-le-mul, mul-le-mul_right}
 use lib.ListN.{length, take, drop, get_or, length-append, length-map, length-drop, get_or-map}
-use lib.Seq.{sets, take-add, drop-drop, get_or-drop, length-take-le}
+use lib.Seq.{sets, take-add, drop-drop, length-take-le}
 use Rattle.sheet.specs.Lists.{number, rows, bind, flat}
 use Rattle.sheet.specs.Decimal.{digits_of, most_digits}
 use Rattle.sheet.specs.Kinds.{Kind, width, kind_s, kinds}
@@ -27,12 +27,9 @@ use Rattle.sheet.specs.Laws.Store.{store-count, store-part, store-few, store-wid
 abbrev pub numbers_text : List ℕ → List ℕ
 numbers_text ns = bind ns (number_text most_digits)
 
-pub number-more-length : (b : ℕ) (all : List ℕ) (i : ℕ) → b + i < length all
-    → length (numbers_text (take (i + 1) (drop b all))) ≡ length (numbers_text (take i (drop b all))) + (1 + length (digits_of most_digits (number all (b + i))))
-number-more-length b all i h =
-    let l : i < length (drop b all) = omega (arith, length-drop b all) in
-    let e = ap (λ (n : ℕ). length (digits_of most_digits n)) (get_or-drop b all i 0) in
-    omega (arith, simp length-append at (ap length (bind-more (number_text most_digits) 0 (drop b all) i l)), number-length most_digits (number (drop b all) i))
+pub number-more-length : (ns : List ℕ) (i : ℕ) → i < length ns
+    → length (numbers_text (take (i + 1) ns)) ≡ length (numbers_text (take i ns)) + (1 + length (digits_of most_digits (number ns i)))
+number-more-length ns i h = omega (arith, simp length-append at (ap length (bind-more (number_text most_digits) 0 ns i h)), number-length most_digits (number ns i))
 
 -- row i lies inside, and so many numbers from f on are a part
 pub row_inside : (b w n i m : ℕ) → i < n → b + n * w ≤ m → b + i * w + w ≤ m
@@ -123,9 +120,6 @@ unfolding sheet_texts
 sheet-texts-count s = texts-count kinds (groups_of s) refl
 
 module _ {s : Sheet} {lines all : List ℕ} (S : StoreOf s lines all) where
-  pub store-lines : length lines ≡ kind_count
-  store-lines = ap length S.counts
-
   -- the lines of a kind stand from its base on
   module _ (k : ℕ) (h : k < kind_count) where
     pub store-fits : GroupFits k (number lines k) all

@@ -1,6 +1,6 @@
 -- Judging with the lines so far in the arrays: where it starts, one line more, and the refusals.
 -- Assumes nothing.
-use mathlib.Core.Path.{◌≡◌, refl, sym, ◌∙◌, ap, ap₂, subst}
+use mathlib.Core.Path.{◌≡◌, refl, sym, ◌∙◌, ap, ap₂}
 use mathlib.Core.Bool.{Bool, true}
 use mathlib.Core.List.{List, [], ◌∷◌, ◌++◌, map}
 use mathlib.Core.Option.{Option, some, none}
@@ -12,8 +12,10 @@ use Rattle.sheet.specs.Kinds.{Kind, room, kinds}
 use Rattle.sheet.specs.Lines.{Line}
 use Rattle.sheet.specs.Sheet.{group, fault, lacking, Outcome, refused, judge}
 use Rattle.sheet.specs.Store.{base_in, spread, Blank}
-use Rattle.sheet.specs.declared.reader.Verdict.{Verdict}
-use Rattle.sheet.specs.Inner.{FaultIs, LacksIs, Takes, Reached, NoneSoFar, SoFar}
+use Rattle.sheet.specs.Refusals.{number_of}
+use Rattle.sheet.specs.Inner.{FaultIs, LacksIs, Takes, Reached, SoFar}
+use Rattle.sheet.specs.declared.refusal.Refusal.{Refusal}
+use Rattle.sheet.specs.Laws.Refusals.{number-some}
 
 -- one line is judged, or what is no line, or the end
 judge-passed : (before : List Line) (l : Line) (ls : List (Option Line)) → fault before l ≡ 0 → judge before (some l ∷ ls) ≡ judge (before ++ (l ∷ [])) ls
@@ -76,10 +78,10 @@ module _ {end : Outcome} {lines all : List ℕ} {n : ℕ} where
   reached-short R h e =
       sym R.same ∙ judge-lacking R.before (sym (h.of R.before R.stored) ∙ e) ∙ ap (refused 3) (sym R.next)
 
-  -- the verdict on lines that were judged with no refusal
-  module _ {todo : List (Option Line)} {v : Verdict} where
-    pub so_far : Reached end todo lines all n → NoneSoFar v n → SoFar end todo lines all v
-    so_far R e = record { refuses = λ y. absurd (y e.0); reaches = λ y. subst (λ (m : ℕ). Reached end todo lines all m) (sym e.1) R }
+  -- the verdict on lines that were judged with no refusal, and with one
+  module _ {todo : List (Option Line)} where
+    pub so_far : Reached end todo lines all n → SoFar end todo lines all (record { refusal = 0; line = n })
+    so_far R = record { refuses = λ y. absurd (y refl); reaches = λ y. R }
 
-    pub so-far-reached : SoFar end todo lines all v → NoneSoFar v n → Reached end todo lines all n
-    so-far-reached S e = subst (λ (m : ℕ). Reached end todo lines all m) e.1 (S.reaches e.0)
+    pub so-far-refused : (k : Refusal) → end ≡ refused (number_of k) n → SoFar end todo lines all (record { refusal = number_of k; line = n })
+    so-far-refused k e = record { refuses = λ y. e; reaches = λ y. absurd (omega (arith, number-some k)) }

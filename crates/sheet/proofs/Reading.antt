@@ -2,7 +2,8 @@
 -- end. The lines in the array are at most those that the kinds allow, so their count stays small.
 -- Assumes nothing.
 use mathlib.Core.Path.{◌≡◌, refl, sym, ◌∙◌, ap, subst}
-use mathlib.Core.Bool.{Bool, true, false, true≢false}
+use mathlib.Core.Bool.{Bool, false, true≢false}
+use Rattle.std.specs.Prelude.{Option as Found, Some, None, Ok, Err}
 use mathlib.Core.List.{List, [], ◌∷◌, map}
 use mathlib.Core.Option.{Option, some, none}
 use Prim.Native.Nat.{ℕ, ◌+◌, ◌-◌, ◌≤◌, ◌<◌}
@@ -15,19 +16,22 @@ use Rattle.sheet.specs.Lines.{Line, line}
 use Rattle.sheet.specs.Sheet.{Sheet, sheet_of, groups_of, lines_from, lacking, Outcome, refused, loaded, judge, most_bytes, read_of}
 use Rattle.sheet.specs.Calls.{read_answer, read_call}
 use Rattle.sheet.specs.Store.{spread, StoreOf, VerdictIs, Blank}
-use Rattle.sheet.specs.Inner.{line_at, Stored, Reached, Takes, LacksIs}
+use Rattle.sheet.specs.Inner.{line_at, Stored, Reached, SoFar, Takes, LacksIs}
+use Rattle.sheet.specs.Refusals.{number_of, refused_by}
+use Rattle.sheet.specs.Laws.Refusals.{number-some}
 use Rattle.sheet.specs.Forms.{Forms, LineIs, as_parsed}
-use Rattle.sheet.specs.LineEnds.{lines_by, EndIs, left, ReadUpTo, stopped, OverIs, TurnIs}
+use Rattle.sheet.specs.LineEnds.{LineEnd, lines_by, EndIs, left, ReadUpTo, TurnIs}
+use Rattle.sheet.specs.Laws.LineEnding.{end-inside}
 use Rattle.sheet.specs.Laws.Groups.{passes-groups, lines-sheet}
 use Rattle.sheet.specs.Laws.Runs.{AllRuns}
 use Rattle.sheet.specs.Laws.Valid.{lines_runs}
 use Rattle.sheet.proofs.Valid.{passes-valid}
 use Rattle.sheet.specs.Laws.RoundTrip.{read-judge}
 use Rattle.sheet.specs.declared.lines.Parsed.{Parsed}
-use Rattle.sheet.specs.declared.line_reader.LineEnd.{LineEnd}
-use Rattle.sheet.specs.declared.line_reader.LineEnd.TheVariants.{At, Missing, Over}
-use Rattle.sheet.specs.declared.reader.Turn.{Turn}
-use Rattle.sheet.proofs.Reached.{reached-start, reached-next, reached-fault, reached-bad}
+use Rattle.sheet.specs.declared.refusal.Refused.{Refused}
+use Rattle.sheet.specs.declared.refusal.Refusal.{Refusal}
+use Rattle.sheet.specs.declared.refusal.Refusal.TheVariants.{Malformed}
+use Rattle.sheet.proofs.Reached.{reached-start, reached-next, reached-fault, reached-bad, so-far-refused}
 
 -- lines of groups are at most as many as their kinds allow
 abbrev most_lines : List Kind → ℕ
@@ -86,43 +90,33 @@ read-long src h = rw (lt-ltb most_bytes (length src) h)
 pub text-start : (src : List ℕ) {lines all : List ℕ} → Blank lines all → length src ≤ most_bytes → ReadUpTo src 0 lines all 1
 text-start src {lines} {all} b h = subst (λ (o : Outcome). Reached o (left src 0) lines all 1) (sym (read-judge src h)) (reached-start b (left src 0))
 
--- what became of a line, where reading is over with it
-module _ {src : List ℕ} {at : ℕ} {lines all : List ℕ} (k n : ℕ) (v : Turn) (q : v ≡ stopped k n) where
-  turn-ends : OverIs src lines all (stopped k n) → TurnIs src at lines all v
-  turn-ends o = subst (TurnIs src at lines all) (sym q) (record { ended = λ t. absurd (true≢false (sym t)); taken = λ t. absurd (true≢false (sym t)); over = λ t. o })
-
-  turn-refuses : 1 ≤ k → read_of src ≡ refused k n → TurnIs src at lines all v
-  turn-refuses h r = turn-ends (record { refuses = λ z. r; reaches = λ z. absurd (omega (arith, h)) })
+-- how lines were judged that one was refused of
+pub verdict-ended : {end : Outcome} {todo : List (Option Line)} {lines all : List ℕ} (r : Refused) → SoFar end todo lines all (refused_by r) → VerdictIs end lines all (refused_by r)
+verdict-ended r S = record { refuses = S.refuses; holds = λ y. absurd (omega (arith, number-some r.refusal)) }
 
 module _ (src : List ℕ) (at : ℕ) {lines all : List ℕ} {n : ℕ} (R : ReadUpTo src at lines all n) where
   -- the lines left, by where the next one ends
   left_by : (r : LineEnd) → EndIs src at r → Reached (read_of src) (lines_by most_digits kinds src at r) lines all n
   left_by r E = subst (λ (t : List (Option Line)). Reached (read_of src) t lines all n) (E.lines most_digits kinds) R
 
-  pub turn-over : EndIs src at Over → (v : Turn) → v ≡ stopped 0 n → TurnIs src at lines all v
-  turn-over E v q = turn-ends 0 n v q (record { refuses = λ z. absurd (z refl); reaches = λ z. left_by Over E })
+  pub turn-cut : (k : Refusal) → EndIs src at (Err k) → TurnIs src at lines all n (Err k)
+  turn-cut k E =
+      so-far-refused k (reached-bad (left_by (Err k) E) ∙ ap (λ (j : Refusal). refused (number_of j) n) (sym (end-inside src at (Err k) E.found).1))
 
-  pub turn-cut : EndIs src at Missing → (v : Turn) → v ≡ stopped 2 n → TurnIs src at lines all v
-  turn-cut E v q = turn-refuses 2 n v q (omega arith) (reached-bad (left_by Missing E))
-
-  module _ (e : ℕ) (E : EndIs src at (At e)) {letters widths : List ℕ} (F : Forms kinds letters widths) (l : Parsed) (L : LineIs most_digits letters widths (take (e - at) (drop at src)) l) where
+  module _ (e : ℕ) (E : EndIs src at (Ok (Some e))) {letters widths : List ℕ} (F : Forms kinds letters widths) (l : Found Parsed) (L : LineIs most_digits letters widths (take (e - at) (drop at src)) l) where
     line_read : (o : Option Line) → as_parsed kinds l ≡ o → Reached (read_of src) (o ∷ left src (e + 1)) lines all n
-    line_read o a = subst (λ (x : Option Line). Reached (read_of src) (x ∷ left src (e + 1)) lines all n) (sym (L.of kinds F) ∙ a) (left_by (At e) E)
+    line_read o a = subst (λ (x : Option Line). Reached (read_of src) (x ∷ left src (e + 1)) lines all n) (sym (L.of kinds F) ∙ a) (left_by (Ok (Some e)) E)
 
-    pub turn-bad : l.ok ≡ false → (v : Turn) → v ≡ stopped 2 n → TurnIs src at lines all v
-    turn-bad b v q = turn-refuses 2 n v q (omega arith) (reached-bad (line_read none (rw b)))
+    pub turn-bad : l ≡ None → TurnIs src at lines all n (Err Malformed)
+    turn-bad b = so-far-refused Malformed (reached-bad (line_read none (ap (as_parsed kinds) b)))
 
-    module _ (b : l.ok ≡ true) {lines' all' : List ℕ} (r : ℕ) (t : Takes lines all (line_at l.kind l.values) lines' all' r) where
-      pub turn-fault : (r ≡ 0 → ⊥) → (v : Turn) → v ≡ stopped r n → TurnIs src at lines' all' v
-      turn-fault z v q = turn-refuses r n v q (omega (arith, z)) (reached-fault (line_read (some (line_at l.kind l.values)) (rw b)) t.fault-is z)
+    module _ (p : Parsed) (b : l ≡ Some p) {lines' all' : List ℕ} where
+      pub turn-fault : (k : Refusal) → Takes lines all (line_at p.kind p.values) lines' all' (number_of k) → TurnIs src at lines' all' n (Err k)
+      turn-fault k t =
+          so-far-refused k (reached-fault (line_read (some (line_at p.kind p.values)) (ap (as_parsed kinds) b)) t.fault-is (λ z. omega (arith, number-some k)))
 
-      pub turn-taken : r ≡ 0 → TurnIs src at lines' all' (record { more = true; end = e; refusal = 0; line = n + 1 })
-      turn-taken z =
-          record {
-            ended = λ y. E.found;
-            taken = λ y. reached-next (line_read (some (line_at l.kind l.values)) (rw b)) t z;
-            over = λ y. absurd (true≢false y);
-          }
+      pub turn-taken : Takes lines all (line_at p.kind p.values) lines' all' 0 → TurnIs src at lines' all' n (Ok (Some e))
+      turn-taken t = (E.found, reached-next (line_read (some (line_at p.kind p.values)) (ap (as_parsed kinds) b)) t refl)
 
 -- the reader's answer is that of the outcome
 pub answered : (src : List ℕ) (o : Outcome) → read_of src ≡ o → read_answer o ≡ read_call src

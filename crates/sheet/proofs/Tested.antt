@@ -12,12 +12,12 @@ use lib.Seq.{get_or-take, get_or-drop, take-take}
 use borrow.Author.Tests.{ltb-true, ltb-false, eq-eqb, ne_eqb, eqb-true, eqb-false, not-false}
 use Rattle.sheet.specs.Lists.{pick, number, any}
 use Rattle.sheet.specs.Computed.{lexb}
-use Rattle.sheet.specs.Kinds.{width, kind_s, kind_w, kind_c, kind_x, kind_o}
+use Rattle.sheet.specs.Kinds.{Pair, alone, different, ordered, width, kind_s, kind_w, kind_c, kind_x, kind_o}
 use Rattle.sheet.specs.Lines.{Line}
 use Rattle.sheet.specs.Sheet.{from, to, first, group, out_of_turn, misplaced, too_many, outside, head_in, unpaired, unknown, late, latest, not_above}
 use Rattle.sheet.specs.Store.{kind_count, kind_at}
 use Rattle.sheet.specs.Seek.{Listed}
-use Rattle.sheet.specs.Inner.{limit_at, pair_at, line_at, turn_by, misplaced_by, late_by, RowIs, Stored}
+use Rattle.sheet.specs.Inner.{limit_at, pair_at, PairInside, line_at, turn_by, misplaced_by, late_by, RowIs, Stored}
 use Rattle.sheet.specs.Laws.Order.{and-true, true-and, bool_same}
 use Rattle.sheet.specs.Laws.Decided.{Decided, yes_of, is-yes}
 use Rattle.sheet.specs.Laws.Members.{any-mem, mem-any}
@@ -61,10 +61,16 @@ counted-below lines k o e b c = go (ltb k o) refl
         absurd (omega (arith, n, eqb-true (number (drop (suc k) lines) (o - suc k)) 0 (not-false (eqb (number (drop (suc k) lines) (o - suc k)) 0) z)))
 
 -- the first numbers of a pair of positions
-pair_inside : (p i j w : ℕ) (v : List ℕ) → i < w → j < w → unpaired (pair_at p i j) (take w v) ≡ unpaired (pair_at p i j) v
-pair_inside zero i j w v a b = refl
-pair_inside (suc zero) i j w v a b = rw (get_or-take w v i 0 a, get_or-take w v j 0 b)
-pair_inside (suc (suc p)) i j w v a b = rw (get_or-take w v i 0 a, get_or-take w v j 0 b)
+pair_inside : (p : Pair) (w : ℕ) (v : List ℕ) → PairInside w p → unpaired p (take w v) ≡ unpaired p v
+pair_inside alone w v h = refl
+pair_inside (different i j) w v h = rw (get_or-take w v i 0 h.0, get_or-take w v j 0 h.1)
+pair_inside (ordered i j) w v h = rw (get_or-take w v i 0 h.0, get_or-take w v j 0 h.1)
+
+-- a pair inside some numbers is inside more
+pub pair-among : (p : Pair) {w n : ℕ} → w ≤ n → PairInside w p → PairInside n p
+pair-among alone l h = tt
+pair-among (different i j) l h = (omega (arith, h.0), omega (arith, h.1))
+pair-among (ordered i j) l h = (omega (arith, h.0), omega (arith, h.1))
 
 -- some line is of a later kind
 later-counted : {before : List Line} {lines all : List ℕ} → Stored before lines all → (k : ℕ)
@@ -127,8 +133,8 @@ module _ {before : List Line} {lines all : List ℕ} (S : Stored before lines al
   many_is = rw (R.most-is, count-is S h)
 
   -- test 6
-  pub unpaired-is : unpaired (kind_at k).pair (take (width (kind_at k)) v) ≡ unpaired (pair_at r.pair r.one r.other) v
-  unpaired-is = rw (← R.pair_is, ← R.width_is) (pair_inside r.pair r.one r.other r.width v R.one_inside R.other-inside)
+  pub unpaired-is : unpaired (kind_at k).pair (take (width (kind_at k)) v) ≡ unpaired (pair_at r.pair) v
+  unpaired-is = rw (← R.pair_is, ← R.width_is) (pair_inside (pair_at r.pair) r.width v R.pair-inside)
 
   -- test 5: no line of the kind stands before, or the last of them is looked at
   pub above-none : number lines k ≡ 0 → not_above (kind_at k).key (latest (group (kind_at k) before)) (take (width (kind_at k)) v) ≡ false
@@ -199,9 +205,6 @@ module _ {before : List Line} {lines all : List ℕ} (S : Stored before lines al
 
   unknown-of : unknown (group kind_c before) (line_at k v) ≡ eqb k kind_x.order && not (any names (group kind_c before))
   unknown-of = ap (λ (o : ℕ). eqb o kind_x.order && not (any names (group kind_c before))) (order-at k h)
-
-  pub unknown-other : (k ≡ kind_x.order → ⊥) → false ≡ unknown (group kind_c before) (line_at k v)
-  unknown-other n = sym (unknown-of ∙ rw (ne_eqb k kind_x.order n))
 
   module _ (e : k ≡ kind_x.order) (l : length v ≡ 8) {g : Group} (G : GroupIs lines kind_c.order g) where
     number_is : (i : ℕ) → i < 2 → number (take (width (kind_at k)) v) i ≡ number v i

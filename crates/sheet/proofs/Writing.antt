@@ -18,26 +18,21 @@ use Rattle.sheet.specs.Sheet.{Sheet, sheet_lines, Outcome, told}
 use Rattle.sheet.specs.Text.{sheet_text}
 use Rattle.sheet.specs.Calls.{Groups, group_rows, uneven, sheet_of_groups, judged_groups, write_end, write_refused, written, write_groups}
 use Rattle.sheet.specs.Store.{kind_count, kind_at, Blank}
-use Rattle.sheet.specs.Inner.{line_at, Takes, Reached, NoneSoFar, SoFar, GroupReached, Ready, group_lines, GroupTaken}
+use Rattle.sheet.specs.Refusals.{number_of}
+use Rattle.sheet.specs.Inner.{line_at, Takes, Reached, GroupReached, group_lines, GroupTaken}
+use Rattle.sheet.specs.Laws.Refusals.{number-some}
 use Rattle.sheet.specs.Laws.Members.{get_d_map}
 use Rattle.sheet.specs.Laws.Rows.{rows-count, rows_at}
 use Rattle.sheet.specs.Laws.RoundTrip.{whole-judged}
 use Rattle.sheet.specs.declared.SheetWritten.{SheetWritten}
-use Rattle.sheet.specs.declared.reader.Verdict.{Verdict}
-use Rattle.sheet.proofs.Reached.{reached-start, reached-next, reached-fault, so_far, so-far-reached}
+use Rattle.sheet.specs.declared.refusal.Refusal.{Refusal}
+use Rattle.sheet.proofs.Reached.{reached-start, reached-next, reached-fault, so_far, so-far-refused}
 use Rattle.sheet.proofs.Reading.{stored-few}
 
 -- i lines of the group of kind k in g were taken
 pub record Taken (k : ℕ) (g lines all : List ℕ) (n i : ℕ) (lines' all' : List ℕ) (next : ℕ) : Type 0 where
   pub of : (end : Outcome) (rest : List (Option Line)) → Reached end (map some (group_lines k g) ++ rest) lines all n
       → Reached end (map some (drop i (group_lines k g)) ++ rest) lines' all' next
-
-pub taken_none : {k : ℕ} {g lines all : List ℕ} {n : ℕ} → Taken k g lines all n 0 lines all n
-taken_none = record { of = λ end rest R. R }
-
--- a refusal is handed on
-pub taken_refused : {k : ℕ} {g lines all : List ℕ} {v : Verdict} → Ready lines all v → (v.refusal ≡ 0 → ⊥) → GroupTaken k g lines all v lines all v
-taken_refused q z = record { of = λ end rest S. record { refuses = S.refuses; reaches = λ y. absurd (z y) }; ready = q }
 
 -- the lines of the group of kind k in g
 module _ (k : ℕ) (g : List ℕ) (h : k < kind_count) where
@@ -77,27 +72,33 @@ module _ (k : ℕ) (g : List ℕ) (h : k < kind_count) where
             of = λ end rest R. subst (λ (j : ℕ). Reached end (map some (drop j (group_lines k g)) ++ rest) lines'' all'' (next + 1)) (sym (add-one i)) (reached-next (taken-line end rest R) t z);
           }
 
-      pub taken-fault : {u : Verdict} → NoneSoFar u n → {lines'' all'' : List ℕ} {r : ℕ} → Takes lines' all' (line_at k v) lines'' all'' r → (r ≡ 0 → ⊥)
-          → GroupTaken k g lines all u lines'' all'' (record { refusal = r; line = next })
-      taken-fault u t z =
+      pub taken-fault : (f : Refusal) → {lines'' all'' : List ℕ} → Takes lines' all' (line_at k v) lines'' all'' (number_of f)
+          → GroupTaken k g lines all n lines'' all'' (record { refusal = number_of f; line = next })
+      taken-fault f t =
           record {
-            of = λ end rest S. record { refuses = λ y. reached-fault (taken-line end rest (so-far-reached S u)) t.fault-is z; reaches = λ y. absurd (z y) };
-            ready = record { reached = λ y. absurd (z y) };
+            of = λ end rest R. so-far-refused f (reached-fault (taken-line end rest R) t.fault-is (λ z. omega (arith, number-some f)));
+            ready = λ z. absurd (omega (arith, number-some f));
           }
 
-  pub taken-all : {lines all lines' all' : List ℕ} {u v : Verdict} {n i next : ℕ} → Taken k g lines all n i lines' all' next → NoneSoFar u n → length g / w ≤ i
-      → GroupReached lines' all' next → NoneSoFar v next → GroupTaken k g lines all u lines' all' v
-  taken-all {lines' = lines'} {all' = all'} {i = i} {next = next} T u l q e =
+  pub taken-all : {lines all lines' all' : List ℕ} {n i next : ℕ} → Taken k g lines all n i lines' all' next → length g / w ≤ i
+      → GroupReached lines' all' next → GroupTaken k g lines all n lines' all' (record { refusal = 0; line = next })
+  taken-all {lines' = lines'} {all' = all'} {i = i} {next = next} T l q =
       let none_left = drop_of_length-le (group_lines k g) {i = i} (omega (arith, l, group-count)) in
       record {
-        of = λ end rest S. so_far (subst (λ (ls : List Line). Reached end (map some ls ++ rest) lines' all' next) none_left (T.of end rest (so-far-reached S u))) e;
-        ready = record { reached = λ y. subst (λ (m : ℕ). GroupReached lines' all' m) (sym e.1) q };
+        of = λ end rest R. so_far (subst (λ (ls : List Line). Reached end (map some ls ++ rest) lines' all' next) none_left (T.of end rest R));
+        ready = λ z. q;
       }
 
 -- one more line of an array that holds lines
 pub kept_next : {lines all lines' all' : List ℕ} {n r : ℕ} {l : Line} → (q : GroupReached lines all n) → Takes lines all l lines' all' r → r ≡ 0 → GroupReached lines' all' (n + 1)
 kept_next {lines} {all} {lines'} {all'} {n} {r} {l} q t e =
     record { before = q.before ++ (l ∷ []); stored = t.stored q.before q.stored e; next = omega (arith, q.next, length-append q.before (l ∷ [])) }
+
+-- what is left to judge after a group that was taken
+pub took : {k : ℕ} {g lines all lines' all' : List ℕ} {n m : ℕ} {end : Outcome} {rest : List (Option Line)}
+    → GroupTaken k g lines all n lines' all' (record { refusal = 0; line = m }) → Reached end (map some (group_lines k g) ++ rest) lines all n
+    → Reached end rest lines' all' m
+took T R = (T.of _ _ R).reaches refl
 
 pub group-few : {lines all : List ℕ} {n : ℕ} → GroupReached lines all n → n ≤ 1001
 group-few {lines} {all} q = omega (arith, q.next, stored-few q.before lines all q.stored)
@@ -139,14 +140,10 @@ module _ (g : Groups) (e : length g.head ≡ width kind_s) where
       ∙ ap (λ (ls : List (Option Line)). map some cs ++ ls) (map-append xs (os ++ []) []
       ∙ ap (λ (ls : List (Option Line)). map some xs ++ ls) (ap (λ (ls : List Line). map some ls ++ []) (append-nil os)))))
 
-  pub groups-start : {lines all : List ℕ} {v : Verdict} → Blank lines all → NoneSoFar v 1
-      → SoFar (judged_groups g) (map some (group_lines 0 g.head) ++ later) lines all v
+  pub groups-start : {lines all : List ℕ} → Blank lines all → Reached (judged_groups g) (map some (group_lines 0 g.head) ++ later) lines all 1
   unfolding judged_groups
-  groups-start {lines} {all} {v} b e =
-      subst (λ (t : List (Option Line)). SoFar (judged_groups g) t lines all v) lines_of (so_far (reached-start b (map some (sheet_lines (sheet_of_groups g)))) e)
-
-pub so-far-ready : {end : Outcome} {todo : List (Option Line)} {lines all : List ℕ} {v : Verdict} → SoFar end todo lines all v → Ready lines all v
-so-far-ready S = record { reached = λ z. let r = S.reaches z in record { before = r.before; stored = r.stored; next = r.next } }
+  groups-start {lines} {all} b =
+      subst (λ (t : List (Option Line)). Reached (judged_groups g) t lines all 1) lines_of (reached-start b (map some (sheet_lines (sheet_of_groups g))))
 
 -- the writer's refusals, by their fields
 pub refused_as : (r : SheetWritten) (k n : ℕ) (out : List ℕ) → (r.refusal ≡ k) × (r.line ≡ n) × (r.bytes ≡ 0) → write_end r out ≡ write_refused out k n

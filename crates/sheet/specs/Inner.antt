@@ -1,5 +1,5 @@
 -- What the functions of the reader and the writer promise each other. The contracts of `read` and `write` cite nothing of this file.
-use Rattle.std.specs.Prelude.{Bool, true, false, not, ◌&&◌, ◌||◌, ◌≡◌, List, [], ◌∷◌, ◌++◌, map, ℕ, zero, suc, ◌+◌, ◌*◌, ◌≤◌, ◌<◌, ltb, leb, eqb, length, take, drop}
+use Rattle.std.specs.Prelude.{Bool, not, ◌&&◌, ◌||◌, ◌≡◌, List, [], ◌∷◌, ◌++◌, map, ℕ, zero, suc, ◌+◌, ◌*◌, ◌≤◌, ◌<◌, ltb, leb, eqb, length, take, drop, Option as Found, Some, None}
 use Rattle.std.proofs.Math.Option.{Option, some, none}
 use Rattle.std.proofs.lemmas.List.Edits.{sets}
 use Rattle.sheet.specs.Lists.{pick, number, any, rows, bind}
@@ -10,24 +10,31 @@ use Rattle.sheet.specs.Lines.{Line, line}
 use Rattle.sheet.specs.Sheet.{Sheet, group, unknown, fault, lacking, Outcome, refused, loaded, judge}
 use Rattle.sheet.specs.Text.{line_text, sheet_text}
 use Rattle.sheet.specs.Calls.{read_answer, group_rows}
+use Rattle.sheet.specs.Refusals.{Verdict}
 use Rattle.sheet.specs.Store.{kind_at, base_of, spread, StoreOf, VerdictIs}
 use Rattle.sheet.specs.Laws.Judge.{Passes}
 use Rattle.sheet.specs.Laws.Shape.{AllShaped}
 use Rattle.sheet.specs.declared.SheetRead.{SheetRead}
+use Rattle.sheet.specs.declared.kinds.Pair.{Pair as RowPair}
+use Rattle.sheet.specs.declared.kinds.Pair.TheVariants.{Alone, Different, Ordered}
 use Rattle.sheet.specs.declared.kinds.Row.{Row}
 use Rattle.sheet.specs.declared.lines.Field.{Field}
-use Rattle.sheet.specs.declared.lines.Parsed.{Parsed}
-use Rattle.sheet.specs.declared.reader.Verdict.{Verdict}
 
--- the limit and the pair that the numbers in a row stand for
+-- the limit and the pair that those of a row stand for
 abbrev pub limit_at : ℕ → Limit
 limit_at zero = place
 limit_at (suc n) = pick (eqb (suc n) 60) cost (pick (eqb (suc n) 64) (between 1 64) (between 0 (suc n)))
 
-abbrev pub pair_at : ℕ → ℕ → ℕ → Pair
-pair_at zero i j = alone
-pair_at (suc zero) i j = different i j
-pair_at (suc (suc n)) i j = ordered i j
+abbrev pub pair_at : RowPair → Pair
+pair_at Alone = alone
+pair_at (Different i j) = different i j
+pair_at (Ordered i j) = ordered i j
+
+-- the positions of a pair are among the first w
+abbrev pub PairInside : ℕ → Pair → Type 0
+PairInside w alone = Unit {0}
+PairInside w (different i j) = (i < w) × (j < w)
+PairInside w (ordered i j) = (i < w) × (j < w)
 
 -- r is the row of the kind with number k
 pub record RowIs (k : ℕ) (r : Row) : Type 0 where
@@ -35,9 +42,8 @@ pub record RowIs (k : ℕ) (r : Row) : Type 0 where
   pub width_is : r.width ≡ width (kind_at k)
   pub limits-are : map limit_at (take r.width r.limits) ≡ (kind_at k).limits
   pub most-is : r.most ≡ (kind_at k).most
-  pub pair_is : pair_at r.pair r.one r.other ≡ (kind_at k).pair
-  pub one_inside : r.one < r.width
-  pub other-inside : r.other < r.width
+  pub pair_is : pair_at r.pair ≡ (kind_at k).pair
+  pub pair-inside : PairInside r.width (pair_at r.pair)
   pub key-is : r.key ≡ (kind_at k).key
   pub base-is : r.base ≡ base_of k
 
@@ -99,18 +105,14 @@ pub record Reached (end : Outcome) (todo : List (Option Line)) (lines all : List
 pub record AnswerIs (lines all : List ℕ) (r : SheetRead) : Type 0 where
   pub of : (s : Sheet) → StoreOf s lines all → r ≡ read_answer (loaded s)
 
--- v tells of no refusal, and n is the number of the next line
-abbrev pub NoneSoFar : Verdict → ℕ → Type 0
-NoneSoFar v n = (v.refusal ≡ 0) × (v.line ≡ n)
-
 -- v tells how lines were judged so far: the refusal, or 0 and the number of the next line, with the lines of the rest still to be judged
 pub record SoFar (end : Outcome) (rest : List (Option Line)) (lines all : List ℕ) (v : Verdict) : Type 0 where
   pub refuses : (v.refusal ≡ 0 → ⊥) → end ≡ refused v.refusal v.line
   pub reaches : v.refusal ≡ 0 → Reached end rest lines all v.line
 
--- r tells how the input is judged that ends after the lines that v tells of
-pub record EndedIs (lines all : List ℕ) (v r : Verdict) : Type 0 where
-  pub of : (end : Outcome) → SoFar end [] lines all v → VerdictIs end lines all r
+-- r tells how the input is judged that ends after the lines in the array, where n is the number of the next one
+pub record EndedIs (lines all : List ℕ) (n : ℕ) (r : Verdict) : Type 0 where
+  pub of : (end : Outcome) → Reached end [] lines all n → VerdictIs end lines all r
 
 -- the array holds lines, and n is the number of the next one
 pub record GroupReached (lines all : List ℕ) (n : ℕ) : Type 0 where
@@ -118,18 +120,14 @@ pub record GroupReached (lines all : List ℕ) (n : ℕ) : Type 0 where
   pub stored : Stored before lines all
   pub next : n ≡ suc (length before)
 
--- where v is no refusal, the array holds lines, and v has the number of the next one
-pub record Ready (lines all : List ℕ) (v : Verdict) : Type 0 where
-  pub reached : v.refusal ≡ 0 → GroupReached lines all v.line
-
 -- the lines of the kind with number k whose numbers stand in g one after another
 abbrev pub group_lines : ℕ → List ℕ → List Line
 group_lines k g = map (line (kind_at k)) (group_rows (kind_at k) g)
 
--- r tells how the lines of a group were judged after those that v tells of, whatever comes after them
-pub record GroupTaken (k : ℕ) (g lines all : List ℕ) (v : Verdict) (lines' all' : List ℕ) (r : Verdict) : Type 0 where
-  pub of : (end : Outcome) (rest : List (Option Line)) → SoFar end (map some (group_lines k g) ++ rest) lines all v → SoFar end rest lines' all' r
-  pub ready : Ready lines' all' r
+-- v tells how the lines of a group were judged after those in the array, whatever comes after them; n is the number of the first of them
+pub record GroupTaken (k : ℕ) (g lines all : List ℕ) (n : ℕ) (lines' all' : List ℕ) (v : Verdict) : Type 0 where
+  pub of : (end : Outcome) (rest : List (Option Line)) → Reached end (map some (group_lines k g) ++ rest) lines all n → SoFar end rest lines' all' v
+  pub ready : v.refusal ≡ 0 → GroupReached lines' all' v.line
 
 -- how many bytes stand before the first of kind k
 unfoldable pub span_of : ℕ → List ℕ → ℕ
@@ -143,30 +141,37 @@ unfolding split
 parts_from k at l = pick (leb at (length l)) (split k (drop at l)) []
 
 -- what the readers of a field, of numbers and of a line hand back
-abbrev pub as_field : Field → Option ℕ
-as_field r = pick r.ok (some r.value) none
+abbrev pub as_field : Found Field → Option ℕ
+as_field (Some f) = some f.value
+as_field None = none
 
-abbrev pub as_numbers : ℕ → Parsed → Option (List ℕ)
-as_numbers w r = pick r.ok (some (take w r.values)) none
+abbrev pub as_numbers : ℕ → Found (List ℕ) → Option (List ℕ)
+as_numbers w (Some v) = some (take w v)
+as_numbers w None = none
 
 -- the position of the first c in a list, or its length
 abbrev pub position_of : ℕ → List ℕ → ℕ
 position_of c [] = 0
 position_of c (x ∷ l) = let r = suc (position_of c l) in pick (eqb x c) 0 r
 
+-- the position found among n, or n
+abbrev pub found_at : ℕ → Found ℕ → ℕ
+found_at n (Some k) = k
+found_at n None = n
+
 -- the bytes from a position on up to the first comma
 abbrev pub field_from : List ℕ → ℕ → List ℕ
 field_from l at = take (span_of comma (drop at l)) (drop at l)
 
--- r is the digits of the field from `at` on; where it is not ok, the field is no number
-pub record DigitsAre (most : ℕ) (l : List ℕ) (at : ℕ) (r : Field) : Type 0 where
-  pub ends : r.ok ≡ true → r.end ≡ at + span_of comma (drop at l)
-  pub reads : r.ok ≡ true → digits_from 0 (field_from l at) ≡ some r.value
-  pub fails : r.ok ≡ false → number_of most (field_from l at) ≡ none
+-- r is the digits of the field from `at` on; where there are none, the field is no number
+pub record DigitsAre (most : ℕ) (l : List ℕ) (at : ℕ) (r : Found Field) : Type 0 where
+  pub ends : (f : Field) → r ≡ Some f → f.end ≡ at + span_of comma (drop at l)
+  pub reads : (f : Field) → r ≡ Some f → digits_from 0 (field_from l at) ≡ some f.value
+  pub fails : r ≡ None → number_of most (field_from l at) ≡ none
 
 -- r is the number of the field from `at` on
-pub record FieldIs (most : ℕ) (l : List ℕ) (at : ℕ) (r : Field) : Type 0 where
-  pub ends : r.ok ≡ true → r.end ≡ at + span_of comma (drop at l)
+pub record FieldIs (most : ℕ) (l : List ℕ) (at : ℕ) (r : Found Field) : Type 0 where
+  pub ends : (f : Field) → r ≡ Some f → f.end ≡ at + span_of comma (drop at l)
   pub number : as_field r ≡ number_of most (field_from l at)
 
 -- the array has the numbers of n lines of the kind with number k

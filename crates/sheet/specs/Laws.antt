@@ -1,3 +1,5 @@
+pub mod Refusals
+pub mod ByteKinds
 pub mod Order
 pub mod Decided
 pub mod Members

@@ -1,7 +1,9 @@
+pub mod Refusals
 pub mod Lists
 pub mod Computed
 pub mod Sorting
 pub mod Bytes
+pub mod ByteKinds
 pub mod Table
 pub mod Decimal
 pub mod Kinds
@@ -11,6 +13,7 @@ pub mod Text
 pub mod Valid
 pub mod Calls
 pub mod Store
+pub mod Held
 pub mod Seek
 pub mod Forms
 pub mod Inner

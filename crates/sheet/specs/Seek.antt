@@ -1,7 +1,8 @@
 -- A line sought among things in order, by its key: what is below a number comes before it, and what is from that number on does not. The contracts of the
 -- calls for the host cite nothing of this file.
-use Rattle.std.specs.Prelude.{◌≡◌, List, ℕ, ◌+◌, ◌*◌, ◌≤◌, ◌<◌, length, take, drop}
+use Rattle.std.specs.Prelude.{◌≡◌, Bool, List, ℕ, ◌+◌, ◌*◌, ◌≤◌, ◌<◌, length, take, drop}
 use Rattle.sheet.specs.Lists.{Lex}
+use Rattle.sheet.specs.Computed.{lexb}
 use Rattle.sheet.specs.declared.seek.Group.{Group}
 
 -- of n things with these keys, those below number `low` come before the key a, and those from number `high` on do not
@@ -10,6 +11,10 @@ pub record Parted (n : ℕ) (at : ℕ → List ℕ) (a : List ℕ) (low high : �
   pub most : high ≤ n
   pub before : (k : ℕ) → k < low → Lex (at k) a
   pub rest : (k : ℕ) → high ≤ k → k < n → Lex (at k) a → ⊥
+
+-- the test tells of each of n things with these keys whether it comes before the key a
+abbrev pub Tells : (ℕ → Bool → Type 0) → ℕ → (ℕ → List ℕ) → List ℕ → Type 0
+Tells test n at a = (k : ℕ) → k < n → (b : Bool) → test k b → b ≡ lexb (at k) a
 
 -- the first numbers of line i of the group, by which it is sought
 abbrev pub key_in : List ℕ → Group → ℕ → List ℕ

@@ -6,8 +6,8 @@ use Rattle.sheet.specs.Kinds.{Kind, width, room, kind_s, kinds}
 use Rattle.sheet.specs.Sheet.{Sheet, groups_of, Outcome, refused, loaded}
 use Rattle.sheet.specs.Calls.{groups, sheet_of_groups, write_end, written}
 use Rattle.sheet.specs.Valid.{Valid}
+use Rattle.sheet.specs.Refusals.{Verdict}
 use Rattle.sheet.specs.declared.SheetWritten.{SheetWritten}
-use Rattle.sheet.specs.declared.reader.Verdict.{Verdict}
 
 -- how many kinds there are, and the kind with number k in their order
 abbrev pub kind_count : ℕ

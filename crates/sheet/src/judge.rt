@@ -4,13 +4,15 @@ ghost use Rattle.std.specs.Prelude.{◌≡◌, map, ◌+◌, ◌≤◌, ◌<◌,
 ghost use Rattle.sheet.specs.Lists.{pick, number};
 ghost use Rattle.sheet.specs.Computed.{lexb};
 ghost use Rattle.sheet.specs.Sheet.{beyond, outside, unpaired};
+ghost use Rattle.sheet.specs.Refusals.{code};
 ghost use Rattle.sheet.specs.Store.{kind_count};
-ghost use Rattle.sheet.specs.Inner.{limit_at, pair_at, line_at, behind_by, turn_by, misplaced_by, UnknownIs, late_by, RowIs, Kept, LacksIs, FaultIs};
+ghost use Rattle.sheet.specs.Inner.{limit_at, pair_at, PairInside, line_at, behind_by, turn_by, misplaced_by, UnknownIs, late_by, RowIs, Kept, LacksIs, FaultIs};
 
 use crate::kinds::{
-    ALONE, C_LINE, CORRIDOR, COST, COUNT, DIFFERENT, FIRST_CORRIDOR, KINDS, O_LINE, PLACE, Row,
-    S_LINE, W_LINE, X_LINE,
+    C_LINE, CORRIDOR, COST, COUNT, FIRST_CORRIDOR, KINDS, O_LINE, PLACE, Pair, Row, S_LINE, W_LINE,
+    X_LINE,
 };
+use crate::refusal::Refusal;
 use crate::seek::{Group, holds};
 
 // Test 3, by the kind: no S line first, a second S, or a line after one of a later kind.
@@ -24,12 +26,10 @@ fn is_behind(lines: &[u32], kind: usize) -> bool
     if lines[S_LINE] == 0 {
         return true;
     }
-    let mut j = kind + 1;
-    while j < KINDS {
-        if lines[j] != 0 {
+    for later in kind + 1..KINDS {
+        if lines[later] != 0 {
             return true;
         }
-        j += 1;
     }
     false
 }
@@ -69,16 +69,12 @@ fn is_misplaced(lines: &[u32], all: &[u32], kind: usize, values: [u32; 8]) -> bo
 fn is_beyond(places: u32, limit: u8, n: u32) -> bool
     ensures { result ≡ beyond places (limit_at limit) n }
 {
-    if limit == PLACE {
-        return places <= n;
+    match limit {
+        PLACE => places <= n,
+        COST => 60000 < n,
+        COUNT => (n < 1) | (64 < n),
+        _ => (limit as u32) < n,
     }
-    if limit == COST {
-        return 60000 < n;
-    }
-    if limit == COUNT {
-        return (n < 1) | (64 < n);
-    }
-    (limit as u32) < n
 }
 
 // Test 4: one of the first w numbers is outside its limit.
@@ -86,12 +82,11 @@ fn is_outside(places: u32, limits: [u8; 8], w: usize, values: [u32; 8]) -> bool
     requires { w ≤ 8 }
     ensures { result ≡ outside places (map limit_at (take w limits)) (take w values) }
 {
-    let mut i = 0;
-    while i < w {
-        if is_beyond(places, limits[i], values[i]) {
+    // Stays: a loop, since with `any` waits and corridors are read slower by a sixth.
+    for (limit, n) in limits[..w].iter().zip(&values[..w]) {
+        if is_beyond(places, *limit, *n) {
             return true;
         }
-        i += 1;
     }
     false
 }
@@ -108,17 +103,15 @@ fn places_with(all: &[u32], kind: usize, values: [u32; 8]) -> u32
 }
 
 // Test 6: a corridor or a closure from a place to itself, or last below first.
-fn is_unpaired(pair: u8, one: usize, other: usize, values: [u32; 8]) -> bool
-    requires { (one < 8) × (other < 8) }
-    ensures { result ≡ unpaired (pair_at pair one other) values }
+fn is_unpaired(pair: Pair, values: [u32; 8]) -> bool
+    requires { PairInside 8 (pair_at pair) }
+    ensures { result ≡ unpaired (pair_at pair) values }
 {
-    if pair == ALONE {
-        return false;
+    match pair {
+        Pair::Alone => false,
+        Pair::Different(one, other) => values[one] == values[other],
+        Pair::Ordered(one, other) => values[other] < values[one],
     }
-    if pair == DIFFERENT {
-        return values[one] == values[other];
-    }
-    values[other] < values[one]
 }
 
 // Test 15: a closure that names no corridor in the array.
@@ -146,8 +139,8 @@ fn is_late(all: &[u32], kind: usize, values: [u32; 8]) -> bool
     (kind == O_LINE) & (all[1] < values[1])
 }
 
-// Whether the first `key` numbers, at most three, of the row from `at` on stand before those of a line. Each is named: for a loop over them the line's
-// numbers would be written to memory.
+// Whether the first `key` numbers, at most three, of the row from `at` on stand before those of a line.
+// Stays: each number is named; for a loop over them the line's numbers would be written to memory, and reading would be slower.
 fn is_key_before(all: &[u32], at: usize, key: usize, values: [u32; 8]) -> bool
     requires { (key ≤ 3) × (at + key ≤ length all.now) }
     ensures { result ≡ lexb (take key (drop at all.now)) (take key values) }
@@ -172,41 +165,47 @@ fn is_key_before(all: &[u32], at: usize, key: usize, values: [u32; 8]) -> bool
     all[at + 2] < values[2]
 }
 
-// The fault of a line of the row's kind after the lines in the array: the number of the first test that it fails, 0 for none. Test 5, not above the last
-// of the n lines of its kind, is made here: the compiler takes what stands behind six tests for rare, would call it, and would write row and numbers to
-// memory for the call.
-pub fn fault_of(lines: &[u32], all: &[u32], kind: usize, row: Row, values: [u32; 8]) -> u32
+// The fault of a line of the row's kind after the lines in the array: the refusal of the first test that it fails. Test 5, not above the last of the n
+// lines of its kind, is made here: the compiler takes what stands behind six tests for rare, would call it, and would write row and numbers to memory for
+// the call.
+pub fn fault_of(
+    lines: &[u32],
+    all: &[u32],
+    kind: usize,
+    row: Row,
+    values: [u32; 8],
+) -> Result<(), Refusal>
     requires { (kind < kind_count) × (Kept lines.now all.now) × (RowIs kind row) }
-    ensures { FaultIs lines.now all.now (line_at kind values) result }
+    ensures { FaultIs lines.now all.now (line_at kind values) (code result) }
 {
     let n = lines[kind];
     let limits = row.limits;
     if is_misplaced(lines, all, kind, values) {
-        return 3;
+        return Err(Refusal::OutOfOrder);
     }
     if row.most <= n {
-        return 7;
+        return Err(Refusal::TooManyLines);
     }
     if is_outside(places_with(all, kind, values), limits, row.width, values) {
-        return 4;
+        return Err(Refusal::OutOfRange);
     }
-    if is_unpaired(row.pair, row.one, row.other, values) {
-        return 6;
+    if is_unpaired(row.pair, values) {
+        return Err(Refusal::Reversed);
     }
     if is_unknown(lines, all, kind, values) {
-        return 15;
+        return Err(Refusal::NoCorridor);
     }
     if is_late(all, kind, values) {
-        return 16;
+        return Err(Refusal::Late);
     }
     if n == 0 {
-        return 0;
+        return Ok(());
     }
     let last = row.base + (n as usize - 1) * row.width;
     if !is_key_before(all, last, row.key, values) {
-        return 5;
+        return Err(Refusal::NotAscending);
     }
-    0
+    Ok(())
 }
 
 // Whether something is missing where the input ends after the lines in the array: the S line, or a W line.

@@ -5,6 +5,7 @@ ghost use Rattle.sheet.specs.Store.{kind_count};
 ghost use Rattle.sheet.specs.Inner.{RowIs};
 
 // The number of each kind, its `order` in specs/Kinds.antt, and how many kinds there are.
+// Stays: numbers, since counts of lines and groups are indexed by them, and the host is handed the counts in their order.
 pub const S_LINE: usize = 0;
 
 pub const W_LINE: usize = 1;
@@ -55,6 +56,7 @@ pub const DIGITS: usize = 5;
 
 // The limits of numbers: a place of the sheet; a cost, 0 to 60,000; the count of places, 1 to 64; any other by its highest, from 0 on. They fit into a
 // byte each, so that a row's limits are one number and no constant of the archive.
+// Stays: bytes, since a `match` on an enum of five limits brings tables of 100 bytes into the archive, which may have no more constants (E4).
 pub const PLACE: u8 = 0;
 
 pub const COST: u8 = 60;
@@ -65,24 +67,23 @@ pub const UNLOAD: u8 = 99;
 
 pub const STEP: u8 = 255;
 
-// What two numbers of a line must be: nothing; different; the first at most the second.
-pub const ALONE: u8 = 0;
+// What two numbers of a line must be, by their positions: nothing; different; the first at most the second.
+#[derive(Clone, Copy, PartialEq, Eq)]
+pub enum Pair {
+    Alone,
+    Different(usize, usize),
+    Ordered(usize, usize),
+}
 
-pub const DIFFERENT: u8 = 1;
-
-pub const ORDERED: u8 = 2;
-
-// A kind of line: its letter, the count of its numbers and their limits, the most lines, what the numbers at two positions must be, by how many first
-// numbers its lines ascend, and where its group begins in the array of all groups.
+// A kind of line: its letter, the count of its numbers and their limits, the most lines, what two of the numbers must be, by how many first numbers its
+// lines ascend, and where its group begins in the array of all groups.
 #[derive(Clone, Copy)]
 pub struct Row {
     pub letter: u8,
     pub width: usize,
     pub limits: [u8; 8],
     pub most: u32,
-    pub pair: u8,
-    pub one: usize,
-    pub other: usize,
+    pub pair: Pair,
     pub key: usize,
     pub base: usize,
 }
@@ -96,9 +97,7 @@ fn head_row() -> Row
         width: HEAD,
         limits: [COUNT, STEP, PLACE, PLACE, UNLOAD, 0, 0, 0],
         most: 1,
-        pair: ALONE,
-        one: 0,
-        other: 0,
+        pair: Pair::Alone,
         key: 0,
         base: 0,
     }
@@ -113,9 +112,7 @@ fn wait_row() -> Row
         width: WAIT,
         limits: [PLACE, COST, COST, COST, 0, 0, 0, 0],
         most: 64,
-        pair: ALONE,
-        one: 0,
-        other: 0,
+        pair: Pair::Alone,
         key: 1,
         base: FIRST_WAIT,
     }
@@ -130,9 +127,7 @@ fn corridor_row() -> Row
         width: CORRIDOR,
         limits: [PLACE, PLACE, COST, COST, COST, 0, 0, 0],
         most: 256,
-        pair: DIFFERENT,
-        one: 0,
-        other: 1,
+        pair: Pair::Different(0, 1),
         key: 2,
         base: FIRST_CORRIDOR,
     }
@@ -147,9 +142,7 @@ fn closure_row() -> Row
         width: CLOSURE,
         limits: [PLACE, PLACE, STEP, 0, 0, 0, 0, 0],
         most: 256,
-        pair: DIFFERENT,
-        one: 0,
-        other: 1,
+        pair: Pair::Different(0, 1),
         key: 3,
         base: FIRST_CLOSURE,
     }
@@ -164,9 +157,7 @@ fn occupancy_row() -> Row
         width: OCCUPANCY,
         limits: [PLACE, STEP, STEP, 0, 0, 0, 0, 0],
         most: 256,
-        pair: ORDERED,
-        one: 1,
-        other: 2,
+        pair: Pair::Ordered(1, 2),
         key: 3,
         base: FIRST_OCCUPANCY,
     }
@@ -177,17 +168,11 @@ pub fn row_of(k: usize) -> Row
     requires { k < kind_count }
     ensures { RowIs k result }
 {
-    if k == S_LINE {
-        return head_row();
+    match k {
+        S_LINE => head_row(),
+        W_LINE => wait_row(),
+        C_LINE => corridor_row(),
+        X_LINE => closure_row(),
+        _ => occupancy_row(),
     }
-    if k == W_LINE {
-        return wait_row();
-    }
-    if k == C_LINE {
-        return corridor_row();
-    }
-    if k == X_LINE {
-        return closure_row();
-    }
-    occupancy_row()
 }

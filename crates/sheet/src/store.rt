@@ -2,11 +2,13 @@
 ghost use Rattle.std.specs.Prelude.{◌≡◌, ◌+◌, ◌≤◌, ◌<◌, leb, length, get_or, set, take};
 ghost use Rattle.std.proofs.lemmas.List.Edits.{sets};
 ghost use Rattle.sheet.specs.Lists.{pick};
+ghost use Rattle.sheet.specs.Refusals.{code};
 ghost use Rattle.sheet.specs.Store.{kind_count};
 ghost use Rattle.sheet.specs.Inner.{line_at, Kept, Takes};
 
 use crate::judge::fault_of;
 use crate::kinds::row_of;
+use crate::refusal::Refusal;
 
 // Writes number i of v, if it is one of the first w, into its place from `at` on.
 fn store_one(all: &mut [u32], at: usize, v: [u32; 8], w: usize, i: usize)
@@ -19,7 +21,8 @@ fn store_one(all: &mut [u32], at: usize, v: [u32; 8], w: usize, i: usize)
     all[at + i] = v[i];
 }
 
-// Writes the first w numbers of v from `at` on. The loop is over all of v: one that ends at w becomes a call of memcpy for a dozen bytes.
+// Writes the first w numbers of v from `at` on.
+// Stays: the loop is over all of v; one that ends at w, or copy_from_slice, becomes a call of memcpy for a dozen bytes, which is slower.
 fn store(all: &mut [u32], at: usize, v: [u32; 8], w: usize)
     requires { (w ≤ 8) × (at + w ≤ length all.old) }
     ensures { all.new ≡ sets all.old at (take w v) }
@@ -29,19 +32,21 @@ fn store(all: &mut [u32], at: usize, v: [u32; 8], w: usize)
     }
 }
 
-// Judges a line after the lines in the array, and stores it after those of its kind if it has no fault; the fault, 0 for none.
-pub fn take_line(lines: &mut [u32], all: &mut [u32], kind: usize, v: [u32; 8]) -> u32
+// Judges a line after the lines in the array, and stores it after those of its kind if it has no fault.
+pub fn take_line(
+    lines: &mut [u32],
+    all: &mut [u32],
+    kind: usize,
+    v: [u32; 8],
+) -> Result<(), Refusal>
     requires { (kind < kind_count) × (Kept lines.old all.old) }
-    ensures { Takes lines.old all.old (line_at kind v) lines.new all.new result }
+    ensures { Takes lines.old all.old (line_at kind v) lines.new all.new (code result) }
 {
     let row = row_of(kind);
-    let f = fault_of(lines, all, kind, row, v);
-    if f != 0 {
-        return f;
-    }
+    fault_of(lines, all, kind, row, v)?;
     let n = lines[kind];
     let at = row.base + n as usize * row.width;
     store(all, at, v, row.width);
     lines[kind] = n + 1;
-    0
+    Ok(())
 }

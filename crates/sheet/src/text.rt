@@ -10,6 +10,7 @@ ghost use Rattle.sheet.specs.Laws.Puts.{Puts};
 use crate::kinds::{DIGITS, KINDS, row_of};
 
 // Writes the digits of n, at most `most` of them, from `at` on; the position after them.
+// Stays: a recursion, since the last digit is found first and written last.
 pub fn put_digits(out: &mut [u8], at: usize, n: u64, most: usize) -> usize
     requires { at + length (digits_of most n) ≤ length out.old }
     ensures { Puts (digits_of most n) out.old at out.new result }
@@ -42,10 +43,8 @@ pub fn put_line(out: &mut [u8], at: usize, letter: u8, numbers: &[u64], most: us
 {
     out[at] = letter;
     let mut next = at + 1;
-    let mut i = 0;
-    while i < numbers.len() {
-        next = put_number(out, next, numbers[i], most);
-        i += 1;
+    for n in numbers {
+        next = put_number(out, next, *n, most);
     }
     out[next] = 10;
     next + 1
@@ -56,7 +55,7 @@ pub fn put_refusal(out: &mut [u8], number: u32, line: u32) -> usize
     requires { 24 ≤ length out.old }
     ensures { Puts (refusal_line number line) out.old 0 out.new result }
 {
-    let told = [number as u64, line as u64];
+    let told = [u64::from(number), u64::from(line)];
     put_line(out, 0, 82, &told, 10)
 }
 
@@ -65,14 +64,14 @@ pub fn widen(numbers: &[u32], to: &mut [u64])
     requires { length numbers.now ≤ length to.old }
     ensures { to.new ≡ sets to.old 0 numbers.now }
 {
-    let mut i = 0;
-    while i < numbers.len() {
-        to[i] = numbers[i] as u64;
-        i += 1;
+    // Stays: by position, since a loop over a `zip` with `iter_mut` tells a proof nothing of what it wrote.
+    for (i, n) in numbers.iter().enumerate() {
+        to[i] = u64::from(*n);
     }
 }
 
 // The count of the digits of n, at most `most` of them.
+// Stays: a recursion, since `ilog10` would bring its table of powers into the archive, which may have no more constants (E4).
 pub fn digits_in(n: u64, most: usize) -> usize
     ensures { (result ≡ length (digits_of most n)) × (result ≤ most) }
 {
@@ -95,13 +94,11 @@ fn put_group(out: &mut [u8], at: usize, k: usize, all: &[u32], n: usize) -> usiz
     let base = row.base;
     let mut numbers = [0u64; 8];
     let mut next = at;
-    let mut i = 0;
-    while i < n {
+    for i in 0..n {
         let from = base + i * w;
         let to = from + w;
         widen(&all[from..to], &mut numbers);
         next = put_line(out, next, row.letter, &numbers[..w], DIGITS);
-        i += 1;
     }
     next
 }
@@ -112,13 +109,10 @@ fn group_bytes(k: usize, all: &[u32], n: usize) -> usize
     ensures { (result ≡ length (group_text k n all.now)) × (result ≤ group_bytes) }
 {
     let row = row_of(k);
-    let base = row.base;
-    let m = n * row.width;
+    let end = row.base + n * row.width;
     let mut bytes = 2 * n;
-    let mut i = 0;
-    while i < m {
-        bytes += 1 + digits_in(all[base + i] as u64, DIGITS);
-        i += 1;
+    for number in &all[row.base..end] {
+        bytes += 1 + digits_in(u64::from(*number), DIGITS);
     }
     bytes
 }

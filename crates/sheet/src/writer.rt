@@ -3,15 +3,17 @@ ghost use Rattle.std.specs.Prelude.{◌≡◌, ◌+◌, ◌≤◌, ◌<◌, leng
 ghost use Rattle.sheet.specs.Lists.{filled};
 ghost use Rattle.sheet.specs.Kinds.{width, kind_s};
 ghost use Rattle.sheet.specs.Calls.{groups, judged_groups, write_call, write_end};
+ghost use Rattle.sheet.specs.Refusals.{number_of, verdict, verdict_at};
 ghost use Rattle.sheet.specs.Store.{kind_count, Blank, SomeStore, VerdictIs, WrittenIs};
-ghost use Rattle.sheet.specs.Inner.{Ready, GroupTaken};
+ghost use Rattle.sheet.specs.Inner.{GroupReached, GroupTaken};
 
 use crate::SheetWritten;
 use crate::kinds::{
     C_LINE, CLOSURE, CORRIDOR, HEAD, KINDS, O_LINE, OCCUPANCY, S_LINE, STORE, W_LINE, WAIT, X_LINE,
     row_of,
 };
-use crate::reader::{Verdict, ended, passed};
+use crate::reader::ended;
+use crate::refusal::{Refusal, Refused};
 use crate::store::take_line;
 use crate::text::{put_sheet, sheet_bytes};
 
@@ -21,44 +23,40 @@ fn row_at(g: &[u32], from: usize, w: usize) -> [u32; 8]
     ensures { result ≡ filled 8 (take w (drop from g.now)) }
 {
     let mut v = [0u32; 8];
-    let mut i = 0;
-    while i < w {
-        v[i] = g[from + i];
-        i += 1;
-    }
+    v[..w].copy_from_slice(&g[from..from + w]);
     v
 }
 
-// Takes the lines of kind k whose numbers stand in g one after another, after those judged so far: the first refusal with its line, or 0 and the number
-// of the line after them.
-fn take_group(lines: &mut [u32], all: &mut [u32], k: usize, g: &[u32], judged: Verdict) -> Verdict
-    requires { (k < kind_count) × (Ready lines.old all.old judged) }
-    ensures { GroupTaken k g.now lines.old all.old judged lines.new all.new result }
+// Takes the lines of kind k whose numbers stand in g one after another, after those in the array, of which the next has the number n: the number of the
+// line after them. Or refuses the first that has a fault.
+fn take_group(
+    lines: &mut [u32],
+    all: &mut [u32],
+    k: usize,
+    g: &[u32],
+    n: u32,
+) -> Result<u32, Refused>
+    requires { (k < kind_count) × (GroupReached lines.old all.old n) }
+    ensures { GroupTaken k g.now lines.old all.old n lines.new all.new (verdict_at result) }
 {
-    if judged.refusal != 0 {
-        return judged;
-    }
     let row = row_of(k);
     let w = row.width;
     let count = g.len() / w;
-    let mut next = judged.line;
-    let mut i = 0;
-    while i < count {
+    let mut next = n;
+    for i in 0..count {
         let v = row_at(g, i * w, w);
-        let fault = take_line(lines, all, k, v);
-        if fault != 0 {
-            return Verdict {
-                refusal: fault,
+        if let Err(refusal) = take_line(lines, all, k, v) {
+            return Err(Refused {
+                refusal,
                 line: next,
-            };
+            });
         }
         next += 1;
-        i += 1;
     }
-    passed(next)
+    Ok(next)
 }
 
-// Takes the groups as the lines of a sheet into the array of all groups, with the counts of lines: 0, or a refusal with the line at fault.
+// Takes the groups as the lines of a sheet into the array of all groups, with the counts of lines; or refuses them, with the line at fault.
 fn take_groups(
     head: &[u32],
     waits: &[u32],
@@ -67,26 +65,28 @@ fn take_groups(
     occupancies: &[u32],
     lines: &mut [u32],
     all: &mut [u32],
-) -> Verdict
+) -> Result<(), Refused>
     requires { (length head.now ≡ width kind_s) × (Blank lines.old all.old) }
     ensures { VerdictIs
         (judged_groups (groups head.now waits.now corridors.now closures.now occupancies.now))
-        lines.new all.new result }
+        lines.new all.new (verdict result) }
 {
-    let s = take_group(lines, all, S_LINE, head, passed(1));
-    let w = take_group(lines, all, W_LINE, waits, s);
-    let c = take_group(lines, all, C_LINE, corridors, w);
-    let x = take_group(lines, all, X_LINE, closures, c);
-    let o = take_group(lines, all, O_LINE, occupancies, x);
+    let s = take_group(lines, all, S_LINE, head, 1)?;
+    let w = take_group(lines, all, W_LINE, waits, s)?;
+    let c = take_group(lines, all, C_LINE, corridors, w)?;
+    let x = take_group(lines, all, X_LINE, closures, c)?;
+    let o = take_group(lines, all, O_LINE, occupancies, x)?;
     ended(lines, all, o)
 }
 
-fn refuse(number: u32, line: u32) -> SheetWritten
-    ensures { (result.refusal ≡ number) × (result.line ≡ line) × (result.bytes ≡ 0) }
+// A refusal at a line, 0 where no line is.
+// Stays: beside the reader's `refuse`, since each makes another of C's structs.
+fn refuse(r: Refused) -> SheetWritten
+    ensures { (result.refusal ≡ number_of r.refusal) × (result.line ≡ r.line) × (result.bytes ≡ 0) }
 {
     SheetWritten {
-        refusal: number,
-        line,
+        refusal: r.refusal.number(),
+        line: r.line,
         bytes: 0,
     }
 }
@@ -98,7 +98,10 @@ pub fn write_stored(lines: &[u32], all: &[u32], out: &mut [u8]) -> SheetWritten
 {
     let bytes = sheet_bytes(lines, all);
     if out.len() < bytes {
-        return refuse(12, 0);
+        return refuse(Refused {
+            refusal: Refusal::RoomSheet,
+            line: 0,
+        });
     }
     put_sheet(lines, all, out);
     SheetWritten {
@@ -127,11 +130,14 @@ pub fn write(
         | (closures.len() % CLOSURE != 0)
         | (occupancies.len() % OCCUPANCY != 0)
     {
-        return refuse(2, 0);
+        return refuse(Refused {
+            refusal: Refusal::Malformed,
+            line: 0,
+        });
     }
     let mut lines = [0u32; KINDS];
     let mut all = [0u32; STORE];
-    let v = take_groups(
+    let taken = take_groups(
         head,
         waits,
         corridors,
@@ -140,8 +146,8 @@ pub fn write(
         &mut lines,
         &mut all,
     );
-    if v.refusal != 0 {
-        return refuse(v.refusal, v.line);
+    match taken {
+        Ok(()) => write_stored(&lines, &all, out),
+        Err(refused) => refuse(refused),
     }
-    write_stored(&lines, &all, out)
 }

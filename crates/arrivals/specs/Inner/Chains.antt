@@ -1,8 +1,7 @@
 -- Items of a list chained by a key, of which each item has one: the corridors by one of their places, the closures by the place that they lead to and
 -- their step. For each key one more than the last item of that key; then for each item one more than the last before it of the same key.
-use Rattle.std.specs.Prelude.{◌≡◌, List, ◌⊎◌, ℕ, ◌+◌, ◌*◌, ◌-◌, ◌/◌, ◌%◌, ◌≤◌, ◌<◌, length, get_or, set}
-use Rattle.std.proofs.Common.{sym, ap, ap₂, ◌∙◌, subst, inl, inr, ⊎_elim, arith, length-set, get_or-set_same, get_or-set_other}
-use Rattle.std.proofs.Math.Decide.{ℕ_discrete}
+use Rattle.std.specs.Prelude.{◌≡◌, List, ◌⊎◌, ℕ, ◌+◌, ◌*◌, ◌-◌, ◌/◌, ◌%◌, ◌≤◌, ◌<◌, get_or, set}
+use Rattle.std.proofs.Common.{sym, ap₂, ◌∙◌, subst, inl, inr, ⊎_elim, arith}
 use Rattle.sheet.specs.Laws.Decided.{lt-or-le}
 use Rattle.arrivals.specs.Rows.{Besides}
 
@@ -63,10 +62,6 @@ pub record Passed (k : Chain) (net : List ℕ) (m v : ℕ) (P : ℕ → Type 0) 
   pub most : j ≤ m
   pub none : (i : ℕ) → j ≤ i → i < m → key_of k net i ≡ v → P i → ⊥
 
-pub passed_first : {k : Chain} {net : List ℕ} {m : ℕ} (v : ℕ) {P : ℕ → Type 0} {r : ℕ} → Chained k net m → v < k.keys → r ≡ last_of k net v
-    → Passed k net m v P r
-passed_first v w l e = record { most = omega (arith, e, w.heads v l); none = λ i a b c p. w.head v i l (omega (arith, e)) b c }
-
 pub passed-next : {k : Chain} {net : List ℕ} {m v : ℕ} {P : ℕ → Type 0} {j r : ℕ} → 0 < j → (P (j - 1) → ⊥) → NextOne k net v (j - 1) r
     → Passed k net m v P j → Passed k net m v P r
 passed-next {k} {net} {m} {v} {P} {j} {r} o n x w =
@@ -80,15 +75,6 @@ passed-next {k} {net} {m} {v} {P} {j} {r} o n x w =
 
 pub passed-all : {k : Chain} {net : List ℕ} {m v : ℕ} {P : ℕ → Type 0} {j : ℕ} → j ≤ 0 → Passed k net m v P j → (i : ℕ) → i < m → key_of k net i ≡ v → P i → ⊥
 passed-all z w i b c p = w.none i (omega arith) b c p
-
-pub chained-none : (k : Chain) (net : List ℕ) → ((i : ℕ) → k.first ≤ i → i < past_of k → get_or net i 0 ≡ 0) → Chained k net 0
-chained-none k net zeros =
-    record {
-      head = λ v j b x y z. absurd (omega arith);
-      heads = λ v b. omega (arith, zeros (k.first + v) (omega arith) (omega arith));
-      next = λ i j b x y z. absurd (omega arith);
-      nexts = λ j b. absurd (omega arith);
-    }
 
 -- numbers that are neither of the chain nor keys play no part in it
 pub chained-kept : {lo hi : ℕ} {a b : List ℕ} (k : Chain) (m : ℕ) → m ≤ 256 → (hi ≤ k.first) ⊎ (past_of k ≤ lo)
@@ -113,65 +99,3 @@ chained-kept {lo} {hi} {a} {b} k m few apart keys kept w =
 -- the list with item m put into the chain of key v, where the chain begins at first and has so many keys
 abbrev pub chained_with : ℕ → ℕ → List ℕ → ℕ → ℕ → List ℕ
 chained_with first keys net v m = set (set net (first + keys + m) (get_or net (first + v) 0)) (first + v) (m + 1)
-
--- one item more, of key v
-module _ (k : Chain) (net : List ℕ) (v m : ℕ) (is : v ≡ key_of k net m) (few : m < 256) (size : past_of k ≤ length net) (inside : v < k.keys)
-    (apart : Outside k k.first (past_of k)) (w : Chained k net m) where
-  abbrev one : List ℕ
-  one = set net (k.first + k.keys + m) (last_of k net v)
-
-  abbrev both : List ℕ
-  both = chained_with k.first k.keys net v m
-
-  same : (j : ℕ) → (j ≡ k.first + k.keys + m → ⊥) → (j ≡ k.first + v → ⊥) → get_or both j 0 ≡ get_or net j 0
-  same j n o = get_or-set_other one (k.first + v) j (m + 1) 0 o ∙ get_or-set_other net (k.first + k.keys + m) j (last_of k net v) 0 n
-
-  pub chained-besides : Besides k.first (past_of k) net (chained_with k.first k.keys net v m)
-  chained-besides = record { size = simp length-set; same = λ i o. ⊎_elim (λ l. same i (λ e. omega arith) (λ e. omega arith)) (λ l. same i (λ e. omega arith) (λ e. omega arith)) o }
-
-  key : (j : ℕ) → j < 256 → key_of k both j ≡ key_of k net j
-  key j l = key-kept k apart chained-besides j l
-
-  new-head : last_of k both v ≡ m + 1
-  new-head = get_or-set_same one (k.first + v) (m + 1) 0 (simp length-set (omega arith))
-
-  new-next : next_of k both m ≡ last_of k net v
-  new-next =
-      get_or-set_other one (k.first + v) (k.first + k.keys + m) (m + 1) 0 (λ e. omega arith)
-      ∙ get_or-set_same net (k.first + k.keys + m) (last_of k net v) 0 (omega arith)
-
-  old-next : (j : ℕ) → j < m → next_of k both j ≡ next_of k net j
-  old-next j l = same (k.first + k.keys + j) (λ e. omega arith) (λ e. omega arith)
-
-  old-head : (u : ℕ) → u < k.keys → (u ≡ v → ⊥) → last_of k both u ≡ last_of k net u
-  old-head u l n = same (k.first + u) (λ e. omega arith) (λ e. n (omega arith))
-
-  abbrev Heads : ℕ → Type 0
-  Heads u = (last_of k both u ≤ m + 1) × ((j : ℕ) → last_of k both u ≤ j → j < m + 1 → key_of k both j ≡ u → ⊥)
-
-  heads-at : (u : ℕ) → u < k.keys → Dec (u ≡ v) → Heads u
-  heads-at u l (yes e) = subst Heads (sym e) (omega (arith, new-head), λ j x y z. omega (arith, new-head))
-  heads-at u l (no n) = (
-    omega (arith, old-head u l n, w.heads u l),
-    λ j x y z. ⊎_elim
-        (λ lt. w.head u j l (omega (arith, old-head u l n)) lt (sym (key j (omega arith)) ∙ z))
-        (λ ge. n (sym z ∙ key j (omega arith) ∙ ap (key_of k net) (let e : j ≡ m = omega arith in e) ∙ sym is))
-        (lt-or-le j m),
-  )
-
-  pub chained_more : Chained k (chained_with k.first k.keys net v m) (m + 1)
-  chained_more =
-      record {
-        head = λ u j b x y z. (heads-at u b (ℕ_discrete u v)).1 j x y z;
-        heads = λ u b. (heads-at u b (ℕ_discrete u v)).0;
-        next = λ i j b x y z. ⊎_elim
-            (λ lt. w.next i j lt (omega (arith, old-next j lt)) y (sym (key i (omega arith)) ∙ z ∙ key j (omega arith)))
-            (λ ge. let e : j ≡ m = omega arith in
-            w.head v i inside (omega (arith, new-next, subst (λ (n : ℕ). next_of k both n ≤ i) e x)) (omega arith)
-            (sym (key i (omega arith)) ∙ z ∙ key j (omega arith) ∙ ap (key_of k net) e ∙ sym is))
-            (lt-or-le j m);
-        nexts = λ j b. ⊎_elim
-            (λ lt. omega (arith, old-next j lt, w.nexts j lt))
-            (λ ge. let e : m ≡ j = omega arith in subst (λ (n : ℕ). next_of k both n ≤ n) e (omega (arith, new-next, w.heads v inside)))
-            (lt-or-le j m);
-      }

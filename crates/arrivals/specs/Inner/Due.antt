@@ -2,15 +2,13 @@
 -- rule spares every row.
 use Rattle.std.specs.Prelude.{◌≡◌, List, Bool, true, false, ◌⊎◌, ℕ, ◌+◌, ◌≤◌, ◌<◌, ltb, length}
 use Rattle.std.proofs.Common.{sym, ap, ◌∙◌, subst, inl, inr, ⊎_elim, arith, lt-ltb}
-use Rattle.std.proofs.Math.Decide.{ℕ_discrete}
 use Rattle.std.specs.Int.Bits.{bit_or}
-use Rattle.sheet.specs.Lists.{pick, number}
-use Rattle.sheet.specs.Kinds.{kind_o}
-use Rattle.sheet.specs.Store.{part_of}
+use Rattle.sheet.specs.Lists.{pick, number, flat}
+use Rattle.sheet.specs.Sheet.{Sheet}
 use Rattle.sheet.specs.Laws.Decided.{lt-or-le}
 use Rattle.intervals.specs.FirstSteps.{SinceTable}
 use Rattle.intervals.specs.Sets.{Has, Kept, Begun}
-use Rattle.intervals.specs.Laws.Sets.{kept-none, kept_on, has_left, has_right, has_all}
+use Rattle.intervals.specs.Laws.Sets.{has_left, has_right, has_all}
 use Rattle.arrivals.specs.Rows.{Row, row_at}
 use Rattle.arrivals.specs.Laws.Rows.{row_kept}
 use Rattle.arrivals.specs.Inner.Rows.{rows_of, all-at}
@@ -20,8 +18,7 @@ use Rattle.arrivals.specs.Inner.Entering.{Less}
 use Rattle.arrivals.specs.Inner.Pruning.{Steady, steady-of}
 use Rattle.arrivals.specs.Inner.Filling.{Filled, Result, Visiting, Grown}
 use Rattle.arrivals.specs.Inner.Index.{Indexed, Covers}
-use Rattle.arrivals.specs.declared.offers.Outcome.{Outcome}
-use Rattle.arrivals.specs.declared.fill.Stepped.{Stepped}
+use Rattle.arrivals.specs.Inner.Outcomes.{Outcome, StepOutcome}
 
 -- the listed rows before step t cover the rows of every place
 abbrev pub Covered : List ℕ → List ℕ → ℕ → List ℕ → ℕ → Type 0
@@ -67,38 +64,13 @@ pub record Searchable (free net sets : List ℕ) (last : ℕ) : Type 0 where
   pub day : last ≤ 255
   pub watching : Watching free net sets
 
--- the sets, for the first steps of the sheet in the array
-pub record Watches (lines all net sets : List ℕ) : Type 0 where
-  pub of : (free : List ℕ) → SinceTable (part_of lines all kind_o.order) free → Watching free net sets
+-- the sets, for the first steps of a sheet
+pub record Watches (s : Sheet) (net sets : List ℕ) : Type 0 where
+  pub of : (free : List ℕ) → SinceTable (flat s.occupancies) free → Watching free net sets
 
-pub links-none : (net xs : List ℕ) → LinksWatched net 0 xs xs
-links-none net xs = record { kept = kept-none xs; onward = λ j l. absurd (omega arith); dear = λ j l. absurd (omega arith) }
-
-pub links-more : (net : List ℕ) (m : ℕ) (xs ys zs : List ℕ) → LinksWatched net m xs ys → LinkWatched net m ys zs → LinksWatched net (m + 1) xs zs
-links-more net m xs ys zs a b =
-    record { kept = kept_on a.kept b.kept; onward = λ j l. onward j l (ℕ_discrete j m); dear = λ j l. dear j l (ℕ_discrete j m) }
-  where
-    onward : (j : ℕ) → j < m + 1 → Dec (j ≡ m) → Has (number zs (258 + link_of net 0 j)) (link_of net 1 j)
-    onward j l (yes e) = subst (λ (i : ℕ). Has (number zs (258 + link_of net 0 i)) (link_of net 1 i)) (sym e) b.onward
-    onward j l (no e) = b.kept.more _ _ (a.onward j (omega arith))
-
-    dear : (j : ℕ) → j < m + 1 → Dec (j ≡ m) → (dear_of net j ≡ 0) ⊎ Has (number zs 322) (link_of net 1 j)
-    dear j l (yes e) = subst (λ (i : ℕ). (dear_of net i ≡ 0) ⊎ Has (number zs 322) (link_of net 1 i)) (sym e) b.dear
-    dear j l (no e) = ⊎_elim (λ z. inl z) (λ h. inr (b.kept.more _ _ h)) (a.dear j (omega arith))
-
-pub closures-none : (net xs : List ℕ) → ClosuresWatched net 0 xs xs
-closures-none net xs = record { kept = kept-none xs; own = λ x l. absurd (omega arith) }
-
-pub closures-more : (net : List ℕ) (m : ℕ) (xs ys zs : List ℕ) → ClosuresWatched net m xs ys → ClosureWatched net m ys zs → ClosuresWatched net (m + 1) xs zs
-closures-more net m xs ys zs a b = record { kept = kept_on a.kept b.kept; own = λ x l. own x l (ℕ_discrete x m) }
-  where
-    own : (x : ℕ) → x < m + 1 → Dec (x ≡ m) → closure_of net 2 x < 256 → Has (number zs (closure_of net 2 x + 2)) (closure_of net 1 x)
-    own x l (yes e) = subst (λ (i : ℕ). closure_of net 2 i < 256 → Has (number zs (closure_of net 2 i + 2)) (closure_of net 1 i)) (sym e) b.own
-    own x l (no e) = λ c. b.kept.more _ _ (a.own x (omega arith) c)
-
-pub watches : (lines all net xs ys zs ws : List ℕ) → 323 ≤ length xs → Begun lines all xs ys → LinksWatched net (count_of net) ys zs → ClosuresWatched net (closures_of net) zs ws
-    → Watches lines all net ws
-watches lines all net xs ys zs ws size a b c =
+pub watches : (s : Sheet) (net xs ys zs ws : List ℕ) → 323 ≤ length xs → Begun s xs ys → LinksWatched net (count_of net) ys zs → ClosuresWatched net (closures_of net) zs ws
+    → Watches s net ws
+watches s net xs ys zs ws size a b c =
     record {
       of = λ free table. record {
         size = omega (arith, a.kept.size, b.kept.size, c.kept.size);
@@ -198,7 +170,7 @@ pub record Stepping (free net xs ix : List ℕ) (s t v : ℕ) (o : Outcome) : Ty
   pub index : o.ok ≡ true → IndexedShort xs o.rows ix s t net
 
 -- what filling in step t leaves, and the places that corridors lead to from its rows
-pub record SteppedOn (free net xs ix : List ℕ) (t : ℕ) (o : Stepped) : Type 0 where
+pub record SteppedOn (free net xs ix : List ℕ) (t : ℕ) (o : StepOutcome) : Type 0 where
   pub result : Result (case_of free net) xs (t + 1) 0 o.ok o.rows
   pub index : o.ok ≡ true → IndexedShort xs o.rows ix t (t + 1) net
   pub onward : o.ok ≡ true → Onward net xs o.rows (t + 1) o.next

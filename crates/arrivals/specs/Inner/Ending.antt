@@ -9,7 +9,7 @@ use Rattle.sheet.specs.Laws.Decided.{false-not-true}
 use Rattle.arrivals.specs.Inner.Rows.{rows_of, rows-kept, zeros-at}
 use Rattle.arrivals.specs.Inner.Network.{Case}
 use Rattle.arrivals.specs.Inner.Filling.{Filled, filled-as, Crowded}
-use Rattle.arrivals.specs.declared.offers.Outcome.{Outcome}
+use Rattle.arrivals.specs.Inner.Outcomes.{Outcome}
 
 -- what the whole search leaves in a table of the given length: all rows before step t, and zeros; or zeros alone, where there is no room
 pub record Search (k : Case) (t size : ℕ) (xs : List ℕ) (ok : Bool) (n : ℕ) : Type 0 where

@@ -13,7 +13,7 @@ use Rattle.arrivals.specs.Inner.Network.{Case, case_of, since, since_in, wait_in
 use Rattle.arrivals.specs.Inner.Lent.{Given}
 use Rattle.arrivals.specs.declared.network.Here.{Here}
 use Rattle.arrivals.specs.Inner.Entering.{Ready, Stands, RowLeads, Cand, Lead, Open, Less, Complete, lead-of, lead_up, cand-down, open-down, cand-bounded, self-leads}
-use Rattle.arrivals.specs.declared.offers.Outcome.{Outcome}
+use Rattle.arrivals.specs.Inner.Outcomes.{Outcome}
 
 pub record RowBefore (r q : Row) : Type 0 where
   pub order : Less r.step r.place q.step q.place ⊎ ((r.step ≡ q.step) × (r.place ≡ q.place) × Lex r.cost q.cost)

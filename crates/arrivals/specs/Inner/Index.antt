@@ -152,46 +152,11 @@ pub record NotedAs (ix iy : List ℕ) (lo hi s v : ℕ) : Type 0 where
   pub noted : Noted ix iy lo hi s v last
 
 -- the numbers of two groups are apart
-odd_even : (a b : ℕ) → 64 + a * 2 + 1 ≡ 64 + b * 2 → ⊥
+pub odd_even : (a b : ℕ) → 64 + a * 2 + 1 ≡ 64 + b * 2 → ⊥
 odd_even a b e = omega arith
 
-one-group : (r u s v : ℕ) → u < 64 → v < 64 → r * 64 + u ≡ s * 64 + v → (r ≡ s) × (u ≡ v)
+pub one-group : (r u s v : ℕ) → u < 64 → v < 64 → r * 64 + u ≡ s * 64 + v → (r ≡ s) × (u ≡ v)
 one-group r u s v l m e = (omega arith, omega arith)
-
-pub regrouped : (ix : List ℕ) (at lo hi b s v : ℕ) → at ≡ group_at s v → s ≤ 255 → v < 64 → b < 512 → room_of s ≤ length ix
-    → Regrouped ix (set (set ix at lo) (at + 1) (hi * 512 + b)) lo hi b s v
-regrouped ix at lo hi b s v is l m bs size =
-    subst (λ (i : ℕ). Regrouped ix (set (set ix i lo) (i + 1) (hi * 512 + b)) lo hi b s v) (sym is)
-    (record {
-      group = record {
-        size = simp length-set (omega arith);
-        low = skip2 (group_at s v) (λ e. odd_even (s * 64 + v) (s * 64 + v) (sym e)) ∙ get_or-set_same ix (group_at s v) lo 0 (omega arith);
-        high = omega (arith, packed);
-        back = omega (arith, packed);
-        lows = λ r u a c n. skip2 (group_at r u) (λ e. odd_even (s * 64 + v) (r * 64 + u) (sym e)) ∙ skip1 (group_at r u) (λ e. apart r u c n (omega arith));
-        highs = λ r u a c n. ap (λ (x : ℕ). x / 512) (cell r u a c n);
-        backs = λ r u a c n. ap (λ (x : ℕ). x % 512) (cell r u a c n);
-      };
-      rest = λ j c. skip2 j (λ e. omega arith) ∙ skip1 j (λ e. omega arith);
-    })
-  where
-    i1 : List ℕ
-    i1 = set ix (group_at s v) lo
-
-    packed : get_or (set i1 (group_at s v + 1) (hi * 512 + b)) (group_at s v + 1) 0 ≡ hi * 512 + b
-    packed = get_or-set_same i1 (group_at s v + 1) (hi * 512 + b) 0 (simp length-set (omega arith))
-
-    skip1 : (j : ℕ) → (j ≡ group_at s v → ⊥) → get_or i1 j 0 ≡ get_or ix j 0
-    skip1 j n = get_or-set_other ix (group_at s v) j lo 0 n
-
-    skip2 : (j : ℕ) → (j ≡ group_at s v + 1 → ⊥) → get_or (set i1 (group_at s v + 1) (hi * 512 + b)) j 0 ≡ get_or i1 j 0
-    skip2 j n = get_or-set_other i1 (group_at s v + 1) j (hi * 512 + b) 0 n
-
-    apart : (r u : ℕ) → u < 64 → (r ≡ s → u ≡ v → ⊥) → r * 64 + u ≡ s * 64 + v → ⊥
-    apart r u c n e = let z = one-group r u s v c m e in n z.0 z.1
-
-    cell : (r u : ℕ) → r ≤ 255 → u < 64 → (r ≡ s → u ≡ v → ⊥) → get_or (set i1 (group_at s v + 1) (hi * 512 + b)) (group_at r u + 1) 0 ≡ get_or ix (group_at r u + 1) 0
-    cell r u a c n = skip2 (group_at r u + 1) (λ e. apart r u c n (omega arith)) ∙ skip1 (group_at r u + 1) (λ e. odd_even (r * 64 + u) (s * 64 + v) e)
 
 -- regrouped after the newest step of v is noted
 pub noted : (ix iy : List ℕ) (lo hi b s v : ℕ) → v < 64 → 64 ≤ length ix → Regrouped (set ix v (s + 1)) iy lo hi b s v → Noted ix iy lo hi s v b

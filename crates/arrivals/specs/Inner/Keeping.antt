@@ -2,10 +2,10 @@
 use Rattle.std.specs.Prelude.{◌≡◌, List, ◌⊎◌, ℕ, ◌+◌, ◌*◌, ◌≤◌, ◌<◌}
 use Rattle.std.proofs.Common.{sym, ◌∙◌, subst, inl, inr, ⊎_elim, arith}
 use Rattle.sheet.specs.Laws.Decided.{from-same, lt-or-le}
-use Rattle.costs.specs.Costs.{Cost, figures, add, AtMost}
-use Rattle.arrivals.specs.Rows.{cost_at, Besides, FiguresPut}
-use Rattle.arrivals.specs.Laws.Rows.{besides-none, besides-then, besides-wide}
-use Rattle.arrivals.specs.Inner.Lists.{cost_in, LedIn, Appended, RetainedOne, Among, Came, RetainedTo}
+use Rattle.costs.specs.Costs.{Cost, figures, AtMost}
+use Rattle.arrivals.specs.Rows.{Besides, FiguresPut}
+use Rattle.arrivals.specs.Laws.Rows.{besides-then, besides-wide}
+use Rattle.arrivals.specs.Inner.Lists.{cost_in, LedIn, RetainedOne, Among, Came, RetainedTo}
 use Rattle.arrivals.specs.declared.lists.Part.{Part}
 
 -- what holds of each number below i, and of i
@@ -20,35 +20,6 @@ cost-aside {lo} {hi} {a} {b} p at i o =
     from-same figures (at + i * 3) (at + i * 3) b a
     (λ j l. p.same (at + i * 3 + j) (⊎_elim (λ m. inl (omega arith)) (λ m. inr (omega arith)) o))
 
--- the same figures, otherwise said
-pub figures-as : {at : ℕ} {c d : Cost} {a b : List ℕ} → c ≡ d → FiguresPut at c a b → FiguresPut at d a b
-figures-as e w = record { others = w.others; figures = w.figures ∙ e }
-
-pub appended-none : (xs : List ℕ) (from : ℕ) (live : List ℕ) (at : ℕ) (rest : Cost) → Appended xs from 0 live live at rest
-appended-none xs from live at rest = record { others = besides-none _ _ _; each = λ i l. absurd (omega arith) }
-
-pub appended-more : (xs : List ℕ) (from i : ℕ) (live mid after : List ℕ) (at : ℕ) (rest : Cost) → Appended xs from i live mid at rest
-    → FiguresPut (at + i * 3) (add (cost_at xs (from + i)) rest) mid after → Appended xs from (i + 1) live after at rest
-appended-more xs from i live mid after at rest p w =
-    record {
-      others = besides-then
-          (besides-wide at (at + (i + 1) * 3) (omega arith) (omega arith) p.others)
-          (besides-wide at (at + (i + 1) * 3) (omega arith) (omega arith) w.others);
-      each = each_more
-          (λ j. cost_in after at j ≡ add (cost_at xs (from + j)) rest)
-          i
-          (λ j l. cost-aside w.others at j (inl (omega arith)) ∙ p.each j l)
-          w.figures;
-    }
-
-pub appended-end : (xs : List ℕ) (from i d : ℕ) (live after : List ℕ) (at : ℕ) (rest : Cost) → i ≤ d → d ≤ i → Appended xs from i live after at rest
-    → Appended xs from d live after at rest
-appended-end xs from i d live after at rest l m p = let e : i ≡ d = omega arith in subst (λ (n : ℕ). Appended xs from n live after at rest) e p
-
--- a part leads the same cost, otherwise said
-pub led-as : {live : List ℕ} {p : Part} {c d : Cost} → c ≡ d → LedIn live p c → LedIn live p d
-led-as {live} {p} e l = subst (λ (x : Cost). LedIn live p x) e l
-
 -- a part that is aside of what was written leads the same costs
 pub led-aside : {lo hi : ℕ} {a b : List ℕ} {p : Part} {c d : Cost} → Besides lo hi a b → hi ≤ p.at → c ≡ d → LedIn b p c → LedIn a p d
 led-aside {lo} {hi} {a} {b} {p} {c} {d} w m e l =
@@ -60,10 +31,6 @@ led-aside {lo} {hi} {a} {b} {p} {c} {d} w m e l =
           (cost-aside w p.at l.at (inr (omega arith)))
           (subst (λ (x : Cost). AtMost (cost_in b p.at l.at) x) e l.least);
     }
-
-pub retained-none : (live : List ℕ) (at n m : ℕ) → RetainedTo live live at n m 0 0
-retained-none live at n m =
-    record { most = omega arith; others = besides-none _ _ _; came = λ j l. absurd (omega arith); each = λ j l. absurd (omega arith) }
 
 module _ (live mid after : List ℕ) (at n m i k r : ℕ) (low : i < n) (p : RetainedTo live mid at n m i k) where
   -- cost i is as it was
@@ -123,6 +90,3 @@ module _ (live mid after : List ℕ) (at n m i k r : ℕ) (low : i < n) (p : Ret
       (λ d. dropped d.0 d.1 d.2)
       (λ d. subst (λ (x : ℕ). RetainedTo live after at n m (i + 1) x) (sym d.0) (kept d.1))
       o.way
-
-pub retained-end : (live after : List ℕ) (at n m i k : ℕ) → i ≤ n → n ≤ i → RetainedTo live after at n m i k → RetainedTo live after at n m n k
-retained-end live after at n m i k l h p = let e : i ≡ n = omega arith in subst (λ (j : ℕ). RetainedTo live after at n m j k) e p

@@ -1,10 +1,8 @@
 -- The network as it is laid out from the groups of a sheet: waits, corridors, closures and counts, then the chains, then where waiting is dearer.
 use Rattle.std.specs.Prelude.{◌≡◌, List, ◌⊎◌, ℕ, ◌+◌, ◌*◌, ◌≤◌, ◌<◌, length, get_or, set}
 use Rattle.std.proofs.Common.{sym, ap, ◌∙◌, subst, inl, inr, ⊎_elim, arith, length-set, get_or-set_same, get_or-set_other}
-use Rattle.std.proofs.Math.Decide.{ℕ_discrete}
-use Rattle.sheet.specs.Kinds.{kind_c, kind_x}
 use Rattle.sheet.specs.Sheet.{Sheet, places, start}
-use Rattle.sheet.specs.Store.{SomeStore, part_of, sheet_in}
+use Rattle.sheet.specs.Lists.{flat}
 use Rattle.sheet.specs.Laws.Decided.{lt-or-le, from-same}
 use Rattle.costs.specs.Costs.{Cost, figures, AtMost}
 use Rattle.costs.specs.Moves.{wait_of}
@@ -12,13 +10,8 @@ use Rattle.costs.specs.Computed.{wait_at}
 use Rattle.arrivals.specs.Inner.Network.{Cheap, wait_in, link_of, link_at, count_of, places_of, start_of, into_of, dear_of, closure_of, closures_of, wait-kept}
 use Rattle.arrivals.specs.Rows.{Besides, FiguresPut}
 use Rattle.arrivals.specs.Laws.Rows.{besides-then, besides-wide}
-use Rattle.arrivals.specs.Inner.Chains.{Chain, by_place, by_cell, Chained, key_of, past_of, Outside, chained-kept, chained_with, chained_more, chained-besides}
+use Rattle.arrivals.specs.Inner.Chains.{Chain, by_place, by_cell, Chained, past_of, chained-kept}
 use Rattle.arrivals.specs.Inner.Lent.{Linked}
-
--- a valid sheet stands in the array, and the list that the network is laid into is long enough
-pub record Layable (lines all net : List ℕ) : Type 0 where
-  pub some-store : SomeStore lines all
-  pub size : 4484 ≤ length net
 
 -- the list is zeros
 pub record Empty (net : List ℕ) : Type 0 where
@@ -75,20 +68,6 @@ pub record ChainedMore (k : Chain) (j : ℕ) (a b : List ℕ) : Type 0 where
   pub chained : Chained k b (j + 1)
   pub others : Besides k.first (past_of k) a b
 
-chained-step : (k : Chain) (a b : List ℕ) (v m : ℕ) → Outside k k.first (past_of k) → v ≡ key_of k a m → m < 256 → past_of k ≤ length a → v < k.keys → Chained k a m
-    → b ≡ chained_with k.first k.keys a v m → ChainedMore k m a b
-chained-step k a b v m apart is few size inside w e =
-    subst (ChainedMore k m a) (sym e)
-    (record { chained = chained_more k a v m is few size inside apart w; others = chained-besides k a v m is few size inside apart w })
-
-pub link-chained : (q : ℕ) (a b : List ℕ) (v m : ℕ) → q < 2 → v ≡ link_of a q m → m < 256 → 4484 ≤ length a → v < 64 → Chained (by_place q) a m
-    → b ≡ chained_with (192 + q * 320) 64 a v m → ChainedMore (by_place q) m a b
-link-chained q a b v m two is few size inside w e = chained-step (by_place q) a b v m (λ j l. (inr (omega arith), inr (omega arith))) is few (omega arith) inside w e
-
-pub closure-chained : (a b : List ℕ) (v m : ℕ) → v ≡ key_of by_cell a m → m < 256 → 4484 ≤ length a → v < 1024 → Chained by_cell a m
-    → b ≡ chained_with 2436 1024 a v m → ChainedMore by_cell m a b
-closure-chained a b v m is few size inside w e = chained-step by_cell a b v m (λ j l. (inr (omega arith), inr (omega arith))) is few (omega arith) inside w e
-
 -- the items below m are chained
 pub record ChainLaid (k : Chain) (m : ℕ) (a b : List ℕ) : Type 0 where
   pub chained : Chained k b m
@@ -102,9 +81,6 @@ pub record NotedLaid (m : ℕ) (a b : List ℕ) : Type 0 where
   pub noted : NotedTo b m
   pub others : Besides 2116 2180 a b
 
-pub note-besides : (a : List ℕ) (v : ℕ) → v < 64 → Besides 2116 2180 a (set a (2116 + v) 1)
-note-besides a v l = record { size = length-set a (2116 + v) 1; same = λ i o. get_or-set_other a (2116 + v) i 1 0 (λ e. ⊎_elim (λ h. omega arith) (λ h. omega arith) o) }
-
 -- what is noted stays so where other parts are changed
 pub noted-kept : {a b : List ℕ} {m : ℕ} → m ≤ 256 → ((x : ℕ) → x < m → closure_of a 1 x < 64) → Besides 2180 2436 a b → NotedTo a m → NotedTo b m
 noted-kept {a} {b} few inside o t =
@@ -113,31 +89,6 @@ noted-kept {a} {b} few inside o t =
           let y = subst (λ (v : ℕ). into_of b v ≡ 0) (o.same (3716 + x * 3 + 1) (inr (omega arith))) z in
           t.noted x l (sym (o.same (2116 + closure_of a 1 x) (inl (omega (arith, inside x l)))) ∙ y);
     }
-
-pub noted_more : (a : List ℕ) (x : ℕ) → x < 256 → 4484 ≤ length a → ((y : ℕ) → y ≤ x → closure_of a 1 y < 64) → NotedTo a x → NotedTo (set a (2116 + closure_of a 1 x) 1) (x + 1)
-noted_more a x few size inside t =
-    record {
-      noted = λ y l z. ⊎_elim
-          (λ lt. old y lt (ℕ_discrete (closure_of a 1 y) (closure_of a 1 x)) (moved y z))
-          (λ ge. let e : y ≡ x = omega arith in omega (arith, own, subst (λ (i : ℕ). into_of b (closure_of a 1 i) ≡ 0) e (moved y z)))
-          (lt-or-le y x);
-    }
-  where
-    b : List ℕ
-    b = set a (2116 + closure_of a 1 x) 1
-
-    others : Besides 2116 2180 a b
-    others = note-besides a (closure_of a 1 x) (inside x (omega arith))
-
-    own : into_of b (closure_of a 1 x) ≡ 1
-    own = get_or-set_same a (2116 + closure_of a 1 x) 1 0 (omega (arith, inside x (omega arith)))
-
-    moved : (y : ℕ) → into_of b (closure_of b 1 y) ≡ 0 → into_of b (closure_of a 1 y) ≡ 0
-    moved y z = subst (λ (v : ℕ). into_of b v ≡ 0) (others.same (3716 + y * 3 + 1) (inr (omega arith))) z
-
-    old : (y : ℕ) → y < x → Dec (closure_of a 1 y ≡ closure_of a 1 x) → into_of b (closure_of a 1 y) ≡ 0 → ⊥
-    old y l (yes e) z = omega (arith, own, subst (λ (v : ℕ). into_of b v ≡ 0) e z)
-    old y l (no n) z = t.noted y l (sym (get_or-set_other a (2116 + closure_of a 1 x) (2116 + closure_of a 1 y) 1 0 (λ e. n (omega arith))) ∙ z)
 
 -- where waiting is dearer, for the corridors below m
 pub record WeighedTo (net : List ℕ) (m : ℕ) : Type 0 where
@@ -160,12 +111,6 @@ cheap-kept a b j from to few o c =
     let x = wait-kept (link_of a 0 j) from (omega arith) o in
     subst (λ (u : ℕ). AtMost (wait_in b (link_of b 1 j)) (wait_in b u)) f (subst (λ (u : ℕ). AtMost (wait_in b u) (wait_in b (link_of a 0 j))) g
     (subst (λ (y : Cost). AtMost y (wait_in b (link_of a 0 j))) (sym w) (subst (AtMost (wait_in a (link_of a 1 j))) (sym x) c)))
-
-pub weighed-cheap : (a : List ℕ) (j : ℕ) → Cheap (wait_in a) (link_at a j) → WeighedTo a j → WeighedTo a (j + 1)
-weighed-cheap a j c w = record { cheap = λ i l z. at i l (λ lt. w.cheap i lt z) }
-  where
-    at : (i : ℕ) → i < j + 1 → (i < j → Cheap (wait_in a) (link_at a i)) → Cheap (wait_in a) (link_at a i)
-    at i l f = ⊎_elim f (λ ge. let e : j ≡ i = omega arith in subst (λ (n : ℕ). Cheap (wait_in a) (link_at a n)) e c) (lt-or-le i j)
 
 pub dear-besides : (a : List ℕ) (j : ℕ) → j < 256 → Besides 2180 2436 a (set a (2180 + j) 1)
 dear-besides a j few = record { size = length-set a (2180 + j) 1; same = λ i o. get_or-set_other a (2180 + j) i 1 0 (λ e. ⊎_elim (λ l. omega arith) (λ l. omega arith) o) }
@@ -195,9 +140,6 @@ weighed-at net j links l w =
       others = dear-besides net j (omega (arith, links.few));
     }
 
-pub cheap-of : (net : List ℕ) (j to from : ℕ) (a b : Cost) → to ≡ link_of net 1 j → from ≡ link_of net 0 j → a ≡ wait_in net to → b ≡ wait_in net from → AtMost a b → Cheap (wait_in net) (link_at net j)
-cheap-of net j to from a b e f x y l = subst (λ (c : Cost). AtMost c (wait_in net (link_of net 0 j))) (x ∙ ap (wait_in net) e) (subst (AtMost a) (y ∙ ap (wait_in net) f) l)
-
 -- the numbers of corridors, of places, the start and the number of closures
 pub record Counted (m p s x : ℕ) (a b : List ℕ) : Type 0 where
   pub count : count_of b ≡ m
@@ -206,29 +148,9 @@ pub record Counted (m p s x : ℕ) (a b : List ℕ) : Type 0 where
   pub closures : closures_of b ≡ x
   pub others : Besides 2112 2116 a b
 
-pub counted : (m p s x : ℕ) (a : List ℕ) → 4484 ≤ length a → Counted m p s x a (set (set (set (set a 2112 m) 2113 p) 2114 s) 2115 x)
-counted m p s x a size =
-    record {
-      count = get_or-set_other c 2115 2112 x 0 (λ e. omega arith) ∙ get_or-set_other b 2114 2112 s 0 (λ e. omega arith)
-          ∙ get_or-set_other (set a 2112 m) 2113 2112 p 0 (λ e. omega arith) ∙ get_or-set_same a 2112 m 0 (omega arith);
-      places = get_or-set_other c 2115 2113 x 0 (λ e. omega arith) ∙ get_or-set_other b 2114 2113 s 0 (λ e. omega arith)
-          ∙ get_or-set_same (set a 2112 m) 2113 p 0 (simp length-set (omega arith));
-      start = get_or-set_other c 2115 2114 x 0 (λ e. omega arith) ∙ get_or-set_same b 2114 s 0 (simp length-set (omega arith));
-      closures = get_or-set_same c 2115 x 0 (simp length-set (omega arith));
-      others = record {
-        size = simp length-set;
-        same = λ i o.
-            let n : (j : ℕ) → 2112 ≤ j → j < 2116 → i ≡ j → ⊥ = λ j y z e. ⊎_elim (λ l. omega arith) (λ l. omega arith) o in
-            get_or-set_other c 2115 i x 0 (n 2115 (omega arith) (omega arith)) ∙ get_or-set_other b 2114 i s 0 (n 2114 (omega arith) (omega arith))
-            ∙ get_or-set_other (set a 2112 m) 2113 i p 0 (n 2113 (omega arith) (omega arith)) ∙ get_or-set_other a 2112 i m 0 (n 2112 (omega arith) (omega arith));
-      };
-    }
-  where
-    b : List ℕ
-    b = set (set a 2112 m) 2113 p
-
-    c : List ℕ
-    c = set b 2114 s
+-- the same for equal numbers
+pub counted-as : {m p s x m' p' s' x' : ℕ} {a b : List ℕ} → m ≡ m' → p ≡ p' → s ≡ s' → x ≡ x' → Counted m p s x a b → Counted m' p' s' x' a b
+counted-as e f g h c = record { count = c.count ∙ e; places = c.places ∙ f; start = c.start ∙ g; closures = c.closures ∙ h; others = c.others }
 
 pub linked-kept : {lo hi : ℕ} {a b : List ℕ} → (hi ≤ 832) ⊎ (2113 ≤ lo) → Besides lo hi a b → Linked a → Linked b
 linked-kept {lo} {hi} {a} {b} apart o l =
@@ -284,62 +206,71 @@ pub record Closures (closures : List ℕ) (m : ℕ) : Type 0 where
   pub whole : length closures ≡ m * 3
   pub places : (x : ℕ) → x < m → get_or closures (x * 3 + 1) 0 < 64
 
-module _ (s : Sheet) (corridors closures : List ℕ) (m c : ℕ) (n0 n1 n2 n3 n4 : List ℕ)
-    (able : Corridors s corridors m) (shut : Closures closures c) (size : 4484 ≤ length n0) (blank : Empty n0)
-    (waits : WaitsLaid s n0 n1) (links : LinksLaid corridors n1 n2) (laid : ClosuresLaid closures n2 n3) (counts : Counted m (places s) (start s) c n3 n4) where
+-- the parts before the chains, laid one after another into zeros
+pub record Parts (s : Sheet) (corridors closures : List ℕ) (m c : ℕ) (n0 n1 n2 n3 n4 : List ℕ) : Type 0 where
+  pub able : Corridors s corridors m
+  pub shut : Closures closures c
+  pub size : 4484 ≤ length n0
+  pub blank : Empty n0
+  pub waits : WaitsLaid s n0 n1
+  pub links : LinksLaid corridors n1 n2
+  pub laid : ClosuresLaid closures n2 n3
+  pub counts : Counted m (places s) (start s) c n3 n4
+
+module _ {s : Sheet} {corridors closures : List ℕ} {m c : ℕ} {n0 n1 n2 n3 n4 : List ℕ} (p : Parts s corridors closures m c n0 n1 n2 n3 n4) where
   long : 4484 ≤ length n4
-  long = omega (arith, size, waits.others.size, links.others.size, laid.others.size, counts.others.size)
+  long = omega (arith, p.size, p.waits.others.size, p.links.others.size, p.laid.others.size, p.counts.others.size)
 
   -- what closures and counts leave as it was
   early : (i : ℕ) → i < 2112 → get_or n4 i 0 ≡ get_or n2 i 0
-  early i l = counts.others.same i (inl l) ∙ laid.others.same i (inl (omega arith))
+  early i l = p.counts.others.same i (inl l) ∙ p.laid.others.same i (inl (omega arith))
 
   number_at : (i : ℕ) → i < length closures → get_or n4 (3716 + i) 0 ≡ get_or closures i 0
-  number_at i l = counts.others.same (3716 + i) (inr (omega arith)) ∙ laid.numbers i l
+  number_at i l = p.counts.others.same (3716 + i) (inr (omega arith)) ∙ p.laid.numbers i l
 
   pub laid-linked : Linked n4
   laid-linked =
       record {
         size = long;
-        few = omega (arith, counts.count, able.few);
+        few = omega (arith, p.counts.count, p.able.few);
         ends = λ q j x y.
             let e : 832 + j * 5 + q ≡ 832 + (j * 5 + q) = omega arith in
-            let o = early (832 + j * 5 + q) (omega (arith, counts.count, able.few)) in
-            let n = links.numbers (j * 5 + q) (omega (arith, counts.count, able.whole)) in
-            omega (arith, o, ap (λ (i : ℕ). get_or n2 i 0) e, n, able.ends q j x (omega (arith, counts.count)));
+            let o = early (832 + j * 5 + q) (omega (arith, p.counts.count, p.able.few)) in
+            let n = p.links.numbers (j * 5 + q) (omega (arith, p.counts.count, p.able.whole)) in
+            omega (arith, o, ap (λ (i : ℕ). get_or n2 i 0) e, n, p.able.ends q j x (omega (arith, p.counts.count)));
       }
 
   pub laid-celled : Celled n4
   laid-celled =
       record {
         size = long;
-        few = omega (arith, counts.closures, shut.few);
+        few = omega (arith, p.counts.closures, p.shut.few);
         places = λ x l.
             let e : 3716 + x * 3 + 1 ≡ 3716 + (x * 3 + 1) = omega arith in
-            let o = number_at (x * 3 + 1) (omega (arith, counts.closures, shut.whole)) in
-            omega (arith, ap (λ (i : ℕ). get_or n4 i 0) e, o, shut.places x (omega (arith, counts.closures)));
+            let o = number_at (x * 3 + 1) (omega (arith, p.counts.closures, p.shut.whole)) in
+            omega (arith, ap (λ (i : ℕ). get_or n4 i 0) e, o, p.shut.places x (omega (arith, p.counts.closures)));
       }
 
   pub laid-blank : (i : ℕ) → 192 ≤ i → i < 832 → get_or n4 i 0 ≡ 0
-  laid-blank i l m = early i (omega arith) ∙ links.others.same i (inl (omega arith)) ∙ waits.others.same i (inr l) ∙ blank.zero i
+  laid-blank i l m = early i (omega arith) ∙ p.links.others.same i (inl (omega arith)) ∙ p.waits.others.same i (inr l) ∙ p.blank.zero i
 
   pub laid-blank-cells : (i : ℕ) → 2436 ≤ i → i < 3716 → get_or n4 i 0 ≡ 0
   laid-blank-cells i l m =
-      counts.others.same i (inr (omega arith)) ∙ laid.others.same i (inl (omega arith))
-      ∙ links.others.same i (inr (omega arith)) ∙ waits.others.same i (inr (omega arith)) ∙ blank.zero i
+      p.counts.others.same i (inr (omega arith)) ∙ p.laid.others.same i (inl (omega arith))
+      ∙ p.links.others.same i (inr (omega arith)) ∙ p.waits.others.same i (inr (omega arith)) ∙ p.blank.zero i
 
   pub laid_of : (n5 n6 n7 n8 n9 : List ℕ) → ChainLaid (by_place 0) (count_of n4) n4 n5 → ChainLaid (by_place 1) (count_of n5) n5 n6
       → ChainLaid by_cell (closures_of n6) n6 n7 → NotedLaid (closures_of n7) n7 n8 → Weighed (count_of n8) n8 n9 → Laid s corridors closures n9
   laid_of n5 n6 n7 n8 n9 out into by notes weighed =
       record {
         size = omega (arith, long, out.others.size, into.others.size, by.others.size, notes.others.size, weighed.others.size);
-        waits = record { each = λ u l. wait-kept u (omega (arith, able.few-places)) (omega arith) rest ∙ waits.waits.each u l };
+        waits = record { each = λ u l. wait-kept u (omega (arith, p.able.few-places)) (omega arith) rest ∙ p.waits.waits.each u l };
         numbers = λ i l.
-            last (832 + i) (omega arith) (omega (arith, able.few, able.whole))
-            ∙ early (832 + i) (omega (arith, able.few, able.whole)) ∙ links.numbers i l;
-        count = omega (arith, last 2112 (omega arith) (omega arith), counts.count, able.whole);
-        places = last 2113 (omega arith) (omega arith) ∙ counts.places;
-        start = last 2114 (omega arith) (omega arith) ∙ counts.start;
+            last (832 + i) (omega arith) (omega (arith, p.able.few, p.able.whole))
+            ∙ early (832 + i) (omega (arith, p.able.few, p.able.whole)) ∙ p.links.numbers i l;
+        count = omega (arith, last 2112 (omega arith) (omega arith), p.counts.count, p.able.whole);
+        places = last 2113 (omega arith) (omega arith) ∙ p.counts.places;
+        start = last 2114 (omega arith) (omega arith) ∙ p.counts.start;
         out = subst (Chained (by_place 0) n9) (sym (last 2112 (omega arith) (omega arith)))
             (chained-kept (by_place 0) (count_of n4) few (inr (omega arith)) (λ j b. (inl (omega arith), inl (omega arith))) weighed.others
             (chained-kept (by_place 0) (count_of n4) few (inr (omega arith)) (λ j b. (inl (omega arith), inl (omega arith))) notes.others
@@ -353,7 +284,7 @@ module _ (s : Sheet) (corridors closures : List ℕ) (m c : ℕ) (n0 n1 n2 n3 n4
         closures = λ i l.
             weighed.others.same (3716 + i) (inr (omega arith)) ∙ notes.others.same (3716 + i) (inr (omega arith)) ∙ by.others.same (3716 + i) (inr (omega arith))
             ∙ into.others.same (3716 + i) (inr (omega arith)) ∙ out.others.same (3716 + i) (inr (omega arith)) ∙ number_at i l;
-        closed = omega (arith, last 2115 (omega arith) (omega arith), counts.closures, shut.whole);
+        closed = omega (arith, last 2115 (omega arith) (omega arith), p.counts.closures, p.shut.whole);
         cells = subst (Chained by_cell n9) (sym (weighed.others.same 2115 (inl (omega arith)) ∙ notes.others.same 2115 (inl (omega arith)) ∙ by.others.same 2115 (inl (omega arith))))
             (chained-kept by_cell (closures_of n6) few6 (inl (omega arith)) (λ j b. (inr (omega arith), inr (omega arith))) weighed.others
             (chained-kept by_cell (closures_of n6) few6 (inl (omega arith)) (λ j b. (inr (omega arith), inr (omega arith))) notes.others by.chained));
@@ -384,15 +315,15 @@ module _ (s : Sheet) (corridors closures : List ℕ) (m c : ℕ) (n0 n1 n2 n3 n4
 
       rest : Besides 192 4484 n1 n9
       rest =
-          besides-then (besides-wide 192 4484 (omega arith) (omega arith) links.others)
-          (besides-then (besides-wide 192 4484 (omega arith) (omega arith) laid.others)
-          (besides-then (besides-wide 192 4484 (omega arith) (omega arith) counts.others)
+          besides-then (besides-wide 192 4484 (omega arith) (omega arith) p.links.others)
+          (besides-then (besides-wide 192 4484 (omega arith) (omega arith) p.laid.others)
+          (besides-then (besides-wide 192 4484 (omega arith) (omega arith) p.counts.others)
           (besides-then (besides-wide 192 4484 (omega arith) (omega arith) out.others)
           (besides-then (besides-wide 192 4484 (omega arith) (omega arith) into.others)
           (besides-then (besides-wide 192 4484 (omega arith) (omega arith) by.others)
           (besides-then (besides-wide 192 4484 (omega arith) (omega arith) notes.others)
           (besides-wide 192 4484 (omega arith) (omega arith) weighed.others)))))))
 
--- the network of the sheet in the array
-abbrev pub LaidIn : List ℕ → List ℕ → List ℕ → Type 0
-LaidIn lines all net = Laid (sheet_in lines all) (part_of lines all kind_c.order) (part_of lines all kind_x.order) net
+-- the network of a sheet
+abbrev pub LaidIn : Sheet → List ℕ → Type 0
+LaidIn s net = Laid s (flat s.corridors) (flat s.closures) net

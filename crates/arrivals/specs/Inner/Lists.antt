@@ -2,7 +2,7 @@
 -- 128 + v how many of them come before those of the newest rows, at 192 + v, where costs are added at this step, the number with them; and its list, from
 -- 256 + v * 510 on, three figures for each. A cost in a list is what a row of the place comes to by waiting until step 255, so that rows of different steps
 -- are compared without a look at their steps. Costs that a later row undercuts are left out.
-use Rattle.std.specs.Prelude.{◌≡◌, Bool, true, false, ◌⊎◌, List, ℕ, ◌+◌, ◌*◌, ◌-◌, ◌^◌, ◌≤◌, ◌<◌, ltb, length, get_or}
+use Rattle.std.specs.Prelude.{◌≡◌, Bool, true, false, ◌⊎◌, List, ℕ, ◌+◌, ◌*◌, ◌-◌, ◌^◌, ◌≤◌, ◌<◌, ltb, length, get_or, Option, Some, None, Ok, Err, ⊤}
 use Rattle.std.specs.Int.Bits.{bit_or}
 use Rattle.sheet.specs.Lists.{pick, numbers_from}
 use Rattle.intervals.specs.Sets.{Has}
@@ -18,8 +18,7 @@ use Rattle.arrivals.specs.Inner.Due.{Onward}
 use Rattle.arrivals.specs.declared.network.Here.{Here}
 use Rattle.arrivals.specs.declared.lists.Part.{Part}
 use Rattle.arrivals.specs.declared.lists.Turn.{Turn}
-use Rattle.arrivals.specs.declared.offers.Outcome.{Outcome}
-use Rattle.arrivals.specs.declared.fill.Stepped.{Stepped}
+use Rattle.arrivals.specs.Inner.Outcomes.{Outcome, StepOutcome, Ended}
 use Rattle.arrivals.specs.declared.by_lists.Halt.{Halt}
 
 abbrev pub past_of : List ℕ → ℕ → ℕ
@@ -274,7 +273,7 @@ pub record SettledTo (free live after : List ℕ) (set u t : ℕ) : Type 0 where
   pub others : (v : ℕ) → v < 64 → (v < u → Has set v → ⊥) → SameAt live after v
 
 -- what filling in step t by the lists leaves, unless it gives up
-pub record LiveStepped (free net xs ys : List ℕ) (n : ℕ) (live : List ℕ) (t : ℕ) (o : Stepped) : Type 0 where
+pub record LiveStepped (free net xs ys : List ℕ) (n : ℕ) (live : List ℕ) (t : ℕ) (o : StepOutcome) : Type 0 where
   pub below : (j : ℕ) → j < n * 5 → get_or ys j 0 ≡ get_or xs j 0
   pub result : o.ok ≡ true → Result (case_of free net) ys (t + 1) 0 true o.rows
   pub sourcing : o.ok ≡ true → Sourcing free net ys o.rows o.rows live (t + 1)
@@ -295,7 +294,12 @@ pub record Halted (free net xs : List ℕ) (last n t : ℕ) : Type 0 where
   pub room : n * 5 ≤ length xs
   pub filled : Filled (case_of free net) (rows_of xs n) t 0
 
+-- the step from which the search can go on, if there is one
+abbrev pub Resumable : List ℕ → List ℕ → List ℕ → ℕ → Option Halt → Type 0
+Resumable free net xs last None = ⊤
+Resumable free net xs last (Some h) = (1 ≤ h.step.0) × Halted free net xs last h.rows h.step.0
+
 -- what the search by lists leaves
-pub record Found (free net xs : List ℕ) (last : ℕ) (o : Halt) : Type 0 where
-  pub result : o.ok ≡ true → Result (case_of free net) xs (last + 1) 0 true o.rows
-  pub halted : o.ok ≡ false → 1 ≤ o.step.0 → Halted free net xs last o.rows o.step.0
+abbrev pub Found : List ℕ → List ℕ → List ℕ → ℕ → Ended → Type 0
+Found free net xs last (Ok n) = Result (case_of free net) xs (last + 1) 0 true n
+Found free net xs last (Err h) = Resumable free net xs last h

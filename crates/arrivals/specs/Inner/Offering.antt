@@ -188,9 +188,6 @@ swept-under f g up x =
           ⊎_elim (λ b. inl (any-map (λ p l. at-most-trans p.cost q.0 h l q.2) b)) (λ l. inr (up q.0 h q.2 l)) (x.all e q.0 q.1);
     }
 
-pub swept-ok : {S H : List ℕ → Type 0} {v t a : ℕ} {xs ys : List ℕ} {d e : ℕ} {ok : Bool} → ok ≡ true → Swept S H v t a xs ys d ok e → Swept S H v t a xs ys d true e
-swept-ok {S} {H} {v} {t} {a} {xs} {ys} {d} {e} {ok} q x = subst (λ (b : Bool). Swept S H v t a xs ys d b e) q x
-
 pub swept-one : {H : List ℕ → Type 0} {v t a : ℕ} {g xs ys : List ℕ} {d e : ℕ} → ((j : ℕ) → j < a * 5 → get_or ys j 0 ≡ get_or xs j 0) → (a + e) * 5 ≤ length ys → Offered H v t g (tail_of xs a d) (tail_of ys a e) → Swept (λ h. h ≡ g) H v t a xs ys d true e
 swept-one {H} {v} {t} {a} {g} {xs} {ys} {d} {e} b l o =
     record { below = b; room = l; done = λ _. offers-more offers-none refl o; all = λ _ h q. subst (λ (x : List ℕ). Beaten (tail_of ys a e) x ⊎ H x) (sym q) (offered-new o) }

@@ -1,6 +1,6 @@
 -- The index of rows that stand in order, made anew, step by step.
 use Rattle.std.specs.Prelude.{◌≡◌, refl, List, ◌∷◌, ◌⊎◌, ℕ, zero, suc, ◌+◌, ◌*◌, ◌-◌, ◌≤◌, ◌<◌, length, replicate}
-use Rattle.std.proofs.Common.{sym, ap, ◌∙◌, subst, inl, inr, ⊎_elim, arith}
+use Rattle.std.proofs.Common.{sym, ◌∙◌, subst, inl, inr, ⊎_elim, arith}
 use Rattle.sheet.specs.Laws.Decided.{lt-or-le, All, none, more, all_tail}
 use Rattle.costs.specs.Costs.{Cost}
 use Rattle.arrivals.specs.Rows.{Row, row_at}
@@ -47,23 +47,6 @@ pub record StepNoted (xs : List ℕ) (k n : ℕ) (ix iy : List ℕ) (r : ℕ) : 
 -- the rows from k to i are of one place and step
 pub record Same (xs : List ℕ) (k i : ℕ) : Type 0 where
   pub each : (j : ℕ) → k ≤ j → j < i → ((row_at xs j).place ≡ (row_at xs k).place) × ((row_at xs j).step ≡ (row_at xs k).step)
-
-pub same-one : (xs : List ℕ) (k : ℕ) → Same xs k (k + 1)
-same-one xs k =
-    record {
-      each = λ j a b.
-          let e : k ≡ j = omega arith in
-          subst (λ (i : ℕ). ((row_at xs i).place ≡ (row_at xs k).place) × ((row_at xs i).step ≡ (row_at xs k).step)) e (refl, refl);
-    }
-
-pub same_more : (xs : List ℕ) (k i : ℕ) → Same xs k i → (row_at xs i).place ≡ (row_at xs k).place → (row_at xs i).step ≡ (row_at xs k).step → Same xs k (i + 1)
-same_more xs k i w p q =
-    record {
-      each = λ j a b. ⊎_elim
-          (λ lt. w.each j a lt)
-          (λ ge. let e : i ≡ j = omega arith in subst (λ (m : ℕ). ((row_at xs m).place ≡ (row_at xs k).place) × ((row_at xs m).step ≡ (row_at xs k).step)) e (p, q))
-          (lt-or-le j i);
-    }
 
 -- a row comes before each row that stands after it
 falling-head : {r : Row} {rs : List Row} → Falling (r ∷ rs) → All (λ q. RowBefore q r) rs
@@ -163,18 +146,6 @@ pub record Noting (xs : List ℕ) (k n : ℕ) (ix iy : List ℕ) (i : ℕ) : Typ
   pub indexed : Indexed xs i iy (row_at xs k).step
   pub covers : (t v : ℕ) (w : Cost) → Covers xs k ix t v w → Covers xs i iy t v w
 
-pub noting-none : {xs ix : List ℕ} {k n : ℕ} → k < n → First xs k → Indexed xs k ix (row_at xs k).step → Noting xs k n ix ix k
-noting-none l f w =
-    record {
-      from = omega arith;
-      upto = omega arith;
-      size = refl;
-      own = λ j a b. absurd (omega arith);
-      opens = record { before = λ m i b. inl (f.before i b) };
-      indexed = w;
-      covers = λ t v c h. h;
-    }
-
 pub noting-more : {xs ix iy iz : List ℕ} {k n i m : ℕ} → Noteable xs n → Noting xs k n ix iy i → i < n → (row_at xs i).step ≡ (row_at xs k).step → GroupEnd xs i n m
     → NotedAs iy iz i m (row_at xs k).step (row_at xs i).place → Noting xs k n ix iz m
 noting-more {xs} {ix} {iy} {iz} {k} {n} {i} {m} a w l e g d =
@@ -197,29 +168,6 @@ noting-more {xs} {ix} {iy} {iz} {k} {n} {i} {m} a w l e g d =
 
     fresh : (j : ℕ) → j < i → (row_at xs j).place ≡ (row_at xs i).place → (row_at xs j).step < (row_at xs k).step
     fresh j x p = ⊎_elim (λ y. omega arith) (λ y. absurd (omega (arith, y.1))) (w.opens.before l j x)
-
-pub noting-done : {xs ix iy : List ℕ} {k n r : ℕ} → First xs k → k < n → Noting xs k n ix iy r
-    → (r < n → (row_at xs r).step ≡ (row_at xs k).step → ⊥) → StepNoted xs k n ix iy r
-noting-done {xs} {ix} {iy} {k} {n} {r} f l w other =
-    record {
-      from = from;
-      upto = w.upto;
-      size = w.size;
-      own = w.own;
-      next = λ m. record { before = λ i b. ⊎_elim (λ lt. omega (arith, f.before i lt, later m)) (λ ge. omega (arith, w.own i ge b, later m)) (lt-or-le i k) };
-      indexed = w.indexed;
-      covers = w.covers;
-    }
-  where
-    from : k < r
-    from =
-        ⊎_elim
-        (λ lt. lt)
-        (λ ge. let e : r ≡ k = omega (arith, w.from) in absurd (other (omega arith) (ap (λ (j : ℕ). (row_at xs j).step) e)))
-        (lt-or-le k r)
-
-    later : r < n → (row_at xs k).step < (row_at xs r).step
-    later m = ⊎_elim (λ x. x) (λ x. absurd (other m (sym x.0))) (w.opens.before m k from)
 
 -- the rows below k are those of so many steps; from the last of these steps on, ix is their index
 pub record Renoted (net xs : List ℕ) (n k : ℕ) (ix : List ℕ) : Type 0 where

@@ -1,5 +1,5 @@
 -- The least cost of entering a place at a step that no row leads, found by a scan over corridors and rows.
-use Rattle.std.specs.Prelude.{◌≡◌, refl, List, [], ◌∷◌, true, false, ◌⊎◌, ℕ, ◌+◌, ◌*◌, ◌≤◌, ◌<◌, length}
+use Rattle.std.specs.Prelude.{◌≡◌, refl, List, [], ◌∷◌, Bool, true, false, ◌⊎◌, ℕ, ◌+◌, ◌*◌, ◌≤◌, ◌<◌, length, Option, Some, None}
 use Rattle.std.proofs.Common.{sym, ◌∙◌, subst, inl, inr, ⊎_elim, arith}
 use Rattle.sheet.specs.Lists.{Lex}
 use Rattle.sheet.specs.Laws.Order.{split, Lex-irrefl}
@@ -15,7 +15,15 @@ use Rattle.arrivals.specs.Inner.Filling.{Filled, Filling, filling-more, filled-p
 use Rattle.arrivals.specs.Inner.Pruning.{Tried}
 use Rattle.arrivals.specs.declared.network.Here.{Here}
 use Rattle.arrivals.specs.declared.network.Source.{Source}
-use Rattle.arrivals.specs.declared.select.Next.{Next}
+
+-- the least cost found so far, if there is one
+pub record Next : Type 0 where
+  pub found : Bool
+  pub cost : Cost
+
+abbrev pub next_of : Option Cost → Next
+next_of (Some g) = record { found = true; cost = g }
+next_of None = record { found = false; cost = [] }
 
 -- r is the least of what b holds and of the costs of Q
 pub record Improved (Q : Cost → Type 0) (b r : Next) : Type 0 where

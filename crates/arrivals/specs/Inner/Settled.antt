@@ -1,13 +1,13 @@
 -- How the list of a place is settled: costs are moved down one after another, the numbers before the lists are written, and what that makes of the list of
 -- the place, whether its old costs count or not; and how the places of a set are settled one after another.
-use Rattle.std.specs.Prelude.{◌≡◌, refl, List, ◌⊎◌, ℕ, ◌+◌, ◌*◌, ◌-◌, ◌≤◌, ◌<◌, length, get_or, set}
-use Rattle.std.proofs.Common.{sym, ap, ◌∙◌, subst, inl, inr, ⊎_elim, arith, length-set, get_or-set_same, get_or-set_other}
+use Rattle.std.specs.Prelude.{◌≡◌, List, ◌⊎◌, ℕ, ◌+◌, ◌*◌, ◌-◌, ◌≤◌, ◌<◌, get_or}
+use Rattle.std.proofs.Common.{sym, ap, ◌∙◌, subst, inl, inr, ⊎_elim, arith}
 use Rattle.sheet.specs.Lists.{numbers_from}
 use Rattle.sheet.specs.Laws.Decided.{from-same, lt-or-le}
 use Rattle.intervals.specs.Sets.{Has}
 use Rattle.costs.specs.Costs.{Cost, figures, AtMost}
-use Rattle.arrivals.specs.Rows.{Besides, FiguresPut}
-use Rattle.arrivals.specs.Laws.Rows.{besides-none, besides-then, besides-wide}
+use Rattle.arrivals.specs.Rows.{Besides}
+use Rattle.arrivals.specs.Laws.Rows.{besides-then, besides-wide}
 use Rattle.arrivals.specs.Inner.Network.{since_in}
 use Rattle.arrivals.specs.Inner.Lists.{past_of, size_of, new_of, list_at, cost_in, entry, LedIn, Under, Among, Retained, Shifted, Headed}
 use Rattle.arrivals.specs.Inner.Lists.{Kept, Origin, Settled, SameAt, SettledOne, Settleable, AllSettleable, SettledTo}
@@ -20,56 +20,6 @@ cost-as live p q e = ap (λ (x : ℕ). numbers_from figures x live) e
 cost-kept : {lo hi : ℕ} {a b : List ℕ} (p : ℕ) → Besides lo hi a b → (p + 3 ≤ lo) ⊎ (hi ≤ p) → numbers_from figures p b ≡ numbers_from figures p a
 cost-kept {lo} {hi} {a} {b} p w o =
     from-same figures p p b a (λ j l. w.same (p + j) (⊎_elim (λ m. inl (omega arith)) (λ m. inr (omega arith)) o))
-
--- the first i of the costs from number `from` on are moved down to number `to`
-pub record Moved (live after : List ℕ) (from to i : ℕ) : Type 0 where
-  pub others : Besides to (to + i * 3) live after
-  pub each : (j : ℕ) → j < i → cost_in after to j ≡ cost_in live from j
-
-pub moved_none : (live : List ℕ) (from to : ℕ) → Moved live live from to 0
-moved_none live from to = record { others = besides-none _ _ _; each = λ j l. absurd (omega arith) }
-
-pub moved_more : {live a b : List ℕ} {from to i : ℕ} {c : Cost} → to ≤ from → Moved live a from to i → c ≡ cost_in a from i → FiguresPut (to + i * 3) c a b
-    → Moved live b from to (i + 1)
-moved_more {live} {a} {b} {from} {to} {i} {c} le m e put =
-    record {
-      others = besides-then
-          (besides-wide to (to + (i + 1) * 3) (omega arith) (omega arith) m.others)
-          (besides-wide to (to + (i + 1) * 3) (omega arith) (omega arith) put.others);
-      each = λ j l. ⊎_elim (λ lt. cost-kept (to + j * 3) put.others (inl (omega arith)) ∙ m.each j lt) (λ ge. last j (omega arith)) (lt-or-le j i);
-    }
-  where
-    last : (j : ℕ) → j ≡ i → cost_in b to j ≡ cost_in live from j
-    last j o =
-        cost-as b (to + j * 3) (to + i * 3) (omega (arith, o))
-        ∙ put.figures
-        ∙ e
-        ∙ cost-kept (from + i * 3) m.others (inr (omega arith))
-        ∙ cost-as live (from + i * 3) (from + j * 3) (omega (arith, o))
-
-pub moved_all : {live after : List ℕ} {from to i n : ℕ} → to ≤ from → i ≤ n → n ≤ i → Moved live after from to i → Shifted live after from to n
-moved_all {live} {after} {from} {to} {i} {n} le a b m =
-    record { others = besides-wide to (from + n * 3) (omega arith) (omega arith) m.others; each = λ j l. m.each j (omega arith) }
-
-pub shifted_none : (live : List ℕ) (from to n : ℕ) → from ≡ to → Shifted live live from to n
-shifted_none live from to n e = record { others = besides-none _ _ _; each = λ i l. cost-as live (to + i * 3) (from + i * 3) (omega (arith, e)) }
-
--- the three numbers of a place before the lists are stored one after another
-pub headed-set : (live : List ℕ) (v p n f : ℕ) → v < 64 → 256 ≤ length live
-    → Headed live (set (set (set live v p) (64 + v) n) (128 + v) f) v p n f
-headed-set live v p n f low room =
-    record {
-      length = simp length-set;
-      past = last v (λ e. omega arith)
-          ∙ get_or-set_other (set live v p) (64 + v) v n 0 (λ e. omega arith)
-          ∙ get_or-set_same live v p 0 (omega arith);
-      size = last (64 + v) (λ e. omega arith) ∙ get_or-set_same (set live v p) (64 + v) n 0 (simp length-set (omega arith));
-      fresh = get_or-set_same (set (set live v p) (64 + v) n) (128 + v) f 0 (simp length-set (omega arith));
-      others = λ j x y z. last j z ∙ get_or-set_other (set live v p) (64 + v) j n 0 y ∙ get_or-set_other live v j p 0 x;
-    }
-  where
-    last : (j : ℕ) → (j ≡ 128 + v → ⊥) → get_or (set (set (set live v p) (64 + v) n) (128 + v) f) j 0 ≡ get_or (set (set live v p) (64 + v) n) j 0
-    last j z = get_or-set_other (set (set live v p) (64 + v) n) (128 + v) j f 0 z
 
 -- the lists stay as they are
 head-cost : {a b : List ℕ} {v p n f : ℕ} (k : ℕ) → v < 64 → 256 ≤ k → Headed a b v p n f → numbers_from figures k b ≡ numbers_from figures k a
@@ -201,9 +151,6 @@ settled_on {live} {a} {b} {d} {v} {s} {t} {at} {n} {m} {k} low ok ea en em past 
           least = subst (λ (c : Cost). AtMost c (entry live v j)) e (subst (AtMost (cost_in live (at + n * 3) q)) (old-cost j) x.least);
         }
 
-pub same_at : (live : List ℕ) (v : ℕ) → SameAt live live v
-same_at live v = record { past = refl; size = refl; fresh = refl; new = refl; list = λ j l. refl }
-
 pub same_then : {a b c : List ℕ} {v : ℕ} → SameAt a b v → SameAt b c v → SameAt a c v
 same_then x y =
     record {
@@ -289,14 +236,6 @@ settled-from {live} {a} {b} {v} {s} {t} ok x y =
           least = subst (λ (c : Cost). AtMost c (entry live v j)) e (subst (AtMost (entry a v q)) (same-entry v j x l) u.least);
         }
 
-settleable-kept : {live a : List ℕ} {v : ℕ} → length a ≡ length live → SameAt live a v → Settleable live v → Settleable a v
-settleable-kept e x ok =
-    record { room = omega (arith, e, ok.room); order = omega (arith, x.size, x.new, ok.order); few = omega (arith, x.new, ok.few) }
-
--- no place of a set is settled yet
-pub settled-none : (free live : List ℕ) (set t : ℕ) → SettledTo free live live set 0 t
-settled-none free live set t = record { size = refl; done = λ v l m h. absurd (omega arith); others = λ v l n. same_at live v }
-
 -- the places from u to x are not in the set
 pub settled-past : {free live after : List ℕ} {set u t : ℕ} (x : ℕ) → u ≤ x → ((w : ℕ) → u ≤ w → w < x → Has set w → ⊥)
     → SettledTo free live after set u t → SettledTo free live after set x t
@@ -310,11 +249,6 @@ settled-past {u = u} x le none y =
 -- the place that is found is in the set
 pub has_of : {set w : ℕ} → w < 64 → Has set w ⊎ (64 ≤ w) → Has set w
 has_of low o = ⊎_elim (λ h. h) (λ far. absurd (omega arith)) o
-
--- the next place of the set can be settled
-pub settled-next : {free live after : List ℕ} {set places u t : ℕ} (w : ℕ) → u ≤ w → w < places → w < 64 → Has set w → AllSettleable live set places
-    → SettledTo free live after set u t → Settleable after w
-settled-next w le low l h all y = settleable-kept y.size (y.others w l (λ m g. omega arith)) (all.each w low h)
 
 -- the next place of the set is settled
 pub settled-more : {free live a b : List ℕ} {set places t : ℕ} (w : ℕ) → w < places → w < 64 → Has set w → AllSettleable live set places

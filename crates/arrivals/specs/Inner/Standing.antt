@@ -1,6 +1,6 @@
 -- The lists of all places from step to step: what they show of the rows, that visits leave them as they are but for what they add, and that after they are
 -- settled they stand for all rows of the step.
-use Rattle.std.specs.Prelude.{◌≡◌, refl, Bool, true, false, List, ◌⊎◌, ℕ, ◌+◌, ◌*◌, ◌-◌, ◌/◌, ◌%◌, ◌^◌, ◌≤◌, ◌<◌, length, get_or, set, replicate}
+use Rattle.std.specs.Prelude.{◌≡◌, refl, Bool, true, false, List, ◌⊎◌, ℕ, ◌+◌, ◌*◌, ◌-◌, ◌/◌, ◌%◌, ◌^◌, ◌≤◌, ◌<◌, length, get_or, set, replicate, Result, Ok, Err, IsErr}
 use Rattle.std.proofs.Common.{sym, ap, ◌∙◌, subst, inl, inr, ⊎_elim, arith, length-set, get_or-set_same, get_or-set_other, lt-ltb, le-ltb}
 use Rattle.std.proofs.Math.Decide.{ℕ_discrete}
 use Rattle.std.specs.Int.Bits.{bit_or}
@@ -24,6 +24,8 @@ use Rattle.arrivals.specs.Inner.Lists.{LedIn, Shows, Stems, Under, Listing, Sour
 use Rattle.arrivals.specs.Inner.Lists.{Modest, Appended, NewIn, Headed, LiveVisited}
 use Rattle.arrivals.specs.declared.network.Here.{Here}
 use Rattle.arrivals.specs.declared.lists.Part.{Part}
+use Rattle.arrivals.specs.declared.offers.Full.{Full}
+use Rattle.arrivals.specs.Inner.Outcomes.{offered}
 
 -- what rows come to, and what they lead
 
@@ -455,6 +457,13 @@ gathering-end {free} {net} {xs} {m} {n} {live} {after} {t} {v} {set} {p} given l
         (listing-on given l last g.sourcing.upto (g.none w l (λ h. e h.digit)) o)
 
 -- what a visit adds to the list of its place
+
+-- a visit that gives up
+pub live-refused : {free net xs ys live after : List ℕ} {n v t : ℕ} (r : Result ℕ Full) → IsErr r → length after ≡ length live → ((j : ℕ) → j < n * 5 → get_or ys j 0 ≡ get_or xs j 0)
+    → LiveVisited free net xs ys live after n v t (offered r)
+live-refused (Err e) i size below =
+    record { size = size; below = below; visited = λ e. absurd (false-not-true refl e); aside = λ e. absurd (false-not-true refl e); pending = λ e. absurd (false-not-true refl e) }
+live-refused (Ok n) i size below = absurd (false-not-true refl i)
 
 pub new_none : (xs : List ℕ) (n d : ℕ) (live : List ℕ) (h : Here) → NewIn xs n d live live h false
 new_none xs n d live h =

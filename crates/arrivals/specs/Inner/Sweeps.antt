@@ -1,7 +1,7 @@
 -- Sweeps over the rows of a group, of a place and of the corridors into a place: each cost that they arrive with at h is offered.
-use Rattle.std.specs.Prelude.{◌≡◌, refl, List, Bool, true, ◌⊎◌, ℕ, ◌+◌, ◌*◌, ◌-◌, ◌≤◌, ◌<◌, length, get_or}
+use Rattle.std.specs.Prelude.{◌≡◌, refl, List, Bool, true, ◌⊎◌, ℕ, ◌+◌, ◌*◌, ◌-◌, ◌≤◌, ◌<◌, length, get_or, Result, Ok, Err, IsErr}
 use Rattle.std.proofs.Common.{sym, ap, ◌∙◌, subst, inl, inr, ⊎_elim, arith}
-use Rattle.sheet.specs.Laws.Decided.{lt-or-le, Any, All}
+use Rattle.sheet.specs.Laws.Decided.{false-not-true, lt-or-le, Any, All}
 use Rattle.costs.specs.Costs.{Cost, add, times, AtMost}
 use Rattle.costs.specs.Laws.Figures.{fig-add}
 use Rattle.arrivals.specs.Rows.{Row, row_at}
@@ -12,12 +12,13 @@ use Rattle.arrivals.specs.Inner.Chains.{by_place, NextOne}
 use Rattle.arrivals.specs.Inner.Entering.{reach, Enters, Entry, LedAt, led-up, Ready, Complete}
 use Rattle.arrivals.specs.Inner.Filling.{Reaching}
 use Rattle.arrivals.specs.Inner.Pruning.{Tried}
-use Rattle.arrivals.specs.Inner.Offering.{Sorted, sorted_none, offers-sorted, Swept, swept-then, swept_as, swept-under}
+use Rattle.arrivals.specs.Inner.Offering.{Sorted, sorted_none, offers-sorted, Swept, swept-full, swept-then, swept_as, swept-under}
 use Rattle.arrivals.specs.Inner.Index.{Listed, Indexed, Cover, Covers, Older, low_of, high_of, newest_of, indexed-kept, covers_kept, older-most, older-past, row_low, low-row, row-newest, lag-sum}
 use Rattle.arrivals.specs.declared.network.Here.{Here}
 use Rattle.arrivals.specs.declared.network.Source.{Source}
 use Rattle.arrivals.specs.declared.index.Span.{Span}
-use Rattle.arrivals.specs.declared.offers.Outcome.{Outcome}
+use Rattle.arrivals.specs.Inner.Outcomes.{Outcome, offered}
+use Rattle.arrivals.specs.declared.offers.Full.{Full}
 
 -- costs of S are offered to the rows at h, where older rows stand below row a
 abbrev pub SweptAt : (Cost → Type 0) → Here → ℕ → List ℕ → List ℕ → ℕ → Bool → ℕ → Type 0
@@ -86,6 +87,12 @@ pub before_of : {xs : List ℕ} {n : ℕ} {ix : List ℕ} {t : ℕ} → Indexed 
 before_of {xs} {n} {ix} {t} w v s {p} l inside early e f =
     let b = w.order s v l inside in
     record { order = omega (arith, b.0); upto = omega (arith, b.1); early = λ i x y. let o = w.only s v i l inside (omega arith) (omega arith) in omega (arith, o.1) }
+
+-- an offer that is refused
+pub swept-refused : {S H : Cost → Type 0} {v t a : ℕ} {xs ys : List ℕ} {d : ℕ} (r : Result ℕ Full) → IsErr r → ((j : ℕ) → j < a * 5 → get_or ys j 0 ≡ get_or xs j 0) → a * 5 ≤ length ys
+    → Swept S H v t a xs ys d (offered r).ok (offered r).rows
+swept-refused (Err e) i b l = swept-full b (omega arith)
+swept-refused (Ok n) i b l = absurd (false-not-true refl i)
 
 -- what each sweep promises
 abbrev pub OffersRows : List ℕ → List ℕ → ℕ → ℕ → Span → Source → Here → Outcome → Type 0

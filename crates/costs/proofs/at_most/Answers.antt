@@ -22,9 +22,6 @@ or_left a b = omega (arith, or_add_and a b, and_le_r a b)
 or_right : (a b : ℕ) → b ≤ bit_or a b
 or_right a b = omega (arith, or_add_and a b, and_le_l a b)
 
-pub loop-i-init : goal.loop-i-init
-loop-i-init c = (omega arith, inl (omega arith, λ k l. absurd (omega arith)))
-
 pub loop-i-preserved : goal.loop-i-preserved
 loop-i-preserved c =
     let a = c.args in

@@ -3,7 +3,6 @@ use mathlib.Core.Path.{sym, subst}
 use mathlib.Core.List.{List}
 use Prim.Native.Nat.{ℕ}
 use native.Mathlib.Omega.{arith}
-use borrow.Author.Count.{below_more}
 use borrow.Author.Rules.{rules}
 use Rattle.sheet.specs.Lists.{Lex}
 use Rattle.sheet.specs.Laws.Order.{Lex-lexb, Lex-irrefl}
@@ -19,9 +18,6 @@ pub returns-then-b-i : goal.returns-then-b-i
 returns-then-b-i c =
     let a = c.args in
     sym (lexb-not a.a a.b (Lex-asym a.b a.a (is-Lex a.b a.a c.loop-i.i (search rules) (search rules) (λ k h. sym (c.loop-i.invariant.1 k h)) c.if-b-i.true)))
-
-pub loop-i-preserved : goal.loop-i-preserved
-loop-i-preserved c = (search rules, below_more _ _ c.loop-i.invariant.1 (omega arith))
 
 pub returns : goal.returns
 returns c =

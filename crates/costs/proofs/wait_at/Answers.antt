@@ -2,11 +2,12 @@
 -- Assumes nothing.
 use mathlib.Core.Path.{◌∙◌}
 use native.Mathlib.Omega.{arith}
+use Rattle.sheet.proofs.HeldSheets.{held-is}
 use Rattle.costs.proofs.Crossings.{whole-store, wait-cost}
 use Rattle.costs.proofs.wait_at.Goals as goal
 
 pub cost_from-requires : goal.cost_from-requires
-cost_from-requires c = omega (arith, whole-store c.requires.0, c.requires.1)
+cost_from-requires c = omega (arith, whole-store (held-is c.sheet.invariant c.sheet.view_is), c.requires)
 
 pub returns : goal.returns
-returns c = c.cost_from.ensures ∙ wait-cost c.requires.0 _ c.requires.1
+returns c = c.cost_from.ensures ∙ wait-cost (held-is c.sheet.invariant c.sheet.view_is) c.args.v c.requires

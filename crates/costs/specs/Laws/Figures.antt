@@ -1,5 +1,5 @@
 -- Laws of costs, each shown for the figure at any position: sums and multiples, the order figure by figure and dominance, with their tests.
-use Rattle.std.specs.Prelude.{◌≡◌, refl, ◌⊎◌, Bool, true, false, not, ◌&&◌, List, [], ◌∷◌, ℕ, zero, suc, ◌+◌, ◌*◌, ◌-◌, ◌≤◌, ◌<◌, ltb, leb, eqb, length, set}
+use Rattle.std.specs.Prelude.{◌≡◌, refl, ◌⊎◌, Bool, true, false, not, ◌&&◌, List, [], ◌∷◌, ℕ, zero, suc, ◌+◌, ◌*◌, ◌≤◌, ◌<◌, ltb, leb, eqb, length, set}
 use Rattle.std.proofs.Common.{sym, ◌∙◌, ap, subst, inl, inr, true≢false, arith, mul-le-mul_left, length-set, ext_get_or, get_or-set_same, get_or-set_other, ltb-true, ltb-false, leb-true, leb-false, eqb-true, le-leb, eq-eqb}
 use Rattle.std.proofs.Math.ListN.{get_or-eq_default}
 use Rattle.std.proofs.lemmas.Bool.{eqb-false, not-true}
@@ -257,12 +257,6 @@ stored_more n f i r l h = record { sized = length-set r i (f i) ∙ h.sized; so_
 pub stored-all : (n : ℕ) (f : ℕ → ℕ) (i : ℕ) (r : List ℕ) → n ≤ i → Stored n f i r → Stored n f n r
 stored-all n f i r l h = record { sized = h.sized; so_far = λ k b. h.so_far k (omega arith) }
 
-pub is-add : (n : ℕ) (r a b : Cost) → length a ≡ n → length b ≡ n → Stored n (λ k. fig a k + fig b k) n r → r ≡ add a b
-is-add n r a b p q h = ext_get_or 0 r (add a b) (h.sized ∙ sym (length-add a b n p q)) (λ k l. h.so_far k (omega (arith, h.sized)) ∙ sym (fig-add a b k))
-
-pub is-times : (n m : ℕ) (r a : Cost) → length a ≡ n → Stored n (λ k. m * fig a k) n r → r ≡ times m a
-is-times n m r a p h = ext_get_or 0 r (times m a) (h.sized ∙ sym (length-times m a ∙ p)) (λ k l. h.so_far k (omega (arith, h.sized)) ∙ sym (fig-times m a k))
-
 pub is-from : (n i : ℕ) (r l : List ℕ) → Stored n (λ k. number l (i + k)) n r → r ≡ numbers_from n i l
 is-from n i r l h = ext_get_or 0 r (numbers_from n i l) (h.sized ∙ sym (from-length n i l)) (λ k q. h.so_far k (omega (arith, h.sized)) ∙ sym (from_at n i l k (omega (arith, h.sized))))
 
@@ -276,10 +270,6 @@ is-at-most n a b p h = record { every = λ i. go i (ltb i n) refl }
 
 pub is_same : (n : ℕ) (a b : Cost) → length a ≡ n → length b ≡ n → ((k : ℕ) → k < n → fig a k ≡ fig b k) → a ≡ b
 is_same n a b p q h = ext_get_or 0 a b (p ∙ sym q) (λ k l. h k (omega arith))
-
-pub is-less : (n : ℕ) (r h c : Cost) → length h ≡ n → length c ≡ n → AtMost c h → Stored n (λ k. fig h k - fig c k) n r → (length r ≡ n) × (add r c ≡ h)
-is-less n r h c p q l x =
-    (x.sized, is_same n (add r c) h (length-add r c n x.sized q) p (λ k b. omega (arith, fig-add r c k, x.so_far k b, l.every k)))
 
 pub is-Lex : (a b : Cost) (i : ℕ) → i < length a → i < length b → ((k : ℕ) → k < i → fig a k ≡ fig b k) → fig a i < fig b i → Lex a b
 is-Lex [] b i p q h l = absurd (omega arith)

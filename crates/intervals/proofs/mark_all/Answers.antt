@@ -1,23 +1,21 @@
 -- `intervals::mark_all` meets its contract. Assumes nothing.
-use mathlib.Core.Path.{◌≡◌, subst}
-use Prim.Native.Nat.{ℕ, ◌/◌}
-use native.Mathlib.Omega.{arith}
-use lib.ListN.{length}
-use borrow.Author.Rules.{rules}
-use Rattle.intervals.specs.Inner.{Marked}
-use Rattle.intervals.proofs.Tables.{markable, marked-none, marked_more}
+use Rattle.std.proofs.Common.{rules, arith}
+use Rattle.intervals.proofs.Tables.{line_is, markable, marked-none, marked_more}
 use Rattle.intervals.proofs.mark_all.Goals as goal
 
-pub loop-k-init : goal.loop-k-init
-loop-k-init c = (omega arith, search rules, marked-none _ _ c.requires.2)
+pub loop-place-init : goal.loop-place-init
+loop-place-init c = (search rules, marked-none _ _ c.requires.2)
 
 pub mark-requires : goal.mark-requires
-mark-requires c = (markable _ c.loop-k.k c.requires.0 (search rules), c.loop-k.invariant.1)
+mark-requires c =
+    let o = c.args.occupancies.now in
+    let k = c.loop-place.place-index in
+    let i = line_is o _ c.as_chunks.ensures.front k (omega arith) in
+    let m = markable o k c.requires.0 (omega arith) in
+    (search rules, omega (arith, i.place, m.place), omega (arith, i.last, m.step))
 
-pub loop-k-preserved : goal.loop-k-preserved
-loop-k-preserved c = (search rules, search rules, marked_more c.args.occupancies.now c.loop-k.k c.loop-k.since _ c.loop-k.invariant.2 c.mark.ensures)
-
-pub returns : goal.returns
-returns c =
-    let e : c.loop-k.k ≡ length c.args.occupancies.now / 3 = omega arith in
-    subst (λ (n : ℕ). Marked c.args.occupancies.now n c.loop-k.since) e c.loop-k.invariant.2
+pub loop-place-preserved : goal.loop-place-preserved
+loop-place-preserved c =
+    let w = c.loop-place in
+    let i = line_is c.args.occupancies.now _ c.as_chunks.ensures.front w.place-index (omega arith) in
+    (search rules, marked_more _ _ w.since _ i w.invariant.1 c.mark.ensures)

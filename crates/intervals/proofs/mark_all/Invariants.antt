@@ -1,12 +1,7 @@
--- `intervals::mark_all`. The loop's invariant: the entries of the first k lines are marked, and the others are 0. The measure is what is left of the lines.
-use mathlib.Core.Path.{◌≡◌}
-use Prim.Native.Nat.{◌-◌, ◌≤◌}
-use lib.ListN.{length}
+-- `intervals::mark_all`. The loop's invariant: the entries of the lines so far are marked, and the others are 0.
+use Rattle.std.specs.Prelude.{◌≡◌, length}
 use Rattle.intervals.specs.Inner.{Marked}
 use Rattle.intervals.proofs.mark_all.Given as goal
 
-abbrev pub invariant-loop-k : goal.invariant-loop-k
-invariant-loop-k l = (l.k ≤ l.n) × (length l.since ≡ 16384) × Marked l.occupancies l.k l.since
-
-abbrev pub decreases-loop-k : goal.decreases-loop-k
-decreases-loop-k l = l.n - l.k
+abbrev pub invariant-loop-place : goal.invariant-loop-place
+invariant-loop-place l = (length l.since ≡ 16384) × Marked l.occupancies l.place-index l.since

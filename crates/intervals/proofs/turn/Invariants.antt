@@ -1,12 +1,7 @@
--- `intervals::turn`. The loop's invariant: the runs after the first k lines are written. The measure is what is left of the lines.
-use mathlib.Core.Path.{◌≡◌}
-use Prim.Native.Nat.{◌-◌, ◌≤◌}
-use lib.ListN.{length}
+-- `intervals::turn`. The loop's invariant: the runs after the lines so far are written.
+use Rattle.std.specs.Prelude.{◌≡◌, length}
 use Rattle.intervals.proofs.Fill.{Filled}
 use Rattle.intervals.proofs.turn.Given as goal
 
-abbrev pub invariant-loop-k : goal.invariant-loop-k
-invariant-loop-k l = (l.k ≤ l.n) × (length l.since ≡ 16384) × Filled l.occupancies l.k l.since
-
-abbrev pub decreases-loop-k : goal.decreases-loop-k
-decreases-loop-k l = l.n - l.k
+abbrev pub invariant-loop-place : goal.invariant-loop-place
+invariant-loop-place l = (length l.since ≡ 16384) × Filled l.occupancies l.place-index l.since

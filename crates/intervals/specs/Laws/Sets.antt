@@ -1,6 +1,6 @@
 -- Sets of places: what a union and a set with a place more hold, and the lowest digit that is set.
 use Rattle.std.specs.Prelude.{◌≡◌, refl, List, ◌⊎◌, ℕ, zero, suc, ◌+◌, ◌*◌, ◌-◌, ◌/◌, ◌%◌, ◌^◌, ◌≤◌, ◌<◌, length}
-use Rattle.std.proofs.Common.{sym, ◌∙◌, ap, subst, inl, inr, ⊎_elim, pow-suc, arith, length-set, shl_exact, shr-shr, pow_pos, pow-add, get_or-set_same, get_or-set_other}
+use Rattle.std.proofs.Common.{sym, ◌∙◌, ap, subst, inl, inr, ⊎_elim, pow-suc, arith, length-set, shr-shr, pow_pos, pow-add, get_or-set_same, get_or-set_other}
 use Rattle.std.proofs.Math.Decide.{ℕ_discrete}
 use Rattle.std.specs.Int.Bits.{bit_or, or_step}
 use Rattle.std.proofs.lemmas.Nat.{or_shr, shl-shr}
@@ -37,10 +37,7 @@ pub has-or : (a b v : ℕ) → Has (bit_or a b) v → Has a v ⊎ Has b v
 has-or a b v h =
     ⊎_elim (λ e. inl (record { digit = e })) (λ e. inr (record { digit = e })) (or-odd (a / 2 ^ v) (b / 2 ^ v) (sym (ap (λ (x : ℕ). x % 2) (or_shr a b v)) ∙ h.digit))
 
--- the set of one place: it is no more than 64 digits long, and holds that place alone
-pub one_place : (v : ℕ) → v < 64 → (1 * 2 ^ v) % 18446744073709551616 ≡ 2 ^ v
-one_place v l = let e : 1 * 2 ^ v ≡ 2 ^ v = omega arith in shl_exact {a = 1} 1 v 64 (omega arith) (omega arith) ∙ e
-
+-- the set of one place holds that place alone
 pub has-own : (v : ℕ) → Has (2 ^ v) v
 has-own v = record { digit = ap (λ (x : ℕ). x / 2 ^ v % 2) one ∙ ap (λ (x : ℕ). x % 2) (shl-shr 1 v) }
   where

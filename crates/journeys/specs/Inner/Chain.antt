@@ -1,6 +1,6 @@
 -- Chains of rows of the arrivals table, and what the functions over them promise each other: a row's place column holds the number of the next row.
 -- No exported contract cites this file.
-use Rattle.std.specs.Prelude.{◌≡◌, true, false, List, [], ◌∷◌, ◌++◌, ℕ, zero, suc, ◌+◌, ◌*◌, ◌-◌, ◌≤◌, ◌<◌, eqb, length, set}
+use Rattle.std.specs.Prelude.{◌≡◌, Bool, true, false, List, [], ◌∷◌, ◌++◌, ℕ, zero, suc, ◌+◌, ◌*◌, ◌-◌, ◌≤◌, ◌<◌, eqb, length, set}
 use Rattle.sheet.specs.Lists.{◌∈◌, pick, number}
 use Rattle.sheet.specs.Computed.{lexb}
 use Rattle.sheet.specs.Sorting.{Ascending}
@@ -156,17 +156,7 @@ pub record Orderable (n : ℕ) (xs : List ℕ) (g : Gap) : Type 0 where
 
 -- and with row n, if that is one of the goal's
 pub record OrderedIn (n : ℕ) (xs ys : List ℕ) (g r : Gap) : Type 0 where
-  pub of : (v : ℕ) (told base : List ℕ) → Ordering v told n base xs g → is_goal_row v told (row_at xs n) ≡ true → Ordering v told (n + 1) base ys r
-
--- none of the rows from row `from` to row r is the goal's
-pub record NoGoal (v : ℕ) (counting : List ℕ) (from : ℕ) (xs : List ℕ) (r : ℕ) : Type 0 where
-  pub none : (k : ℕ) → from ≤ k → k < r → is_goal_row v counting (row_at xs k) ≡ false
-
--- and row r is, or it is row n
-pub record NextGoal (v : ℕ) (counting : List ℕ) (from n : ℕ) (xs : List ℕ) (r : ℕ) : Type 0 where
-  pub within : r ≤ n
-  pub passed : NoGoal v counting from xs r
-  pub found : r < n → (from ≤ r) × (is_goal_row v counting (row_at xs r) ≡ true)
+  pub of : (v : ℕ) (told : List ℕ) (base : List ℕ) → Ordering v told n base xs g → is_goal_row v told (row_at xs n) ≡ true → Ordering v told (n + 1) base ys r
 
 -- the chain covers the goal's rows
 pub record OrderedAll (v : ℕ) (counting : List ℕ) (n : ℕ) (xs ys : List ℕ) (r : Gap) : Type 0 where

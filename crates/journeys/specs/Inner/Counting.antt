@@ -3,7 +3,7 @@ use Rattle.std.specs.Prelude.{◌≡◌, List, ℕ, ◌≤◌, length}
 use Rattle.sheet.specs.Lists.{number}
 use Rattle.sheet.specs.Kinds.{width, kind_s}
 use Rattle.sheet.specs.Sheet.{Sheet}
-use Rattle.sheet.specs.Store.{sheet_in}
+use Rattle.sheet.specs.Store.{SomeStore, sheet_in}
 use Rattle.intervals.specs.FirstSteps.{Stayable, Derived}
 use Rattle.journeys.specs.Computed.{countsb}
 use Rattle.journeys.specs.Inner.{counts_at}
@@ -19,4 +19,4 @@ pub record CountingOf (s : Sheet) (counting : List ℕ) : Type 0 where
 
 -- it tells so of the sheet that stands in the array `all`, with this table of first steps
 pub record CountingIn (all since counting : List ℕ) : Type 0 where
-  pub of : (lines : List ℕ) → Derived lines all since → CountingOf (sheet_in lines all) counting
+  pub of : (lines : List ℕ) → SomeStore lines all → Derived (sheet_in lines all) since → CountingOf (sheet_in lines all) counting

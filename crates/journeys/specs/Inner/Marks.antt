@@ -1,7 +1,6 @@
 -- What the functions that mark rows promise. No exported contract cites this file.
 use Rattle.std.specs.Prelude.{◌≡◌, ◌⊎◌, Bool, true, List, ℕ, ◌+◌, ◌-◌, ◌*◌, ◌≤◌, ◌<◌, length, get_or}
 use Rattle.sheet.specs.Sheet.{Sheet}
-use Rattle.sheet.specs.Store.{sheet_in}
 use Rattle.costs.specs.Costs.{Cost, add}
 use Rattle.costs.specs.Moves.{wait_of}
 use Rattle.costs.specs.Priced.{CrossingBy}
@@ -43,11 +42,11 @@ pub record Settled (s : Sheet) (n : ℕ) (xs : List ℕ) (b : Arrival) : Type 0 
   pub every : (k : ℕ) → k < n → CrossesInto s (stand_at xs k) (arrival b.place (b.step + 1) (add b.cost (wait_of s b.place))) → b.step < mark_at xs k
 
 -- the first n rows are the leading arrivals of the sheet in the array, b is past step 0, and what is settled is
-pub record Enterable (lines all since : List ℕ) (n : ℕ) (table : List ℕ) (b : Arrival) (settled : Bool) : Type 0 where
-  pub rowed : Rowed lines all since n table
+pub record Enterable (s : Sheet) (since : List ℕ) (n : ℕ) (table : List ℕ) (b : Arrival) (settled : Bool) : Type 0 where
+  pub rowed : Rowed s since n table
   pub moved : 1 ≤ b.step
   pub day : b.step ≤ 255
-  pub settles : settled ≡ true → Settled (sheet_in lines all) n table b
+  pub settles : settled ≡ true → Settled s n table b
 
 -- row i is marked past step t, and from row k a cart can cross and stand where it stands then
 pub record Onto (s : Sheet) (xs : List ℕ) (t i k : ℕ) : Type 0 where
@@ -66,11 +65,11 @@ pub record Passed (s : Sheet) (n : ℕ) (xs : List ℕ) (t : ℕ) : Type 0 where
   pub every : (k : ℕ) → k < n → OntoAny s n xs t k → t ≤ mark_at xs k
 
 -- the first n rows are the leading arrivals of the sheet in the array, t is a step past 0, and the step after it is passed
-pub record Passable (lines all since : List ℕ) (n : ℕ) (table : List ℕ) (t : ℕ) : Type 0 where
-  pub rowed : Rowed lines all since n table
+pub record Passable (s : Sheet) (since : List ℕ) (n : ℕ) (table : List ℕ) (t : ℕ) : Type 0 where
+  pub rowed : Rowed s since n table
   pub moved : 1 ≤ t
   pub day : t ≤ 255
-  pub passed : Passed (sheet_in lines all) n table (t + 1)
+  pub passed : Passed s n table (t + 1)
 
 -- The marks tell what is on the way to the cost f at step A: all that is below a mark is; and all that is, from step t on, is below its mark.
 pub record Marks (s : Sheet) (f : Cost) (A n : ℕ) (xs : List ℕ) (t : ℕ) : Type 0 where

@@ -1,5 +1,5 @@
 -- What the function that reads the front off the arrivals table promises.
-use Rattle.std.specs.Prelude.{◌≡◌, List, ℕ}
+use Rattle.std.specs.Prelude.{◌≡◌, Bool, List, ℕ}
 use Rattle.sheet.specs.Sheet.{Sheet, goal}
 use Rattle.journeys.specs.Calls.{FrontEnd, front_on}
 use Rattle.journeys.specs.Inner.Counting.{CountingOf}

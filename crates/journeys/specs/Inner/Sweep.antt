@@ -1,5 +1,5 @@
 -- What the functions that read the front off the chained rows of the goal promise each other. No exported contract cites this file.
-use Rattle.std.specs.Prelude.{◌≡◌, ◌⊎◌, Bool, false, List, [], ◌∷◌, ◌++◌, map, ℕ, ◌+◌, ◌*◌, ◌-◌, ◌≤◌, ◌<◌, length, get_or, take, drop}
+use Rattle.std.specs.Prelude.{◌≡◌, ◌⊎◌, Bool, false, List, [], ◌∷◌, ◌++◌, map, ℕ, ◌+◌, ◌*◌, ◌-◌, ◌≤◌, ◌<◌, length, get_or, take, drop, Option}
 use Rattle.sheet.specs.Lists.{◌∈◌, pick, number, any, bind, Lex, filled}
 use Rattle.sheet.specs.Sorting.{Ascending}
 use Rattle.costs.specs.Costs.{Cost, fig}
@@ -142,7 +142,7 @@ pub record FrontCounted (v : ℕ) (counting : List ℕ) (n : ℕ) (xs ys : List 
   pub counted : r ≡ length (front_of (costs_of (goal_rows v counting n xs)))
   pub kept : ys ≡ xs
 
-pub record FrontNumbered (v : ℕ) (counting : List ℕ) (n : ℕ) (xs ys : List ℕ) (i : ℕ) (r : Offered) : Type 0 where
+pub record FrontNumbered (v : ℕ) (counting : List ℕ) (n : ℕ) (xs ys : List ℕ) (i : ℕ) (r : Option Offered) : Type 0 where
   pub numbered : NumberIs (goal_rows v counting n xs) i r
   pub kept : ys ≡ xs
 

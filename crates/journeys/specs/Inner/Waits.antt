@@ -1,7 +1,6 @@
 -- What the functions that find the row from which a cart waits promise. No exported contract cites this file.
 use Rattle.std.specs.Prelude.{◌≡◌, List, ℕ, ◌-◌, ◌≤◌, ◌<◌}
 use Rattle.sheet.specs.Sheet.{Sheet}
-use Rattle.sheet.specs.Store.{sheet_in}
 use Rattle.costs.specs.Costs.{Cost, add, times}
 use Rattle.intervals.specs.FirstSteps.{Derived}
 use Rattle.arrivals.specs.Arrivals.{Arrival, Leading}
@@ -40,9 +39,9 @@ pub record Rows (s : Sheet) (n : ℕ) (xs : List ℕ) : Type 0 where
   pub every : (e : Arrival) → Leading s e → (k : ℕ) × (k < n) × (stand_at xs k ≡ e)
 
 -- those of the sheet in the array, whose first steps stand beside it
-pub record Rowed (lines all since : List ℕ) (n : ℕ) (table : List ℕ) : Type 0 where
-  pub derived : Derived lines all since
-  pub rows : Rows (sheet_in lines all) n table
+pub record Rowed (s : Sheet) (since : List ℕ) (n : ℕ) (table : List ℕ) : Type 0 where
+  pub derived : Derived s since
+  pub rows : Rows s n table
 
 -- from the row with number r, and from no other of the first n, a cart stands as a by waiting; r is n where there is none
 pub record WaitingRow (s : Sheet) (n : ℕ) (xs : List ℕ) (a : Arrival) (r : ℕ) : Type 0 where

@@ -1,7 +1,6 @@
 -- What the functions of the walk promise each other. No exported contract cites this file.
 use Rattle.std.specs.Prelude.{◌≡◌, List, ℕ, suc, ◌≤◌, ◌<◌}
 use Rattle.sheet.specs.Sheet.{Sheet}
-use Rattle.sheet.specs.Store.{sheet_in}
 use Rattle.costs.specs.Costs.{Cost, add}
 use Rattle.costs.specs.Moves.{wait_of}
 use Rattle.costs.specs.Priced.{Within, CrossingBy}
@@ -44,9 +43,9 @@ pub record LowestNext (s : Sheet) (n : ℕ) (xs : List ℕ) (a b : Arrival) : Ty
 
 -- the first n rows are the leading arrivals of the sheet in the array; a is a cart's place, with steps and figures that can be counted on, and a move
 -- makes something of it that is marked
-pub record Walkable (lines all since : List ℕ) (n : ℕ) (table : List ℕ) (a : Arrival) : Type 0 where
-  pub rowed : Rowed lines all since n table
+pub record Walkable (s : Sheet) (since : List ℕ) (n : ℕ) (table : List ℕ) (a : Arrival) : Type 0 where
+  pub rowed : Rowed s since n table
   pub place : a.place < 64
   pub step : a.step < 255
   pub cost : Within 1000000000 a.cost
-  pub some : (b : Arrival) × NextOf (sheet_in lines all) n table a b
+  pub some : (b : Arrival) × NextOf s n table a b

@@ -34,7 +34,7 @@ filter_alike p q e [] = refl
 filter_alike p q e (a ∷ l) = rw (e a, filter_alike p q e l)
 
 -- the front of a sheet off its table
-module _ (s : Sheet) (n : ℕ) (xs counting : List ℕ) where
+module _ (s : Sheet) (n : ℕ) (xs : List ℕ) (counting : List ℕ) where
   -- the goal's rows are the leading arrivals at the goal that count
   goal-leading : Holds s n xs → CountingOf s counting → goal_rows (goal s) counting n xs ≡ filter (counts_at_goal s) (leading s)
   goal-leading h c =
@@ -70,7 +70,7 @@ first-earliest g (x ∷ l) s a m e = go (sameb x.cost g) refl m (first-earliest 
     go false q (inl p) f = absurd (true≢false (sym (subst (λ (h : Cost). sameb h g ≡ true) (sym e ∙ ap (λ (y : Arrival). y.cost) p) (sameb-refl g)) ∙ q))
     go false q (inr m) f = f m e
 
-pub holds-step : (s : Sheet) (n : ℕ) (xs counting : List ℕ) (g : Cost) → Holds s n xs → CountingOf s counting → g ∈ front s
+pub holds-step : (s : Sheet) (n : ℕ) (xs : List ℕ) (counting : List ℕ) (g : Cost) → Holds s n xs → CountingOf s counting → g ∈ front s
     → first_step_of g (goal_rows (goal s) counting n xs) ≡ arrival_of s g
 holds-step s n xs counting g h c m = ap (first_step_of g) (goal-leading s n xs counting h c) ∙ same
   where

@@ -11,7 +11,7 @@ use Rattle.costs.specs.Priced.{Within}
 use Rattle.month.specs.Month.{Month, Outcome, refused, collected, told, month_of, figures_at, total, least, greatest, mean, total_digits, figure_line, figure_lines, page, page_room, held}
 use Rattle.month.specs.Inner.{most_figure, most_lines, most_total}
 use Rattle.month.specs.Laws.Figures.{total-most, figures-count, figures-within}
-use Rattle.month.specs.declared.MonthPage.{MonthPage}
+use Rattle.sheet.specs.declared.printed.Printed.{Printed}
 
 -- the line of a figure, the lines of all, and any page
 pub figure-long : (m : Month) (i : ℕ) → length (figure_line m i) ≤ 62
@@ -33,9 +33,9 @@ page-fits b = go (month_of b)
     go (collected m) = lines_long m
 
 -- the page that the program holds lies within its bytes
-pub held-within : (b : List ℕ) (r : MonthPage) → r ≡ held b → r.count ≤ length r.bytes
+pub held-within : (b : List ℕ) (r : Printed page_room) → r ≡ held b → r.count ≤ length r.bytes
 unfolding held
-held-within b r e = subst (λ (x : MonthPage). x.count ≤ length x.bytes) (sym e) (omega (arith, page-fits b, length-filled page_room (page b) (page-fits b)))
+held-within b r e = subst (λ (x : Printed page_room). x.count ≤ length x.bytes) (sym e) (omega (arith, page-fits b, length-filled page_room (page b) (page-fits b)))
 
 -- the total of at most 4,096 figures, none above the most, has no more digits than are printed
 pub total-small : (i : ℕ) (m : Month) → length m ≤ most_lines → ((c : Cost) → c ∈ m → Within most_figure c) → total (figures_at i m) ≤ most_total

@@ -8,11 +8,9 @@ use Rattle.std.proofs.Math.ListN.{length, length-append, get_or-append}
 use Rattle.std.proofs.Math.Seq.{drop-append-add, get_or-append_seam}
 use Rattle.sheet.specs.Lists.{◌∈◌, number, bind, filled}
 use Rattle.sheet.specs.Sheet.{Sheet}
-use Rattle.sheet.specs.Store.{sheet_in}
 use Rattle.sheet.specs.Laws.Decided.{from-of}
 use Rattle.sheet.specs.Laws.Puts.{Puts, puts-as, puts-length, puts_none, puts-more, puts-all, puts-fits}
 use Rattle.sheet.specs.Laws.Stores.{length-filled}
-use Rattle.sheet.specs.Laws.Store.{store-valid}
 use Rattle.costs.specs.Costs.{Cost, figures}
 use Rattle.journeys.specs.Front.{OnFront}
 use Rattle.journeys.specs.Computed.{journey_of, arrival_of, front}
@@ -43,10 +41,7 @@ module _ (s : Sheet) (f : Cost) (o : OnFront s f) where
       ap (number (front_row s f)) z ∙ get_or-append f (arrival_of s f ∷ []) 0 j (omega (arith, h, three)))
 
 -- the two lines of a row
-module _ {lines all since table : List ℕ} {n : ℕ} {row out : List ℕ} {at : ℕ} (p : Printable lines all since table n row out at) where
-  abbrev sheet : Sheet
-  sheet = sheet_in lines all
-
+module _ {sheet : Sheet} {since table : List ℕ} {n : ℕ} {row out : List ℕ} {at : ℕ} (p : Printable sheet since table n row out at) where
   abbrev path-of : List ℕ
   path-of = journey_of sheet (cost_in row)
 
@@ -60,11 +55,11 @@ module _ {lines all since table : List ℕ} {n : ℕ} {row out : List ℕ} {at :
   long = omega (arith, journey-length sheet (cost_in row) p.on-front.has, arrives)
 
   pub printable-short : number row 3 + 1 ≤ 256
-  printable-short = omega (arith, long, journey-short sheet (cost_in row) (store-valid p.derived.store) p.on-front.has)
+  printable-short = omega (arith, long, journey-short sheet (cost_in row) p.derived.valid p.on-front.has)
 
-  pub printable-lays : (g : Cost) → g ≡ cost_in row → (path : List ℕ) → length path ≡ 256 → Layable lines all since n table (number row 3) g path
+  pub printable-lays : (g : Cost) → g ≡ cost_in row → (path : List ℕ) → length path ≡ 256 → Layable sheet since n table (number row 3) g path
   printable-lays g e path z =
-      subst (λ (h : Cost). Layable lines all since n table (number row 3) h path) (sym e)
+      subst (λ (h : Cost). Layable sheet since n table (number row 3) h path) (sym e)
       (record { ends = record { derived = p.derived; holds = p.holds; on-front = p.on-front; arrives_at = arrives }; room = omega (arith, printable-short, z) })
 
   -- with the path laid
@@ -96,12 +91,9 @@ row_at w row (x ∷ l) h (suc i) k =
     let z : suc i * w ≡ length (row x) + i * w = omega (arith, suc-mul i w, h x (inl refl)) in
     rw (z, drop-append-add (row x) (bind l row) (i * w)) (row_at w row l (λ g m. h g (inr m)) i (omega arith))
 
-module _ {lines all since table : List ℕ} {n : ℕ} {list out : List ℕ} {at : ℕ} (o : Offered lines all since table n list out at) {out₁ : List ℕ} {i m : ℕ}
-    (t : Through (sheet_in lines all) i out at out₁ m) where
-  abbrev offered : Sheet
-  offered = sheet_in lines all
-
-  listed-length : length list ≡ length (front offered) * 4
+module _ {offered : Sheet} {since table : List ℕ} {n : ℕ} {list out : List ℕ} {at : ℕ} (o : Offered offered since table n list out at) {out₁ : List ℕ} {i m : ℕ}
+    (t : Through offered i out at out₁ m) where
+  pub listed-length : length list ≡ length (front offered) * 4
   listed-length = ap length o.listed ∙ list_length offered
 
   module _ (h : i < length list) where
@@ -127,7 +119,7 @@ module _ {lines all since table : List ℕ} {n : ℕ} {list out : List ℕ} {at 
       cost-of : cost_in row ≡ cost
       cost-of = ap cost_in row_of ∙ row-cost offered cost on
 
-      pub next-printable : Printable lines all since table n row out₁ m
+      pub next-printable : Printable offered since table n row out₁ m
       unfolding offer_lines
       next-printable =
           record {

@@ -9,7 +9,7 @@ use Rattle.sheet.specs.Lists.{bind, filled}
 use Rattle.sheet.specs.Sheet.{Sheet, told, read_of}
 use Rattle.sheet.specs.Store.{sheet_in, VerdictIs}
 use Rattle.sheet.specs.Text.{printed, most_printed, refusal_line}
-use Rattle.sheet.specs.declared.reader.Verdict.{Verdict}
+use Rattle.sheet.specs.Refusals.{Verdict}
 use Rattle.sheet.specs.Laws.Store.{store-sheet}
 use Rattle.sheet.specs.Laws.Puts.{Puts, puts-as, puts-append}
 use Rattle.arrivals.specs.Computed.{leading}
@@ -39,11 +39,8 @@ module _ (s : Sheet) (table list out : List ℕ) (l : Lent table list out) where
       refused-by (crowded s table_numbers) (overfull s list_numbers) refl refl (λ q. z (k ∙ q)) ∙ sym (ap₂ refusal_line k n)
 
 -- the front was served
-module _ {lines all since table list out : List ℕ} (d : Servable lines all since table list out) (r : FrontAnswer) (table' list' : List ℕ)
-    (e : front_end r table' list' ≡ front_on (sheet_in lines all) table list) (z : r.refusal ≡ 0) where
-  abbrev sheet : Sheet
-  sheet = sheet_in lines all
-
+module _ {sheet : Sheet} {since table list out : List ℕ} (d : Servable sheet since table list out) (r : FrontAnswer) (table' list' : List ℕ)
+    (e : front_end r table' list' ≡ front_on sheet table list) (z : r.refusal ≡ 0) where
   serves : (length (leading sheet) ≤ length table / 5) × (length (front sheet) ≤ length list / 4) × (front_on sheet table list ≡ front_served sheet table list)
   serves = on-served sheet table list (ap (λ (x : FrontEnd). x.answer.refusal) (sym e) ∙ z)
 

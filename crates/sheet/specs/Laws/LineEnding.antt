@@ -1,6 +1,6 @@
 -- Where the line from a position on ends: the lines of what is left of a text go by what the search for the line feed finds.
 -- A line that ends inside a text stays as it is, whatever may follow the text.
-use Rattle.std.specs.Prelude.{◌≡◌, refl, ◌≢◌, ◌⊎◌, Bool, true, false, ℕ, suc, ◌+◌, ◌-◌, ◌≤◌, ◌<◌, leb, eqb, drop}
+use Rattle.std.specs.Prelude.{◌≡◌, refl, ◌≢◌, ◌⊎◌, Bool, true, false, ℕ, suc, ◌+◌, ◌-◌, ◌≤◌, ◌<◌, leb, eqb, drop, Some, None, Ok, Err}
 use Rattle.std.proofs.Common.{sym, ◌∙◌, subst, length-drop, drop-drop, leb-true, leb-false, le-leb, eq-eqb, ne_eqb}
 use Rattle.std.proofs.Math.Path.{ap}
 use Rattle.std.proofs.Math.Logic.{inl, inr, ⊎_elim}
@@ -15,9 +15,8 @@ use Rattle.sheet.specs.Bytes.{kind_of, line_feed, onto, split}
 use Rattle.sheet.specs.Kinds.{Kind}
 use Rattle.sheet.specs.Lines.{Line, line_of, lines_of, text_lines}
 use Rattle.sheet.specs.Inner.{span_of}
-use Rattle.sheet.specs.LineEnds.{feed_from, line_end_at, EndIs}
-use Rattle.sheet.specs.declared.line_reader.LineEnd.{LineEnd}
-use Rattle.sheet.specs.declared.line_reader.LineEnd.TheVariants.{At, Missing, Over}
+use Rattle.sheet.specs.LineEnds.{LineEnd, feed_from, line_end_at, EndIs}
+use Rattle.sheet.specs.declared.refusal.Refusal.TheVariants.{Malformed}
 use Rattle.sheet.specs.Laws.LineText.{part_then}
 use Rattle.sheet.specs.Laws.Parts.{span-le, parts_none, parts-here, split_step}
 
@@ -51,16 +50,16 @@ module _ (most : ℕ) (ks : List Kind) where
 
 -- what an answer says of the position
 abbrev inside : List ℕ → ℕ → LineEnd → Type 0
-inside src at (At e) = (at ≤ e) × (e < length src)
-inside src at Missing = at < length src
-inside src at Over = length src ≤ at
+inside src at (Ok (Some e)) = (at ≤ e) × (e < length src)
+inside src at (Ok None) = length src ≤ at
+inside src at (Err k) = (at < length src) × (k ≡ Malformed)
 
 pub end-inside : (src : List ℕ) (at : ℕ) (r : LineEnd) → r ≡ line_end_at src at → inside src at r
 end-inside src at r e = subst (inside src at) (sym e) (go (leb (length src) at) refl (eqb (feed_from src at) (length src)) refl)
   where
-    go : (o : Bool) → leb (length src) at ≡ o → (m : Bool) → eqb (feed_from src at) (length src) ≡ m → inside src at (pick o Over (pick m Missing (At (feed_from src at))))
+    go : (o : Bool) → leb (length src) at ≡ o → (m : Bool) → eqb (feed_from src at) (length src) ≡ m → inside src at (pick o (Ok None) (pick m (Err Malformed) (Ok (Some (feed_from src at)))))
     go true o m n = leb-true (length src) at o
-    go false o true n = leb-false (length src) at o
+    go false o true n = (leb-false (length src) at o, refl)
     go false o false n =
         let h = leb-false (length src) at o in
         let f = eqb-false (feed_from src at) (length src) n in
@@ -68,24 +67,24 @@ end-inside src at r e = subst (inside src at) (sym e) (go (leb (length src) at) 
 
 -- the three answers, by what is found
 module _ (src : List ℕ) (at : ℕ) where
-  pub finds-over : length src ≤ at → EndIs src at Over
+  pub finds-over : length src ≤ at → EndIs src at (Ok None)
   finds-over h = record { found = rw (le-leb (length src) at h); lines = λ most ks. text-over most ks src at h }
 
   module _ (h : at < length src) (e : ℕ) (d : e ≡ feed_from src at) where
-    pub finds-missing : e ≡ length src → EndIs src at Missing
+    pub finds-missing : e ≡ length src → EndIs src at (Err Malformed)
     finds-missing q =
         record {
           found = rw (lt-leb (length src) at h, eq-eqb (feed_from src at) (length src) (sym d ∙ q));
           lines = λ most ks. text-cut most ks (drop at src) (omega (arith, length-drop at src)) (omega (arith, length-drop at src));
         }
 
-    pub finds-feed : e ≢ length src → EndIs src at (At e)
+    pub finds-feed : e ≢ length src → EndIs src at (Ok (Some e))
     finds-feed q =
         let n : span_of line_feed (drop at src) ≡ e - at = omega arith in
         let m : at + suc (span_of line_feed (drop at src)) ≡ e + 1 = omega arith in
         let l : span_of line_feed (drop at src) < length (drop at src) = omega (arith, span-le line_feed (drop at src), length-drop at src) in
         record {
-          found = rw (lt-leb (length src) at h, ne_eqb (feed_from src at) (length src) (λ z. q (d ∙ z))) (ap At d);
+          found = rw (lt-leb (length src) at h, ne_eqb (feed_from src at) (length src) (λ z. q (d ∙ z))) (ap (λ (x : ℕ). Ok (Some x)) d);
           lines = λ most ks. text-line most ks (drop at src) l ∙ rw (drop-drop (suc (span_of line_feed (drop at src))) at src, m, n);
         }
 

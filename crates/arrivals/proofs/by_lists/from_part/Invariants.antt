@@ -10,7 +10,7 @@ use Rattle.arrivals.proofs.by_lists.from_part.Given as goal
 abbrev pub invariant-loop-i : goal.invariant-loop-i
 invariant-loop-i l =
     (l.i ≤ l.part.n) × (length l.table ≡ length l.initial.table)
-    × SweptAt (Brought l.live (record { at = l.part.at; n = l.i }) (record { over = l.over; cost = l.cost; rest = l.rest })) l.site.here l.a l.initial.table l.table l.d true l.e
+    × SweptAt (Brought l.live (record { at = l.part.at; n = l.i }) l.turn) l.site.here l.a l.initial.table l.table l.d true l.e
 
 abbrev pub decreases-loop-i : goal.decreases-loop-i
 decreases-loop-i l = l.i-end - l.i

@@ -2,8 +2,8 @@
 use mathlib.Core.Path.{◌∙◌, refl}
 use native.Mathlib.Omega.{arith}
 use borrow.Author.Rules.{rules}
-use Rattle.arrivals.specs.Inner.Offering.{swept-full, swept_none, swept-ok}
-use Rattle.arrivals.specs.Inner.Sweeps.{over-end, over_none, over-step, reaching-kept}
+use Rattle.arrivals.specs.Inner.Offering.{swept_none}
+use Rattle.arrivals.specs.Inner.Sweeps.{over-end, over_none, over-step, reaching-kept, swept-refused}
 use Rattle.arrivals.specs.Inner.Turning.{placeable-kept, placeable-none, shows_kept, sources-kept}
 use Rattle.arrivals.proofs.by_lists.over_links.Goals as goal
 
@@ -20,14 +20,14 @@ loop-j-init c =
           (λ g o. over_none _ _ _ _ _ _ _ g (λ i l m e. p.0.given.into.head v i p.0.ready.inside (omega (arith, c.last_link-j.ensures)) m e) o),
     )
 
-pub over_link-r-requires : goal.over_link-r-requires
-over_link-r-requires c =
+pub over_link-requires : goal.over_link-requires
+over_link-requires c =
     let p = c.requires in
     let inv = c.loop-j.invariant in
     (reaching-kept inv.1 inv.2.below p.0, placeable-kept inv.1 inv.2 (placeable-none p.0.ready), shows_kept inv.2.below p.1, sources-kept inv.2.below p.2, omega arith)
 
-pub returns-then-not-ok : goal.returns-then-not-ok
-returns-then-not-ok c = swept-full (λ j l. c.over_link-r.ensures.below j l ∙ c.loop-j.invariant.2.below j l) (omega (arith, c.requires.0.ready.room))
+pub returns-in_err-e : goal.returns-in_err-e
+returns-in_err-e c = swept-refused _ c.from_residual.ensures.0 (λ j l. c.over_link.ensures.below j l ∙ c.loop-j.invariant.2.below j l) (omega (arith, c.over_link.ensures.room))
 
 pub next_link-j-requires : goal.next_link-j-requires
 next_link-j-requires c = let p = c.requires in (omega arith, omega (arith, p.0.given.few), p.0.given.size, omega arith, p.0.given.into)
@@ -40,7 +40,7 @@ loop-j-preserved c =
     let inv = c.loop-j.invariant in (
       omega (arith, c.next_link-j.ensures.most),
       search rules,
-      over-step _ _ _ _ _ _ _ c.loop-j.j _ _ _ _ _ _ (omega arith) inv.0 c.next_link-j.ensures inv.2 (swept-ok c.if-not-ok.false c.over_link-r.ensures),
+      over-step _ _ _ _ _ _ _ c.loop-j.j _ _ _ _ _ _ (omega arith) inv.0 c.next_link-j.ensures inv.2 c.in_ok-e.ensures,
     )
 
 pub shape_of-table : goal.shape_of-table

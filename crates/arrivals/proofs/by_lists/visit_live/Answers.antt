@@ -3,11 +3,9 @@
 -- Assumes nothing.
 use mathlib.Core.Path.{refl}
 use native.Mathlib.Omega.{arith}
-use Rattle.sheet.specs.Laws.Decided.{false-not-true}
 use Rattle.arrivals.specs.Inner.Filling.{visiting-reach, visiting-stands}
 use Rattle.arrivals.specs.Inner.Gather.{fresh-of, swept-filled}
-use Rattle.arrivals.specs.Inner.Offering.{swept-ok}
-use Rattle.arrivals.specs.Inner.Standing.{shows-own, visited-modest, visited-new, visited-none}
+use Rattle.arrivals.specs.Inner.Standing.{live-refused, shows-own, visited-modest, visited-new, visited-none}
 use Rattle.arrivals.proofs.by_lists.visit_live.Goals as goal
 
 pub first_step-requires : goal.first_step-requires
@@ -19,32 +17,35 @@ wait_of-requires c = let p = c.requires.0 in (omega (arith, p.inside, p.given.pl
 pub own_of-own-requires : goal.own_of-own-requires
 own_of-own-requires c = let p = c.requires in (omega (arith, p.0.inside, p.0.given.places), omega (arith, p.2.sourcing.size))
 
-pub over_links-r-requires : goal.over_links-r-requires
-over_links-r-requires c =
+pub over_links-requires : goal.over_links-requires
+over_links-requires c =
     let p = c.requires in
     let st = visiting-stands _ p.0 p.1 c.first_step.ensures c.wait_of.ensures in
     (visiting-reach _ p.0 st, shows-own _ _ p.0.given st p.2.sourcing (fresh-of _ _ _ _ _ p.0.filled) c.own_of-own.ensures, p.2)
 
-pub returns-then-not-ok : goal.returns-then-not-ok
-returns-then-not-ok c = record { size = refl; below = c.over_links-r.ensures.below; visited = λ e. absurd (false-not-true refl e); aside = λ e. absurd (false-not-true refl e); pending = λ e. absurd (false-not-true refl e) }
+pub returns-in_err-d : goal.returns-in_err-d
+returns-in_err-d c = live-refused _ c.from_residual.ensures.0 refl c.over_links.ensures.below
 
 pub returns-then-d-eq0 : goal.returns-then-d-eq0
 returns-then-d-eq0 c =
     let p = c.requires in
     let st = visiting-stands _ p.0 p.1 c.first_step.ensures c.wait_of.ensures in
-    visited-none c.if-d-eq0.true (swept-filled _ _ _ _ _ _ p.0.given.legal st p.0.filled (swept-ok c.if-not-ok.false c.over_links-r.ensures))
+    visited-none c.if-d-eq0.true (swept-filled _ _ _ _ _ _ p.0.given.legal st p.0.filled c.in_ok-d.ensures)
 
-pub add_new-held-requires : goal.add_new-held-requires
-add_new-held-requires c =
+pub add_new-requires : goal.add_new-requires
+add_new-requires c =
     let p = c.requires in
     let st = visiting-stands _ p.0 p.1 c.first_step.ensures c.wait_of.ensures in
     let r = visiting-reach _ p.0 st in
-    let w = swept-filled _ _ _ _ _ _ p.0.given.legal st p.0.filled (swept-ok c.if-not-ok.false c.over_links-r.ensures) in
-    (c.over_links-r.ensures.room, r.ready.inside, r.ready.steps, r.ready.waits, visited-modest p.0.last w, omega (arith, p.2.sourcing.size, p.0.inside), (p.2.sourcing.lists _ p.0.inside).few)
+    let w = swept-filled _ _ _ _ _ _ p.0.given.legal st p.0.filled c.in_ok-d.ensures in
+    (c.in_ok-d.ensures.room, r.ready.inside, r.ready.steps, r.ready.waits, visited-modest p.0.last w, omega (arith, p.2.sourcing.size, p.0.inside), (p.2.sourcing.lists _ p.0.inside).few)
 
 pub returns : goal.returns
 returns c =
     let p = c.requires in
     let st = visiting-stands _ p.0 p.1 c.first_step.ensures c.wait_of.ensures in
     visited-new _ _ (visiting-reach _ p.0 st).ready.inside c.wait_of.ensures
-    (swept-filled _ _ _ _ _ _ p.0.given.legal st p.0.filled (swept-ok c.if-not-ok.false c.over_links-r.ensures)) c.add_new-held.ensures
+    (swept-filled _ _ _ _ _ _ p.0.given.legal st p.0.filled c.in_ok-d.ensures) c.in_ok-add_new.ensures
+
+pub returns-in_err-add_new : goal.returns-in_err-add_new
+returns-in_err-add_new c = live-refused _ c.from_residual-in_err-add_new.ensures.0 c.in_err-add_new.ensures.size c.over_links.ensures.below

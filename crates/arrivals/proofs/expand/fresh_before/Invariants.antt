@@ -4,6 +4,3 @@ use Rattle.arrivals.proofs.expand.fresh_before.Given as goal
 
 abbrev pub invariant-loop-a : goal.invariant-loop-a
 invariant-loop-a l = l.a < l.here.step.0
-
-abbrev pub decreases-loop-a : goal.decreases-loop-a
-decreases-loop-a l = l.a

@@ -15,14 +15,14 @@ overflow_sub-t c = omega arith
 pub overflow_sub-t-2 : goal.overflow_sub-t-2
 overflow_sub-t-2 c = omega (arith, c.requires.4)
 
-pub multiple-requires : goal.multiple-requires
-multiple-requires c = (omega (arith, c.requires.1), c.requires.2.waits)
+pub multiple-lag-requires : goal.multiple-lag-requires
+multiple-lag-requires c = (omega (arith, c.requires.1), c.requires.2.waits)
 
 pub sum-requires : goal.sum-requires
-sum-requires c = (within_of _ _ c.row_cost.ensures (omega arith) c.requires.3.within, within_of _ _ c.multiple.ensures (omega arith) (within-times _ 60000 _ c.requires.2.waits))
+sum-requires c = (within_of _ _ c.row_cost.ensures (omega arith) c.requires.3.within, within_of _ _ c.multiple-lag.ensures (omega arith) (within-times _ 60000 _ c.requires.2.waits))
 
 pub sum-requires-2 : goal.sum-requires-2
-sum-requires-2 c = (within_of _ _ (c.sum.ensures ∙ ap₂ add c.row_cost.ensures c.multiple.ensures) (omega arith) (within-add _ _ _ _ c.requires.3.within (within-times _ 60000 _ c.requires.2.waits)), within_more _ _ _ (omega arith) c.requires.2.costs)
+sum-requires-2 c = (within_of _ _ (c.sum.ensures ∙ ap₂ add c.row_cost.ensures c.multiple-lag.ensures) (omega arith) (within-add _ _ _ _ c.requires.3.within (within-times _ 60000 _ c.requires.2.waits)), within_more _ _ _ (omega arith) c.requires.2.costs)
 
 pub returns : goal.returns
-returns c = c.sum-2.ensures ∙ ap (λ (g : List ℕ). add g c.args.from.cost) (c.sum.ensures ∙ ap₂ add c.row_cost.ensures c.multiple.ensures)
+returns c = c.sum-2.ensures ∙ ap (λ (g : List ℕ). add g c.args.from.cost) (c.sum.ensures ∙ ap₂ add c.row_cost.ensures c.multiple-lag.ensures)

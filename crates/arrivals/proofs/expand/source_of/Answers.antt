@@ -2,6 +2,7 @@
 -- Assumes nothing.
 use mathlib.Core.Path.{◌≡◌, sym, ap, ◌∙◌}
 use native.Mathlib.Omega.{arith}
+use Rattle.arrivals.specs.Inner.Compared.{later_of}
 use Rattle.arrivals.specs.Inner.Lent.{given-linked}
 use Rattle.arrivals.specs.Inner.Network.{wait_in}
 use Rattle.arrivals.specs.Inner.Pruning.{sourced}
@@ -25,4 +26,4 @@ link_cost-requires c = (omega (arith, c.requires.0.few), c.requires.0.size)
 pub returns : goal.returns
 returns c =
     let e : c.link_end.result.0 ≡ c.link_end-place.result.0 = c.link_end.ensures ∙ sym c.link_end-place.ensures in
-    sourced _ _ c.args.j _ _ _ _ c.link_end-place.ensures c.first_step-since.ensures c.later.ensures (c.wait_of.ensures ∙ ap (wait_in c.args.net.now) e) c.link_cost.ensures
+    sourced _ _ c.args.j _ _ _ _ c.link_end-place.ensures c.first_step-since.ensures (later_of _ _ _ c.max.ensures) (c.wait_of.ensures ∙ ap (wait_in c.args.net.now) e) c.link_cost.ensures

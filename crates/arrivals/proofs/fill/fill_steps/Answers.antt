@@ -3,6 +3,7 @@ use mathlib.Core.Path.{◌≡◌, refl, subst}
 use Prim.Native.Nat.{◌+◌, ◌-◌}
 use native.Mathlib.Omega.{arith}
 use borrow.Author.Rules.{rules}
+use Rattle.std.proofs.lemmas.Result.{err_from_is_err_and}
 use Rattle.arrivals.specs.Inner.Due.{onward-all}
 use Rattle.arrivals.specs.Inner.Filling.{crowded-last, filled-last, result-done, result-full}
 use Rattle.arrivals.specs.Inner.Index.{Indexed, indexed-step}
@@ -12,8 +13,8 @@ use Rattle.arrivals.proofs.fill.fill_steps.Goals as goal
 pub loop-t-init : goal.loop-t-init
 loop-t-init c = let p = c.requires in (p.0.first, p.3, p.0.room, refl, refl, p.0.filled, p.1, onward-all _ _ _ (given-linked p.0.given))
 
-pub fill_step-r-requires : goal.fill_step-r-requires
-fill_step-r-requires c =
+pub fill_step-requires : goal.fill_step-requires
+fill_step-requires c =
     let inv = c.loop-t.invariant in
     let p = c.requires in (
       record { given = p.0.given; inside = p.0.inside; first = inv.0; last = omega (arith, p.2); room = inv.2; filled = inv.5 },
@@ -22,13 +23,15 @@ fill_step-r-requires c =
       inv.7,
     )
 
-pub returns-then-not-ok : goal.returns-then-not-ok
-returns-then-not-ok c = let r = c.fill_step-r.ensures in result-full _ _ _ _ _ r.result.room (crowded-last _ (omega arith) (r.result.full c.if-not-ok.true))
+pub returns-in_err-r : goal.returns-in_err-r
+returns-in_err-r c =
+    let r = c.in_err-r.ensures in
+    let p = err_from_is_err_and c.from_residual.result c.from_residual.ensures.1 in
+    rw (p.1, p.2) (result-full _ _ _ _ _ r.result.room (crowded-last _ (omega arith) (r.result.full refl)))
 
 pub loop-t-preserved : goal.loop-t-preserved
 loop-t-preserved c =
-    let r = c.fill_step-r.ensures in
-    let e = c.if-not-ok.false in
+    let r = c.in_ok-r.ensures in
     let t = c.loop-t.t in
     let z : t ≡ t + 1 - 1 = omega arith in (
       omega arith,
@@ -36,9 +39,9 @@ loop-t-preserved c =
       r.result.room,
       search rules,
       search rules,
-      r.result.done e,
-      λ b. let w = r.index e b in (subst (Indexed _ _ _) z w.0, w.1),
-      r.onward e,
+      r.result.done refl,
+      λ b. let w = r.index refl b in (subst (Indexed _ _ _) z w.0, w.1),
+      r.onward refl,
     )
 
 pub shape_of-table : goal.shape_of-table

@@ -2,14 +2,8 @@
 -- Assumes nothing.
 use Rattle.arrivals.proofs.fill.search_all.Goals as goal
 
-pub search_lists-r-requires : goal.search_lists-r-requires
-search_lists-r-requires c = c.requires
-
-pub returns-then-ok : goal.returns-then-ok
-returns-then-ok c = c.search_lists-r.ensures.result c.if-ok.true
-
 pub search_indexed-requires : goal.search_indexed-requires
-search_indexed-requires c = (c.requires, λ l. c.search_lists-r.ensures.halted c.if-ok.false l)
+search_indexed-requires c = (c.requires, c.in-Err.ensures)
 
-pub returns : goal.returns
-returns c = c.search_indexed.ensures
+pub returns-in-Ok : goal.returns-in-Ok
+returns-in-Ok c = c.in-Ok.ensures

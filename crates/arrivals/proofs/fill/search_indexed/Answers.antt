@@ -4,21 +4,22 @@ use mathlib.Core.Path.{sym, ap}
 use Prim.Native.Nat.{ℕ}
 use native.Mathlib.Omega.{arith}
 use lib.ListN.{replicate, length-replicate}
+use Rattle.arrivals.specs.Inner.Compared.{below_of}
 use Rattle.arrivals.proofs.fill.search_indexed.Goals as goal
 
 pub search_by-requires : goal.search_by-requires
 search_by-requires c =
-    let p = c.requires in (p.0, ap (λ (n : ℕ). replicate {A = ℕ} n 0) (sym (length-replicate {A = ℕ} 2112 0)), omega (arith, length-replicate {A = ℕ} 2112 0, c.if-last-lt16.true), p.1)
+    let p = c.requires in (p.0, ap (λ (n : ℕ). replicate {A = ℕ} n 0) (sym (length-replicate {A = ℕ} 2112 0)), omega (arith, length-replicate {A = ℕ} 2112 0, below_of {a = c.args.last.0} {b = 16} c.lt.ensures c.if-lt.true), p.1)
 
-pub returns-then-last-lt16 : goal.returns-then-last-lt16
-returns-then-last-lt16 c = c.search_by.ensures
+pub returns-then-lt : goal.returns-then-lt
+returns-then-lt c = c.search_by.ensures
 
-pub search_by-requires-then-last-lt64 : goal.search_by-requires-then-last-lt64
-search_by-requires-then-last-lt64 c =
-    let p = c.requires in (p.0, ap (λ (n : ℕ). replicate {A = ℕ} n 0) (sym (length-replicate {A = ℕ} 8256 0)), omega (arith, length-replicate {A = ℕ} 8256 0, c.if-last-lt64.true), p.1)
+pub search_by-requires-then-lt-2 : goal.search_by-requires-then-lt-2
+search_by-requires-then-lt-2 c =
+    let p = c.requires in (p.0, ap (λ (n : ℕ). replicate {A = ℕ} n 0) (sym (length-replicate {A = ℕ} 8256 0)), omega (arith, length-replicate {A = ℕ} 8256 0, below_of {a = c.args.last.0} {b = 64} c.lt-2.ensures c.if-lt-2.true), p.1)
 
-pub returns-then-last-lt64 : goal.returns-then-last-lt64
-returns-then-last-lt64 c = c.search_by-then-last-lt64.ensures
+pub returns-then-lt-2 : goal.returns-then-lt-2
+returns-then-lt-2 c = c.search_by-then-lt-2.ensures
 
 pub search_by-requires-2 : goal.search_by-requires-2
 search_by-requires-2 c =

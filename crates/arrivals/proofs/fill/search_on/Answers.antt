@@ -9,11 +9,11 @@ use Rattle.arrivals.specs.Inner.Renoting.{filled-early, filled-noteable, noted-b
 use Rattle.arrivals.proofs.fill.search_on.Goals as goal
 use Rattle.arrivals.proofs.fill.search_on.Goals.{then-table-le41943039, else-table-le41943039}
 
-pub overflow_sub-from : goal.overflow_sub-from
-overflow_sub-from c = c.requires.3
+pub overflow_sub-done : goal.overflow_sub-done
+overflow_sub-done c = c.requires.3
 
-pub is_somewhere_dear-requires : goal.is_somewhere_dear-requires
-is_somewhere_dear-requires c = c.requires.0.watching.size
+pub is_somewhere_dear-dear-requires : goal.is_somewhere_dear-dear-requires
+is_somewhere_dear-dear-requires c = c.requires.0.watching.size
 
 pub note_rows-requires : goal.note_rows-requires
 note_rows-requires c =

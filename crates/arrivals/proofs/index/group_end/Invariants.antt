@@ -1,10 +1,7 @@
 -- `arrivals::index::group_end`. The loop's invariant: the rows from k to i are of one place and step.
-use Prim.Native.Nat.{◌-◌, ◌≤◌, ◌<◌}
+use Rattle.std.proofs.Common.{◌≤◌, ◌<◌}
 use Rattle.arrivals.specs.Inner.Renoting.{Same}
 use Rattle.arrivals.proofs.index.group_end.Given as goal
 
 abbrev pub invariant-loop-i : goal.invariant-loop-i
 invariant-loop-i l = (l.k < l.i) × (l.i ≤ l.n) × Same l.table l.k l.i
-
-abbrev pub decreases-loop-i : goal.decreases-loop-i
-decreases-loop-i l = l.n - l.i

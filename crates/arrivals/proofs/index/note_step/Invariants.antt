@@ -1,5 +1,5 @@
 -- `arrivals::index::note_step`. The loop's invariant: the rows from k to i are noted, and a group begins at i.
-use Prim.Native.Nat.{◌-◌}
+use Rattle.std.proofs.Common.{◌-◌}
 use Rattle.arrivals.specs.Inner.Renoting.{Noting}
 use Rattle.arrivals.proofs.index.note_step.Given as goal
 

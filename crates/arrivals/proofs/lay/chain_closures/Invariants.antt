@@ -1,6 +1,5 @@
 -- `arrivals::lay::chain_closures`. The loop's invariant: those below x are, and all else is kept.
-use mathlib.Core.Path.{◌≡◌}
-use Prim.Native.Nat.{◌-◌, ◌≤◌}
+use Rattle.std.proofs.Common.{◌≡◌, ◌≤◌}
 use Rattle.arrivals.specs.Inner.Chains.{by_cell, Chained}
 use Rattle.arrivals.specs.Inner.Laying.{Celled}
 use Rattle.arrivals.specs.Rows.{Besides}
@@ -9,6 +8,3 @@ use Rattle.arrivals.proofs.lay.chain_closures.Given as goal
 
 abbrev pub invariant-loop-x : goal.invariant-loop-x
 invariant-loop-x l = (l.x ≤ closures_of l.initial.net) × Celled l.net × (closures_of l.net ≡ closures_of l.initial.net) × Chained by_cell l.net l.x × Besides 2436 3716 l.initial.net l.net
-
-abbrev pub decreases-loop-x : goal.decreases-loop-x
-decreases-loop-x l = closures_of l.initial.net - l.x

@@ -1,6 +1,5 @@
 -- `arrivals::lay::note_closures`. The loop's invariant: the places of those below x are noted, and all else is kept.
-use mathlib.Core.Path.{◌≡◌}
-use Prim.Native.Nat.{◌-◌, ◌≤◌}
+use Rattle.std.proofs.Common.{◌≡◌, ◌≤◌}
 use Rattle.arrivals.specs.Inner.Laying.{Celled, NotedTo}
 use Rattle.arrivals.specs.Rows.{Besides}
 use Rattle.arrivals.specs.Inner.Network.{closures_of}
@@ -8,6 +7,3 @@ use Rattle.arrivals.proofs.lay.note_closures.Given as goal
 
 abbrev pub invariant-loop-x : goal.invariant-loop-x
 invariant-loop-x l = (l.x ≤ closures_of l.initial.net) × Celled l.net × (closures_of l.net ≡ closures_of l.initial.net) × NotedTo l.net l.x × Besides 2116 2180 l.initial.net l.net
-
-abbrev pub decreases-loop-x : goal.decreases-loop-x
-decreases-loop-x l = closures_of l.initial.net - l.x

@@ -1,5 +1,5 @@
 -- `arrivals::lists::settle_all`. The loop's invariant: those below v are settled, and all other places are as they were.
-use Prim.Native.Nat.{◌-◌, ◌≤◌}
+use Rattle.std.proofs.Common.{◌-◌, ◌≤◌}
 use Rattle.arrivals.specs.Inner.Lists.{SettledTo}
 use Rattle.arrivals.proofs.lists.settle_all.Given as goal
 

@@ -1,7 +1,7 @@
 -- `arrivals::lists::shift` meets its contract: cost after cost is moved down, and as `to` is not above `from`, each is still the old one when it is read.
 -- Assumes nothing.
 use native.Mathlib.Omega.{arith}
-use Rattle.arrivals.specs.Inner.Settled.{moved_none, moved_more, moved_all, shifted_none}
+use Rattle.arrivals.proofs.Steps.{moved_none, moved_more, moved_all, shifted_none}
 use Rattle.arrivals.proofs.lists.shift.Goals as goal
 
 pub returns-then-from-to : goal.returns-then-from-to

@@ -1,6 +1,6 @@
 -- `arrivals::lists::shift`. The loop's invariant: the costs below i are moved, and all numbers besides them are the old ones.
 use Prim.Native.Nat.{◌-◌, ◌≤◌}
-use Rattle.arrivals.specs.Inner.Settled.{Moved}
+use Rattle.arrivals.proofs.Steps.{Moved}
 use Rattle.arrivals.proofs.lists.shift.Given as goal
 
 abbrev pub invariant-loop-i : goal.invariant-loop-i

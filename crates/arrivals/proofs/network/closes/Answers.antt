@@ -1,7 +1,6 @@
 -- `arrivals::network::closes` meets its contract: three tests.
 -- Assumes nothing.
-use mathlib.Core.Path.{◌∙◌, sym}
-use borrow.Author.Tests.{eq-eqb, eqb-true}
+use Rattle.std.proofs.Common.{◌∙◌, sym, eq-eqb, eqb-true}
 use Rattle.sheet.specs.Laws.Order.{and-true, true-and}
 use Rattle.sheet.specs.Laws.Decided.{decided-by}
 use Rattle.arrivals.proofs.network.closes.Goals as goal

@@ -1,5 +1,5 @@
 -- `arrivals::network::none_between`. The loop's invariant: none of those from x on is of the corridor at step s.
-use mathlib.Core.Path.{◌≡◌}
+use Rattle.std.proofs.Common.{◌≡◌}
 use Rattle.arrivals.specs.Inner.Chains.{by_cell, cell, Passed}
 use Rattle.arrivals.specs.Inner.Network.{closures_of, Closes}
 use Rattle.arrivals.proofs.network.none_between.Given as goal

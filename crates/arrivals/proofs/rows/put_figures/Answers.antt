@@ -1,22 +1,18 @@
--- `arrivals::rows::put_figures` meets its contract: three stores. Assumes nothing.
-use Prim.Native.Nat.{◌+◌}
-use native.Mathlib.Omega.{arith}
-use Rattle.sheet.specs.Laws.Decided.{fill-from, from-of}
-use Rattle.costs.specs.Costs.{fig}
-use Rattle.arrivals.specs.Laws.Rows.{besides-none, besides-set, besides-then}
+-- `arrivals::rows::put_figures` meets its contract: three numbers are copied. Assumes nothing.
+use Rattle.std.proofs.Common.{◌≡◌, List, ℕ, ◌+◌, ◌≤◌, length, ⊎_elim, arith}
+use Rattle.std.proofs.lemmas.Grind.{common_steps}
+use Rattle.std.proofs.lemmas.List.{places}
+use borrow.Rule.Slice.PartMut.{put_mid}
+use Rattle.sheet.specs.Laws.Decided.{from-of}
+use Rattle.arrivals.specs.Rows.{FiguresPut}
 use Rattle.arrivals.proofs.rows.put_figures.Goals as goal
 
-pub loop-i-init : goal.loop-i-init
-loop-i-init c = (omega arith, (λ q l. absurd (omega arith)), besides-none _ _ _)
-
-pub bounds-s-at : goal.bounds-s-at
-bounds-s-at c = omega (arith, c.loop-i.invariant.2.size, c.requires)
-
-pub loop-i-preserved : goal.loop-i-preserved
-loop-i-preserved c = let l = c.loop-i in (omega arith, fill-from (fig c.args.c) c.args.at l.s l.i (omega (arith, l.invariant.2.size, c.requires)) l.invariant.1, besides-then l.invariant.2 (besides-set _ _ l.s (c.args.at + l.i) _ (omega arith) (omega arith)))
-
-pub shape_of-s : goal.shape_of-s
-shape_of-s c = c.loop-i.invariant.2.size
+copied : (at k : ℕ) (c xs ys : List ℕ) → k ≡ 3 → at + 3 ≤ length xs → length c ≡ 3 → ys ≡ c → FiguresPut at c xs (put_mid at k xs ys)
+copied at k c xs ys e room three is =
+    record {
+      others = record { size = grind (arith, common_steps, places); same = λ i o. ⊎_elim (λ l. grind (arith, common_steps, places)) (λ l. grind (arith, common_steps, places)) o };
+      figures = from-of 3 at (put_mid at k xs ys) c three (λ q l. grind (arith, common_steps, places));
+    }
 
 pub returns : goal.returns
-returns c = record { others = c.loop-i.invariant.2; figures = from-of 3 c.args.at c.loop-i.s c.args.c (omega arith) (λ q l. c.loop-i.invariant.1 q (omega arith)) }
+returns c = copied _ _ _ _ _ (omega arith) c.requires (omega arith) c.copy_from_slice.ensures.after

@@ -7,8 +7,8 @@ use Rattle.arrivals.specs.Inner.Network.{case_of}
 use Rattle.arrivals.specs.Inner.Rows.{rows_of}
 use Rattle.arrivals.proofs.select.fill_place.Given as goal
 
-abbrev pub invariant-loop-here : goal.invariant-loop-here
-invariant-loop-here l = (l.n * 5 ≤ length l.table) × (length l.table ≡ length l.initial.table) × Filling (case_of l.runs l.net) (rows_of l.table l.n) l.here.step.0 l.here.place.0 × Grown l.initial.table l.table l.rows l.n l.here.place.0 l.here.step.0
+abbrev pub invariant-loop-cost : goal.invariant-loop-cost
+invariant-loop-cost l = (l.n * 5 ≤ length l.table) × (length l.table ≡ length l.initial.table) × Filling (case_of l.runs l.net) (rows_of l.table l.n) l.here.step.0 l.here.place.0 × Grown l.initial.table l.table l.rows l.n l.here.place.0 l.here.step.0
 
-abbrev pub decreases-loop-here : goal.decreases-loop-here
-decreases-loop-here l = length l.initial.table - l.n * 5
+abbrev pub decreases-loop-cost : goal.decreases-loop-cost
+decreases-loop-cost l = length l.initial.table - l.n * 5

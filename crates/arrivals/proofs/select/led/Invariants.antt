@@ -6,6 +6,3 @@ use Rattle.arrivals.proofs.select.led.Given as goal
 
 abbrev pub invariant-loop-k : goal.invariant-loop-k
 invariant-loop-k l = (l.k ≤ l.n) × ((j : ℕ) → l.k ≤ j → j < l.n → RowLeadsAt l.here l.g (row_at l.table j) → ⊥)
-
-abbrev pub decreases-loop-k : goal.decreases-loop-k
-decreases-loop-k l = l.k

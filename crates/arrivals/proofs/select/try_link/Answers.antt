@@ -5,16 +5,17 @@ use mathlib.Core.Logic.{⊎_elim}
 use mathlib.Core.Path.{◌∙◌, sym}
 use native.Mathlib.Omega.{arith}
 use Rattle.sheet.specs.Laws.Decided.{false-not-true}
+use Rattle.arrivals.specs.Inner.Compared.{other_of, same_of}
 use Rattle.arrivals.specs.Inner.Pruning.{enters-tried, fair-of, tried-enters}
 use Rattle.arrivals.specs.Inner.Selecting.{improved-as, improved-skip}
 use Rattle.arrivals.specs.Inner.Lent.{given-linked}
 use Rattle.arrivals.proofs.select.try_link.Goals as goal
 
-pub link_end-to-requires : goal.link_end-to-requires
-link_end-to-requires c = (omega (arith, c.requires.0.given.few), omega arith, c.requires.0.given.size)
+pub link_end-requires : goal.link_end-requires
+link_end-requires c = (omega (arith, c.requires.0.given.few), omega arith, c.requires.0.given.size)
 
-pub returns-then-to-here : goal.returns-then-to-here
-returns-then-to-here c = improved-skip _ _ (λ g q. c.if-to-here.true (c.link_end-to.ensures ∙ q.0.into))
+pub returns-then-ne : goal.returns-then-ne
+returns-then-ne c = improved-skip _ _ (λ g q. other_of c.ne.ensures c.if-ne.true (c.link_end.ensures ∙ q.0.into))
 
 pub is_open-requires : goal.is_open-requires
 is_open-requires c =
@@ -34,4 +35,4 @@ pub scan_rows-requires : goal.scan_rows-requires
 scan_rows-requires c = (c.requires.0.ready, fair-of _ _ c.args.j _ _ _ c.requires.0.given c.requires.1 c.source_of.ensures)
 
 pub returns : goal.returns
-returns c = let p = c.requires in let into = sym c.link_end-to.ensures ∙ c.if-to-here.false in improved-as _ _ _ _ (λ g z. (tried-enters _ _ _ _ _ p.0 c.args.j p.1 into _ c.fresh-first.ensures _ g c.source_of.ensures (sym c.is_open.ensures ∙ c.if-not-is_open.false) z.0, z.1)) (λ g z. (⊎_elim (λ t. t) (λ l. absurd (z.1 l)) (enters-tried _ _ _ _ _ p.0 c.args.j p.1 into _ c.fresh-first.ensures _ g c.source_of.ensures z.0), z.1)) c.scan_rows.ensures
+returns c = let p = c.requires in let into = sym c.link_end.ensures ∙ same_of c.ne.ensures c.if-ne.false in improved-as _ _ _ _ (λ g z. (tried-enters _ _ _ _ _ p.0 c.args.j p.1 into _ c.fresh-first.ensures _ g c.source_of.ensures (sym c.is_open.ensures ∙ c.if-not-is_open.false) z.0, z.1)) (λ g z. (⊎_elim (λ t. t) (λ l. absurd (z.1 l)) (enters-tried _ _ _ _ _ p.0 c.args.j p.1 into _ c.fresh-first.ensures _ g c.source_of.ensures z.0), z.1)) c.scan_rows.ensures

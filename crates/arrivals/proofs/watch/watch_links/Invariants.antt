@@ -1,13 +1,8 @@
 -- `arrivals::watch::watch_links`. The loop's invariant: the places of the first j corridors are added.
-use mathlib.Core.Path.{◌≡◌}
-use Prim.Native.Nat.{◌-◌, ◌≤◌}
-use lib.ListN.{length}
+use Rattle.std.proofs.Common.{◌≡◌, ◌≤◌, length}
 use Rattle.arrivals.specs.Inner.Network.{count_of}
 use Rattle.arrivals.specs.Inner.Due.{LinksWatched}
 use Rattle.arrivals.proofs.watch.watch_links.Given as goal
 
 abbrev pub invariant-loop-j : goal.invariant-loop-j
 invariant-loop-j l = (l.j ≤ count_of l.net) × (length l.sets ≡ length l.initial.sets) × LinksWatched l.net l.j l.initial.sets l.sets
-
-abbrev pub decreases-loop-j : goal.decreases-loop-j
-decreases-loop-j l = count_of l.net - l.j

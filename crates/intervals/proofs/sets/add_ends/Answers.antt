@@ -1,45 +1,26 @@
 -- `intervals::sets::add_ends` meets its contract. Assumes nothing.
-use mathlib.Core.Path.{◌≡◌, refl, subst}
-use Prim.Native.Nat.{ℕ, ◌/◌}
-use native.Mathlib.Omega.{arith}
-use lib.ListN.{length}
-use borrow.Author.Rules.{rules}
-use Rattle.intervals.specs.Inner.{Followed}
+use Rattle.std.specs.Prelude.{ℕ, ◌+◌}
+use Rattle.std.proofs.Common.{arith, ap}
 use Rattle.intervals.specs.Laws.Sets.{added}
-use Rattle.intervals.proofs.Tables.{markable}
+use Rattle.intervals.proofs.Tables.{line_is, markable}
 use Rattle.intervals.proofs.Begins.{followed-none, followed-more}
 use Rattle.intervals.proofs.sets.add_ends.Goals as goal
-use Rattle.intervals.proofs.sets.add_ends.Goals.{Start}
 
-pub loop-k-init : goal.loop-k-init
-loop-k-init c = (omega arith, search rules, followed-none _ _)
-
-pub overflow_cast-last : goal.overflow_cast-last
-overflow_cast-last c = omega (arith, (markable _ c.loop-k.k c.requires.0 (search rules)).step)
-
-pub overflow_add-last-in-loop-k : goal.overflow_add-last-in-loop-k
-overflow_add-last-in-loop-k c = omega (arith, (markable _ c.loop-k.k c.requires.0 (search rules)).step)
+pub loop-place-init : goal.loop-place-init
+loop-place-init c = followed-none _ _
 
 pub add-requires : goal.add-requires
 add-requires c =
-    let z = (goal.at.add-requires c).Start in
-    let w = c.loop-k in
-    let m = markable _ w.k z.requires.0 (search rules) in
-    (omega (arith, m.step, w.invariant.1, z.requires.1), m.place)
+    let o = c.args.occupancies.now in
+    let k = c.loop-place.place-index in
+    let i = line_is o _ c.as_chunks.ensures.front k (omega arith) in
+    let m = markable o k c.requires.0 (omega arith) in
+    (omega (arith, i.last, m.step), omega (arith, i.place, m.place))
 
-pub loop-k-preserved : goal.loop-k-preserved
-loop-k-preserved c =
-    let z = (goal.at.loop-k-preserved c).Start in
-    let w = c.loop-k in
-    let m = markable _ w.k z.requires.0 (search rules) in (
-      search rules,
-      search rules,
-      followed-more z.args.occupancies.now w.k _ w.sets _ w.invariant.2 (added c.add.ensures refl refl (omega (arith, m.step, w.invariant.1, z.requires.1))),
-    )
-
-pub returns : goal.returns
-returns c =
-    let z = c.args in
-    let w = c.loop-k in
-    let e : w.k ≡ length z.occupancies.now / 3 = omega arith in
-    subst (λ (n : ℕ). Followed z.occupancies.now n z.sets.now w.sets) e w.invariant.2
+pub loop-place-preserved : goal.loop-place-preserved
+loop-place-preserved c =
+    let o = c.args.occupancies.now in
+    let w = c.loop-place in
+    let i = line_is o _ c.as_chunks.ensures.front w.place-index (omega arith) in
+    let m = markable o w.place-index c.requires.0 (omega arith) in
+    followed-more o w.place-index _ w.sets _ w.invariant (added c.add.ensures (ap (λ (b : ℕ). b + 1) i.last) i.place (omega (arith, m.step, c.requires.1)))

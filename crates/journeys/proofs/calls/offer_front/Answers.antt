@@ -20,7 +20,7 @@ pub returns-then-list-costs : goal.returns-then-list-costs
 returns-then-list-costs c =
     let k = c.count_front-costs in
     let e = c.clear_from.ensures ∙ ap (λ (xs : List ℕ). take 0 xs ++ replicate (length xs - 0) 0) k.ensures.kept in
-    record { of = λ s before p a b. front-nine p a b c.args.list.now k.ensures.counted c.refuse_front.ensures e c.if-list-costs.true }
+    record { of = λ s before p a b. front-nine p a b c.args.list.now k.ensures.counted e c.if-list-costs.true }
 
 pub list_front-requires : goal.list_front-requires
 list_front-requires c =

@@ -9,20 +9,14 @@ use Prim.Native.Nat.{ℕ, ◌+◌, ◌*◌}
 use mathlib.Core.List.{List}
 use Rattle.journeys.proofs.FrontRows.{number-off, number-room, number-on}
 use native.Mathlib.Omega.{arith}
-use mathlib.Core.Path.{refl, ◌∙◌, ap}
+use mathlib.Core.Path.{◌∙◌, ap}
 use Rattle.journeys.proofs.front.nth_front.Goals as goal
-
-pub returns-then-n-gt4294967295 : goal.returns-then-n-gt4294967295
-returns-then-n-gt4294967295 c = record { numbered = c.nth_slow.ensures; kept = refl }
-
-pub pass_rows-end-requires : goal.pass_rows-end-requires
-pass_rows-end-requires c = (record { base = _; fs = _; sweeps = c.begin-all.ensures.sweeps }, omega (arith, c.begin-all.ensures.none_yet))
 
 pub undo-requires : goal.undo-requires
 undo-requires c = record { base = _; fs = _; sweeps = c.pass_rows-end.ensures.on.of _ _ c.begin-all.ensures.sweeps }
 
 pub returns-then-end-number : goal.returns-then-end-number
-returns-then-end-number c = record { numbered = number-off _ c.begin-all.ensures c.pass_rows-end.ensures _ refl c.if-end-number.true; kept = c.undo.ensures.of _ _ (c.pass_rows-end.ensures.on.of _ _ c.begin-all.ensures.sweeps) }
+returns-then-end-number c = record { numbered = number-off _ c.begin-all.ensures c.pass_rows-end.ensures c.if-end-number.true; kept = c.undo.ensures.of _ _ (c.pass_rows-end.ensures.on.of _ _ c.begin-all.ensures.sweeps) }
 
 pub row_cost-requires : goal.row_cost-requires
 row_cost-requires c = (in_table {ys = c.undo.new.table} (ap length (c.undo.ensures.of _ _ (c.pass_rows-end.ensures.on.of _ _ c.begin-all.ensures.sweeps))) (number-room _ c.begin-all.ensures c.pass_rows-end.ensures c.if-end-number.false)).room
@@ -33,4 +27,4 @@ bounds-table-end c = omega (arith, ap length (c.undo.ensures.of _ _ (c.pass_rows
 pub returns : goal.returns
 returns c = let e = (c.undo.ensures.of _ _ (c.pass_rows-end.ensures.on.of _ _ c.begin-all.ensures.sweeps)) in
     let k = c.pass_rows-end.result.row in
-    record { numbered = number-on _ c.begin-all.ensures c.pass_rows-end.ensures _ refl c.if-end-number.false (c.row_cost.ensures ∙ ap (λ (xs : List ℕ). cost_at xs k) e) (ap (λ (xs : List ℕ). number xs (k * 5 + 1)) e); kept = e }
+    record { numbered = number-on _ c.begin-all.ensures c.pass_rows-end.ensures _ c.if-end-number.false (c.row_cost.ensures ∙ ap (λ (xs : List ℕ). cost_at xs k) e) (ap (λ (xs : List ℕ). number xs (k * 5 + 1)) e); kept = e }

@@ -29,11 +29,5 @@ release-low-requires c = pass-releasable c.requires.1.sweeps c.requires.0 c.clim
 pub link_in-stair-requires : goal.link_in-stair-requires
 link_in-stair-requires c = pass-linkable c.requires.1.sweeps c.requires.0 c.climb-c.ensures c.if-c.false (subst (λ (g : Cost). Released c.args.v.0 (fig g 1) c.args.table.now c.release-low.new.table c.climb-c.result.gap c.release-low.result) c.row_cost-g.ensures c.release-low.ensures)
 
-pub overflow_sub-result-2 : goal.overflow_sub-result-2
-overflow_sub-result-2 c = omega (arith, c.requires.0)
-
-pub overflow_add-result : goal.overflow_add-result
-overflow_add-result c = omega (arith, c.requires.1.sweeps.few-counted)
-
 pub returns : goal.returns
 returns c = record { on = record { of = λ base fs p. sweeps-taken p c.requires.0 c.climb-c.ensures c.if-c.false (subst (λ (g : Cost). Released c.args.v.0 (fig g 1) c.args.table.now c.release-low.new.table c.climb-c.result.gap c.release-low.result) c.row_cost-g.ensures c.release-low.ensures) _ _ c.link_in-stair.ensures.0 c.link_in-stair.ensures.1 }; less = omega (arith, c.requires.0); more = inr refl }

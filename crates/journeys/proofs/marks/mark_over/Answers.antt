@@ -5,23 +5,14 @@ use mathlib.Core.Path.{sym, ◌∙◌, subst}
 use Prim.Native.Nat.{ℕ, ◌<◌}
 use native.Mathlib.Omega.{arith}
 use Rattle.costs.specs.Laws.Moves.{corridor-crosses}
-use Rattle.intervals.specs.FirstSteps.{some-derived}
 use Rattle.journeys.specs.Inner.Lookup.{standing}
 use Rattle.journeys.proofs.Marking.{raised-none}
 use Rattle.journeys.proofs.Crossings.{from_low, to_low, cross-other, cross-off, cross-on, cross-one, cross-none, cross-settled}
+use Rattle.journeys.proofs.Orders.{unlike, alike}
 use Rattle.journeys.proofs.marks.mark_over.Goals as goal
 
-pub end_of-to-requires : goal.end_of-to-requires
-end_of-to-requires c = (some-derived c.requires.0.rowed.derived, c.requires.1, omega arith)
-
-pub returns-then-to-b : goal.returns-then-to-b
-returns-then-to-b c = raised-none (λ k h. cross-other (standing c.args.b) c.end_of-to.ensures c.if-to-b.true _)
-
-pub overflow_sub-step : goal.overflow_sub-step
-overflow_sub-step c = c.requires.0.moved
-
-pub corridor_at-c-requires : goal.corridor_at-c-requires
-corridor_at-c-requires c = (some-derived c.requires.0.rowed.derived, c.requires.1)
+pub returns-then-ne : goal.returns-then-ne
+returns-then-ne c = raised-none (λ k h. cross-other (standing c.args.b) c.end_of-to.ensures (unlike c.if-ne.ensures) _)
 
 pub returns-then-not-c-at_most : goal.returns-then-not-c-at_most
 returns-then-not-c-at_most c = raised-none (λ k h. cross-off (standing c.args.b) c.corridor_at-c.result c.corridor_at-c.ensures c.at_most.ensures c.if-not-c-at_most.true _)
@@ -29,8 +20,8 @@ returns-then-not-c-at_most c = raised-none (λ k h. cross-off (standing c.args.b
 pub crosses_later-requires : goal.crosses_later-requires
 crosses_later-requires c =
     let d = c.requires.0.rowed.derived in
-    let low = subst (λ (n : ℕ). n < 64) (sym c.end_of-to.ensures ∙ c.if-to-b.false) (to_low (some-derived d) _ c.requires.1) in
-    (d, from_low (some-derived d) (corridor-crosses c.corridor_at-c.ensures (cross-on (standing c.args.b) c.corridor_at-c.result c.corridor_at-c.ensures c.at_most.ensures c.if-not-c-at_most.false).0), c.requires.1, c.requires.0.day, low)
+    let low = subst (λ (n : ℕ). n < 64) (sym c.end_of-to.ensures ∙ alike c.if-ne.ensures) (to_low d.valid _ c.requires.1) in
+    (d, from_low d.valid (corridor-crosses c.corridor_at-c.ensures (cross-on (standing c.args.b) c.corridor_at-c.result c.corridor_at-c.ensures c.at_most.ensures c.if-not-c-at_most.false).0), c.requires.1, c.requires.0.day, low)
 
 pub returns-then-crosses_later : goal.returns-then-crosses_later
 returns-then-crosses_later c =
@@ -41,20 +32,17 @@ returns-then-crosses_later c =
 pub less-cost-requires : goal.less-cost-requires
 less-cost-requires c = (cross-on (standing c.args.b) c.corridor_at-c.result c.corridor_at-c.ensures c.at_most.ensures c.if-not-c-at_most.false).1
 
-pub waiting_row-k-requires : goal.waiting_row-k-requires
-waiting_row-k-requires c = (c.requires.0.rowed, from_low (some-derived c.requires.0.rowed.derived) (corridor-crosses c.corridor_at-c.ensures (cross-on (standing c.args.b) c.corridor_at-c.result c.corridor_at-c.ensures c.at_most.ensures c.if-not-c-at_most.false).0), omega (arith, c.requires.0.day))
+pub waiting_row-requires : goal.waiting_row-requires
+waiting_row-requires c = (c.requires.0.rowed, from_low c.requires.0.rowed.derived.valid (corridor-crosses c.corridor_at-c.ensures (cross-on (standing c.args.b) c.corridor_at-c.result c.corridor_at-c.ensures c.at_most.ensures c.if-not-c-at_most.false).0), omega (arith, c.requires.0.day))
 
-pub raise-requires : goal.raise-requires
-raise-requires c = (c.if-k-n.true, c.requires.0.rowed.rows.sorted.room, omega (arith, c.requires.0.day))
-
-pub returns-then-k-n : goal.returns-then-k-n
-returns-then-k-n c =
+pub returns-in-Some : goal.returns-in-Some
+returns-in-Some c =
     let r = c.corridor_at-c in
     let q = cross-on (standing c.args.b) c.corridor_at-c.result c.corridor_at-c.ensures c.at_most.ensures c.if-not-c-at_most.false in
-    cross-one (standing c.args.b) r.result r.ensures q.0 (r.ensures.enters ∙ sym c.end_of-to.ensures ∙ c.if-to-b.false) _ c.less-cost.ensures c.waiting_row-k.ensures c.if-k-n.true c.raise.ensures
+    cross-one (standing c.args.b) r.result r.ensures q.0 (r.ensures.enters ∙ sym c.end_of-to.ensures ∙ alike c.if-ne.ensures) _ c.less-cost.ensures c.in-Some.ensures.1 c.in-Some.ensures.0 c.raise.ensures
 
-pub returns-else-k-n : goal.returns-else-k-n
-returns-else-k-n c =
+pub returns-in_default : goal.returns-in_default
+returns-in_default c =
     let r = c.corridor_at-c in
     let q = cross-on (standing c.args.b) c.corridor_at-c.result c.corridor_at-c.ensures c.at_most.ensures c.if-not-c-at_most.false in
-    cross-none (standing c.args.b) r.result r.ensures q.0 (r.ensures.enters ∙ sym c.end_of-to.ensures ∙ c.if-to-b.false) _ c.less-cost.ensures c.waiting_row-k.ensures c.if-k-n.false
+    cross-none (standing c.args.b) r.result r.ensures q.0 (r.ensures.enters ∙ sym c.end_of-to.ensures ∙ alike c.if-ne.ensures) _ c.less-cost.ensures c.in_default.ensures (omega arith)

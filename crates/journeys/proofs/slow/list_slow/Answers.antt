@@ -9,39 +9,24 @@ use Rattle.journeys.proofs.Listing.{listed-none, listed-number, listed-whole}
 use Rattle.journeys.proofs.Comparing.{front_list, slow-front, slow-count}
 use Rattle.journeys.proofs.slow.list_slow.Goals as goal
 
-pub count_rows-count-requires : goal.count_rows-count-requires
-count_rows-count-requires c = c.requires.room
-
 pub loop-i-init : goal.loop-i-init
 loop-i-init c =
     let a = c.args in
     (omega arith, refl, c.count_rows-count.ensures ∙ slow-count a.v.0 a.counting.now a.n a.table.now (0 ∷ 0 ∷ 0 ∷ []) ∙ sym (front-counted (slow-front a.v.0 a.counting.now a.n a.table.now)), listed-none (slow-front a.v.0 a.counting.now a.n a.table.now) c.requires)
 
-pub nth_slow-o-requires : goal.nth_slow-o-requires
-nth_slow-o-requires c = c.requires.room
-
-pub put_cost-requires : goal.put_cost-requires
-put_cost-requires c = omega (arith, c.loop-i.invariant.3.room)
+pub unreachable-requires : goal.unreachable-requires
+unreachable-requires c = let a = c.args in omega (arith, c.in_default.ensures, c.loop-i.invariant.2, front-counted (slow-front a.v.0 a.counting.now a.n a.table.now), c.loop-i-test.true)
 
 pub loop-i-preserved : goal.loop-i-preserved
 loop-i-preserved c =
     let a = c.args in
     let l = c.loop-i in
-    let o = c.nth_slow-o in (
+    let o = c.in-Some in (
       omega arith,
       c.put_cost.auto.list ∙ l.invariant.1,
       l.invariant.2,
-      listed-number (slow-front a.v.0 a.counting.now a.n a.table.now) l.i o.result _ (omega (arith, l.invariant.2)) o.ensures c.put_cost.ensures l.invariant.3,
+      listed-number (slow-front a.v.0 a.counting.now a.n a.table.now) l.i o.o _ (omega (arith, l.invariant.2)) o.ensures c.put_cost.ensures l.invariant.3,
     )
-
-pub overflow_mul-count : goal.overflow_mul-count
-overflow_mul-count c = omega (arith, c.loop-i.invariant.3.room)
-
-pub clear_from-requires : goal.clear_from-requires
-clear_from-requires c = omega (arith, c.loop-i.invariant.3.room)
-
-pub shape_of-list : goal.shape_of-list
-shape_of-list c = c.clear_from.auto.table ∙ c.loop-i.invariant.1
 
 pub returns : goal.returns
 returns c =

@@ -2,7 +2,10 @@
 -- Assumes nothing.
 use mathlib.Core.Path.{sym, ◌∙◌}
 use Rattle.costs.specs.Laws.Figures.{at_most_b-true}
-use Rattle.journeys.proofs.Waiting.{waited-more, waited-left}
+use Rattle.arrivals.specs.Computed.{arrival}
+use Rattle.journeys.specs.Inner.Lookup.{RowIs}
+use Rattle.journeys.specs.Inner.Waits.{KeptFrom}
+use Rattle.journeys.proofs.Waiting.{row-as, waited-more, waited-left}
 use Rattle.journeys.proofs.waits.kept_from.Goals as goal
 
 pub returns-then-not-at_most : goal.returns-then-not-at_most
@@ -12,4 +15,7 @@ pub less-cost-requires : goal.less-cost-requires
 less-cost-requires c = at_most_b-true _ _ (sym c.at_most.ensures ∙ c.if-not-at_most.false)
 
 pub returns : goal.returns
-returns c = waited-left c.multiple-waited.ensures _ c.less-cost.ensures c.row_of.ensures
+returns c =
+    let a = c.args in
+    row-as a.n (RowIs a.n a.table.now (arrival a.here.place.0 a.step.0 c.less-cost.result)) (KeptFrom a.n a.table.now a.here a.h a.step.0)
+    (λ k x. waited-left c.multiple-waited.ensures _ c.less-cost.ensures x) c.row_of.result c.row_of.ensures

@@ -2,7 +2,6 @@
 -- Assumes nothing.
 use native.Mathlib.Omega.{arith}
 use Rattle.costs.specs.Laws.Figures.{within_more}
-use Rattle.intervals.specs.FirstSteps.{some-derived}
 use Rattle.journeys.proofs.Waiting.{wait-within}
 use Rattle.journeys.proofs.Choosing.{wait-sum, wait-marked, wait-unmarked}
 use Rattle.journeys.proofs.walk.next_wait.Goals as goal
@@ -11,7 +10,7 @@ use Rattle.journeys.proofs.walk.next_wait.Goals.{Start}
 pub sum-cost-requires : goal.sum-cost-requires
 sum-cost-requires c =
     let z = (goal.at.sum-cost-requires c).Start in
-    (z.requires.cost, within_more 60000 1000000000 _ (omega arith) (wait-within (some-derived z.requires.rowed.derived) _ c.wait_at.ensures))
+    (z.requires.cost, within_more 60000 1000000000 _ (omega arith) (wait-within z.requires.rowed.derived.valid _ c.wait_at.ensures))
 
 pub returns-then-is_marked : goal.returns-then-is_marked
 returns-then-is_marked c =

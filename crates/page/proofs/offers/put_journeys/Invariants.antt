@@ -1,13 +1,7 @@
--- `page::offers::put_journeys`. Invariant: the lines of the rows below position i are written, and the table is what it was.
-use mathlib.Core.Path.{◌≡◌}
-use Prim.Native.Nat.{◌-◌, ◌≤◌}
-use lib.ListN.{length}
-use Rattle.sheet.specs.Store.{sheet_in}
+-- `page::offers::put_journeys`. The loop's invariant: the lines of the rows so far are written, and the table is what it was.
+use Rattle.std.specs.Prelude.{◌≡◌, ◌*◌}
 use Rattle.page.specs.Laws.Offers.{Through}
 use Rattle.page.proofs.offers.put_journeys.Given as goal
 
-abbrev pub invariant-loop-i : goal.invariant-loop-i
-invariant-loop-i l = (l.i ≤ length l.list) × (l.table ≡ l.initial.table) × Through (sheet_in l.lines l.all) l.i l.initial.out l.at l.out l.next
-
-abbrev pub decreases-loop-i : goal.decreases-loop-i
-decreases-loop-i l = length l.list - l.i
+abbrev pub invariant-loop-row : goal.invariant-loop-row
+invariant-loop-row l = (l.table ≡ l.initial.table) × Through l.sheet (l.row-index * 4) l.initial.out l.at l.out l.next

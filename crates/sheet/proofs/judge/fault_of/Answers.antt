@@ -18,8 +18,8 @@ use Rattle.sheet.specs.Store.{kind_count}
 use Rattle.sheet.specs.Inner.{limit_at, pair_at, line_at, misplaced_by, late_by, UnknownIs, RowIs, Stored}
 use Rattle.sheet.specs.declared.kinds.Row.{Row}
 use Rattle.sheet.specs.Laws.Kinds.{width_small}
-use Rattle.sheet.proofs.Standing.{RowFits, lines-length, all-length, row_fits}
-use Rattle.sheet.proofs.Tested.{misplaced-is, many_is, outside-is, unpaired-is, late_is, above-none, above-last}
+use Rattle.sheet.proofs.Standing.{RowFits, row_fits}
+use Rattle.sheet.proofs.Tested.{misplaced-is, many_is, outside-is, pair-among, unpaired-is, late_is, above-none, above-last}
 use Rattle.sheet.proofs.FirstFault.{Left, Tried, first, left-next, left-stop}
 use Rattle.sheet.proofs.judge.fault_of.Goals as goal
 use Rattle.sheet.proofs.judge.fault_of.Goals.{Else-is_late, Else-n-eq0}
@@ -44,7 +44,7 @@ module _ (lines all : List ℕ) (k : ℕ) (v : List ℕ) (row : Row) (h : k < ki
   tried-7 b e = record { of = λ before S. ap (first 7 _) (many_is S h R v ∙ e) }
 
   -- test 6
-  tried-6 : (u b : Bool) → u ≡ unpaired (pair_at row.pair row.one row.other) v → u ≡ b → Tried lines all (line_at k v) 6 15 b
+  tried-6 : (u b : Bool) → u ≡ unpaired (pair_at row.pair) v → u ≡ b → Tried lines all (line_at k v) 6 15 b
   unfolding tests
   tried-6 u b d e = record { of = λ before S. ap (first 6 _) (unpaired-is S h R v ∙ sym d ∙ e) }
 
@@ -82,7 +82,7 @@ module _ (lines all : List ℕ) (k : ℕ) (v : List ℕ) (row : Row) (h : k < ki
         left-4 = left-next left-7 (tried-4 p o false pd od of)
 
         -- test 6 passed
-        module _ (u : Bool) (ud : u ≡ unpaired (pair_at row.pair row.one row.other) v) (uf : u ≡ false) where
+        module _ (u : Bool) (ud : u ≡ unpaired (pair_at row.pair) v) (uf : u ≡ false) where
           left-6 : Left lines all (line_at k v) 15
           left-6 = left-next left-4 (tried-6 u false ud uf)
 
@@ -125,12 +125,6 @@ last_fits c =
     let e : suc (n - 1) ≡ n = omega (arith, c.if-n-eq0.false) in
     (omega (arith, suc-mul (n - 1) w, ap (λ (m : ℕ). m * w) e), row_fits r.requires.1.stored r.requires.0 r.requires.2)
 
-pub bounds-lines-kind : goal.bounds-lines-kind
-bounds-lines-kind c = omega (arith, lines-length c.requires.1.stored)
-
-pub is_misplaced-requires : goal.is_misplaced-requires
-is_misplaced-requires c = (lines-length c.requires.1.stored, omega (arith, all-length c.requires.1.stored), c.requires.0)
-
 pub returns-then-is_misplaced : goal.returns-then-is_misplaced
 returns-then-is_misplaced c =
     let a = c.args in
@@ -143,12 +137,6 @@ returns-then-row-n c =
     left-stop (left-3 a.lines.now a.all.now a.kind a.values a.row c.requires.0 c.requires.2 _ c.is_misplaced.ensures c.if-is_misplaced.false)
     (tried-7 a.lines.now a.all.now a.kind a.values a.row c.requires.0 c.requires.2 true (le-leb _ _ c.if-row-n.true))
 
-pub places_with-requires : goal.places_with-requires
-places_with-requires c = omega (arith, all-length c.requires.1.stored)
-
-pub is_outside-requires : goal.is_outside-requires
-is_outside-requires c = omega (arith, c.requires.2.width_is, width_small c.args.kind c.requires.0)
-
 pub returns-then-is_outside : goal.returns-then-is_outside
 returns-then-is_outside c =
     let a = c.args in
@@ -159,8 +147,7 @@ returns-then-is_outside c =
 pub is_unpaired-requires : goal.is_unpaired-requires
 is_unpaired-requires c =
     let q = c.requires.2 in
-    let w = width_small c.args.kind c.requires.0 in
-    (omega (arith, q.width_is, q.one_inside), omega (arith, q.width_is, q.other-inside))
+    pair-among _ (omega (arith, q.width_is, width_small c.args.kind c.requires.0)) q.pair-inside
 
 pub returns-then-is_unpaired : goal.returns-then-is_unpaired
 returns-then-is_unpaired c =
@@ -177,9 +164,6 @@ returns-then-is_unknown c =
     (left-6 a.lines.now a.all.now a.kind a.values a.row c.requires.0 c.requires.2 _ c.is_misplaced.ensures c.if-is_misplaced.false c.if-row-n.false
     _ c.places_with.ensures _ c.is_outside.ensures c.if-is_outside.false _ c.is_unpaired.ensures c.if-is_unpaired.false)
     (tried-15 a.lines.now a.all.now a.kind a.values a.row c.requires.0 c.requires.2 _ true c.is_unknown.ensures c.if-is_unknown.true)
-
-pub is_late-requires : goal.is_late-requires
-is_late-requires c = omega (arith, all-length c.requires.1.stored)
 
 pub returns-then-is_late : goal.returns-then-is_late
 returns-then-is_late c =
@@ -198,12 +182,6 @@ returns-then-n-eq0 c =
     let l = left-16-at (goal.at.returns-then-n-eq0 c).Else-is_late in
     let t = tried-none a.lines.now a.all.now a.kind a.values a.row c.requires.0 c.requires.2 c.if-n-eq0.true in
     record { of = λ before S. sym ((left-next l t).of before S) }
-
-pub overflow_mul-last : goal.overflow_mul-last
-overflow_mul-last c = omega (arith, last_fits (goal.at.overflow_mul-last c).Else-n-eq0)
-
-pub overflow_add-last : goal.overflow_add-last
-overflow_add-last c = omega (arith, last_fits (goal.at.overflow_add-last c).Else-n-eq0)
 
 pub is_key_before-requires : goal.is_key_before-requires
 is_key_before-requires c =

@@ -8,7 +8,7 @@ use native.Mathlib.Nat.{add-zero}
 use lib.Dec.{ltb}
 use lib.ListN.{length, get_or}
 use borrow.Author.Rules.{rules}
-use Rattle.sheet.proofs.Passing.{lex_from, lex-differs, lex-same, lex-none, lex-last}
+use Rattle.sheet.proofs.Passing.{lex_from, lex-differs, lex-same, lex-last}
 use Rattle.sheet.proofs.judge.is_key_before.Goals as goal
 
 module _ (n : ℕ) (a : List ℕ) (at : ℕ) (b : List ℕ) (p : at + n ≤ length a) (q : n ≤ length b) where
@@ -30,19 +30,6 @@ module _ (n : ℕ) (a : List ℕ) (at : ℕ) (b : List ℕ) (p : at + n ≤ leng
   past_two : 1 < n → get_or a at 0 ≡ get_or b 0 0 → get_or a (at + 1) 0 ≡ get_or b 1 0 → lex_from n a at b 2 ≡ lex_from n a at b 0
   past_two h e f = past-second h f ∙ past_first (omega arith) e
 
-pub returns-then-a-values : goal.returns-then-a-values
-returns-then-a-values c =
-    let a = c.args in
-    let e : length a.values ≡ 8 = search rules in
-    at_first a.key a.all.now a.at a.values c.requires.1 (omega arith) (omega arith) c.if-a-values.true
-
-pub returns-then-key-eq1 : goal.returns-then-key-eq1
-returns-then-key-eq1 c =
-    let a = c.args in
-    let e : length a.values ≡ 8 = search rules in
-    sym (lex-none a.key a.all.now a.at a.values c.requires.1 (omega arith) 1 (omega arith))
-    ∙ past_first a.key a.all.now a.at a.values c.requires.1 (omega arith) (omega arith) c.if-a-values.false
-
 pub returns-then-b-values : goal.returns-then-b-values
 returns-then-b-values c =
     let a = c.args in
@@ -50,13 +37,6 @@ returns-then-b-values c =
     let m : 1 < a.key = omega arith in
     sym (lex-differs a.key a.all.now a.at a.values c.requires.1 (omega arith) 1 m c.if-b-values.true)
     ∙ past_first a.key a.all.now a.at a.values c.requires.1 (omega arith) (omega arith) c.if-a-values.false
-
-pub returns-then-key-eq2 : goal.returns-then-key-eq2
-returns-then-key-eq2 c =
-    let a = c.args in
-    let e : length a.values ≡ 8 = search rules in
-    sym (lex-none a.key a.all.now a.at a.values c.requires.1 (omega arith) 2 (omega arith))
-    ∙ past_two a.key a.all.now a.at a.values c.requires.1 (omega arith) (omega arith) c.if-a-values.false c.if-b-values.false
 
 pub returns : goal.returns
 returns c =

@@ -1,17 +1,12 @@
--- `sheet::judge::is_outside`. The loop's invariant: the first i numbers are within their limits, so what is left is outside exactly where the whole is. The
--- measure is what is left of w.
-use mathlib.Core.Path.{◌≡◌}
-use mathlib.Core.List.{map}
-use Prim.Native.Nat.{◌-◌, ◌≤◌}
-use lib.ListN.{length, take}
+-- `sheet::judge::is_outside`. The loop's invariant: the numbers so far are within their limits, so what is left is outside exactly where the whole is.
+use Rattle.std.proofs.Common.{◌≡◌, length, map, take, drop}
 use Rattle.sheet.specs.Sheet.{outside}
 use Rattle.sheet.specs.Inner.{limit_at}
-use Rattle.sheet.proofs.Passing.{outside_from}
 use Rattle.sheet.proofs.judge.is_outside.Given as goal
 
-abbrev pub invariant-loop-i : goal.invariant-loop-i
-invariant-loop-i l =
-    (l.i ≤ l.w) × (length l.limits ≡ 8) × (length l.values ≡ 8) × (outside_from l.places l.limits l.w l.values l.i ≡ outside l.places (map limit_at (take l.w l.limits)) (take l.w l.values))
-
-abbrev pub decreases-loop-i : goal.decreases-loop-i
-decreases-loop-i l = l.w - l.i
+abbrev pub invariant-loop-limit : goal.invariant-loop-limit
+invariant-loop-limit l =
+    let k = length l.yielded in
+    let xs = take l.w l.fn.limits in
+    let ns = take l.w l.fn.values in
+    outside l.places (map limit_at (drop k xs)) (drop k ns) ≡ outside l.places (map limit_at xs) ns

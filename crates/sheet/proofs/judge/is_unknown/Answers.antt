@@ -5,18 +5,9 @@ use native.Mathlib.Omega.{arith}
 use borrow.Author.Rules.{rules}
 use Rattle.sheet.specs.Kinds.{kind_c}
 use Rattle.sheet.specs.Laws.Keys.{held-seekable}
-use Rattle.sheet.proofs.Standing.{lines-length, count-few, stored-held}
-use Rattle.sheet.proofs.Tested.{unknown-other, unknown-sought}
+use Rattle.sheet.proofs.Standing.{stored-held}
+use Rattle.sheet.proofs.Tested.{unknown-sought}
 use Rattle.sheet.proofs.judge.is_unknown.Goals as goal
-
-pub returns-then-kind-ne-X_LINE : goal.returns-then-kind-ne-X_LINE
-returns-then-kind-ne-X_LINE c = record { of = λ before S. unknown-other S c.requires.0 c.args.values c.if-kind-ne-X_LINE.true }
-
-pub bounds-lines-2 : goal.bounds-lines-2
-bounds-lines-2 c = omega (arith, lines-length c.requires.1.stored)
-
-pub overflow_cast-corridors : goal.overflow_cast-corridors
-overflow_cast-corridors c = omega (arith, count-few c.requires.1.stored {k = kind_c.order} (omega arith))
 
 pub holds-requires : goal.holds-requires
 holds-requires c = held-seekable (stored-held c.requires.1.stored) kind_c.order (omega arith) (record { base-is = refl; width_is = refl; count-is = refl; key-is = refl })

@@ -1,8 +1,5 @@
 -- `sheet::lines::numbers_in`. Invariant: the numbers so far, in front of what is left to read, are what the whole reads as.
-use mathlib.Core.Bool.{false}
-use mathlib.Core.Path.{◌≡◌}
-use Prim.Native.Nat.{◌≤◌, ◌-◌}
-use lib.ListN.{length}
+use Rattle.std.specs.Prelude.{◌≡◌, ◌≤◌, length}
 use Rattle.sheet.specs.Bytes.{comma}
 use Rattle.sheet.specs.Lines.{numbers_of}
 use Rattle.sheet.specs.Inner.{parts_from}
@@ -11,7 +8,4 @@ use Rattle.sheet.proofs.lines.numbers_in.Given as goal
 
 abbrev pub invariant-loop-k : goal.invariant-loop-k
 invariant-loop-k l =
-    (l.k ≤ l.width) × (length l.r.values ≡ 8) × (numbers_of l.most l.width (parts_from comma 2 l.line) ≡ so_far l.most l.line l.r.values l.width l.k l.at comma) × (l.r.ok ≡ false) × (l.r.kind ≡ l.kind)
-
-abbrev pub decreases-loop-k : goal.decreases-loop-k
-decreases-loop-k l = l.width - l.k
+    (l.k ≤ l.width) × (length l.values ≡ 8) × (numbers_of l.most l.width (parts_from comma 2 l.line) ≡ so_far l.most l.line l.values l.width l.k l.at comma)

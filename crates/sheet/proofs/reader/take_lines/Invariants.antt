@@ -7,8 +7,8 @@ use lib.ListN.{length}
 use Rattle.sheet.specs.LineEnds.{ReadUpTo}
 use Rattle.sheet.proofs.reader.take_lines.Given as goal
 
-abbrev pub invariant-loop-n : goal.invariant-loop-n
-invariant-loop-n l = (l.r.src.now ≡ l.src) × (l.r.at ≤ length l.src) × ReadUpTo l.src l.r.at l.lines l.all l.n
+abbrev pub invariant-loop-feed : goal.invariant-loop-feed
+invariant-loop-feed l = (l.r.src.now ≡ l.src) × (l.r.at ≤ length l.src) × ReadUpTo l.src l.r.at l.lines l.all l.n
 
-abbrev pub decreases-loop-n : goal.decreases-loop-n
-decreases-loop-n l = length l.src - l.r.at
+abbrev pub decreases-loop-feed : goal.decreases-loop-feed
+decreases-loop-feed l = length l.src - l.r.at

@@ -1,61 +1,41 @@
 -- `sheet::reader::take_next` meets its contract: by where the line ends it is over, cut, bad, faulty or taken, each by one law.
 -- Assumes nothing.
-use mathlib.Core.Path.{◌≡◌, ap, subst}
-use mathlib.Core.List.{List}
-use Prim.Native.Nat.{ℕ, ◌≤◌, ◌<◌}
-use native.Mathlib.Omega.{arith}
-use lib.ListN.{length}
-use borrow.Author.Tests.{not-true, not-false}
+use Rattle.std.specs.Prelude.{◌≡◌, List, ℕ, Option, Some, Ok, Err}
+use Rattle.std.proofs.Common.{arith, rules, subst}
 use Rattle.sheet.specs.LineEnds.{EndIs}
-use Rattle.sheet.specs.declared.line_reader.LineEnd.{LineEnd}
-use Rattle.sheet.specs.declared.line_reader.LineEnd.TheVariants.{At}
 use Rattle.sheet.specs.Laws.LineEnding.{end-inside}
-use Rattle.sheet.proofs.Reading.{stored-few, turn-over, turn-cut, turn-bad, turn-fault, turn-taken}
+use Rattle.sheet.proofs.Reading.{turn-cut, turn-bad, turn-fault, turn-taken}
 use Rattle.sheet.proofs.reader.take_next.Goals as goal
 
 -- the line ends at the position found, within the text
-ends : (src : List ℕ) (at : ℕ) (r o : LineEnd) → r ≡ o → EndIs src at r → EndIs src at o
-ends src at r o e E = subst (λ (x : LineEnd). EndIs src at x) e E
+ends : (src : List ℕ) (at e : ℕ) (r : Option ℕ) → r ≡ Some e → EndIs src at (Ok r) → EndIs src at (Ok (Some e))
+ends src at e r d E = subst (λ (x : Option ℕ). EndIs src at (Ok x)) d E
 
-ends-inside : (src : List ℕ) (at e : ℕ) → EndIs src at (At e) → (at ≤ e) × (e < length src)
-ends-inside src at e E = end-inside src at (At e) E.found
+pub returns-in_err-end : goal.returns-in_err-end
+returns-in_err-end c =
+    let k = c.in_err-end.field-0.0 in
+    let e : c.from_residual.result ≡ Err k = search rules in
+    rw e (record { of = λ n R. turn-cut _ _ R k c.in_err-end.ensures })
 
 pub slice_bounds-line_in-end : goal.slice_bounds-line_in-end
 slice_bounds-line_in-end c =
-    let i = ends-inside c.args.src.now c.args.at c.in-At.end (ends _ _ _ _ c.in-At.is c.requires.1) in
+    let r = c.args.r in
+    let i = end-inside r.src.now r.at (Ok (Some c.in-Some.end)) (ends _ _ _ _ c.in-Some.is c.in_ok-end.ensures).found in
     omega (arith, i)
 
-pub returns-then-not-l : goal.returns-then-not-l
-returns-then-not-l c =
-    turn-bad c.args.src.now c.args.at c.requires.2 _ (ends _ _ _ _ c.in-At.is c.requires.1) c.requires.0
-    c.line_in-l.result c.line_in-l.ensures (not-true c.line_in-l.result.ok c.if-not-l.true) c.stop-then-not-l.result c.stop-then-not-l.ensures
+pub returns-in_default-line_in : goal.returns-in_default-line_in
+returns-in_default-line_in c =
+    let E = ends _ _ _ _ c.in-Some.is c.in_ok-end.ensures in
+    record { of = λ n R. turn-bad _ _ R _ E c.requires.0 _ c.line_in.ensures c.in_default-line_in.is }
 
-pub take_line-fault-requires : goal.take_line-fault-requires
-take_line-fault-requires c = (
-  omega (arith, c.line_in-l.ensures.known (not-false c.line_in-l.result.ok c.if-not-l.false), ap length c.requires.0.letters-are),
-  record { before = c.requires.2.before; stored = c.requires.2.stored },
-)
+pub returns-in_err-take_line : goal.returns-in_err-take_line
+returns-in_err-take_line c =
+    let k = c.in_err-take_line.field-0.0 in
+    let e : c.from_residual-in_err-take_line.result ≡ Err k = search rules in
+    let E = ends _ _ _ _ c.in-Some.is c.in_ok-end.ensures in
+    rw e (record { of = λ n R. turn-fault _ _ R _ E c.requires.0 _ c.line_in.ensures _ c.in-Some-line_in.is k c.in_err-take_line.ensures })
 
-pub returns-then-fault-ne0 : goal.returns-then-fault-ne0
-returns-then-fault-ne0 c =
-    turn-fault c.args.src.now c.args.at c.requires.2 _ (ends _ _ _ _ c.in-At.is c.requires.1) c.requires.0
-    c.line_in-l.result c.line_in-l.ensures (not-false c.line_in-l.result.ok c.if-not-l.false)
-    c.take_line-fault.result c.take_line-fault.ensures c.if-fault-ne0.true c.stop-then-fault-ne0.result c.stop-then-fault-ne0.ensures
-
-pub overflow_add-result : goal.overflow_add-result
-overflow_add-result c =
-    let R = c.requires.2 in
-    omega (arith, R.next, stored-few R.before _ _ R.stored)
-
-pub returns-in-Missing : goal.returns-in-Missing
-returns-in-Missing c =
-    turn-cut c.args.src.now c.args.at c.requires.2 (ends _ _ _ _ c.in-Missing.is c.requires.1) c.stop-in-Missing.result c.stop-in-Missing.ensures
-
-pub returns-else-fault-ne0 : goal.returns-else-fault-ne0
-returns-else-fault-ne0 c =
-    turn-taken c.args.src.now c.args.at c.requires.2 _ (ends _ _ _ _ c.in-At.is c.requires.1) c.requires.0
-    c.line_in-l.result c.line_in-l.ensures (not-false c.line_in-l.result.ok c.if-not-l.false)
-    c.take_line-fault.result c.take_line-fault.ensures c.if-fault-ne0.false
-
-pub returns-in-Over : goal.returns-in-Over
-returns-in-Over c = turn-over c.args.src.now c.args.at c.requires.2 (ends _ _ _ _ c.in-Over.is c.requires.1) c.stop.result c.stop.ensures
+pub returns : goal.returns
+returns c =
+    let E = ends _ _ _ _ c.in-Some.is c.in_ok-end.ensures in
+    record { of = λ n R. turn-taken _ _ R _ E c.requires.0 _ c.line_in.ensures _ c.in-Some-line_in.is c.in_ok-take_line.ensures }

@@ -9,53 +9,17 @@ use Rattle.sheet.proofs.seek.is_before.Goals.{At-loop-i}
 pub loop-i-init : goal.loop-i-init
 loop-i-init c = (omega arith, search rules, refl)
 
-pub overflow_add-at : goal.overflow_add-at
-overflow_add-at c = omega arith
-
-pub offset_bounds-a-at : goal.offset_bounds-a-at
-offset_bounds-a-at c = omega arith
-
-pub bounds-a-at : goal.bounds-a-at
-bounds-a-at c = omega arith
-
-pub offset_bounds-b-i : goal.offset_bounds-b-i
-offset_bounds-b-i c = omega arith
-
-pub bounds-b-i : goal.bounds-b-i
-bounds-b-i c = omega arith
-
 pub returns-then-a-at : goal.returns-then-a-at
 returns-then-a-at c =
     let x = (goal.at.returns-then-a-at c).At-loop-i in
     let a = x.args in
     sym (lex-below a.n a.a.now a.at a.b (omega arith) (omega arith) x.loop-i.i (omega arith) c.if-a-at.true) ∙ x.loop-i.invariant.2
 
-pub offset_bounds-b-i-in-loop-i : goal.offset_bounds-b-i-in-loop-i
-offset_bounds-b-i-in-loop-i c = omega arith
-
-pub bounds-b-i-in-loop-i : goal.bounds-b-i-in-loop-i
-bounds-b-i-in-loop-i c = omega arith
-
-pub overflow_add-at-in-loop-i : goal.overflow_add-at-in-loop-i
-overflow_add-at-in-loop-i c = omega arith
-
-pub offset_bounds-a-at-in-loop-i : goal.offset_bounds-a-at-in-loop-i
-offset_bounds-a-at-in-loop-i c = omega arith
-
-pub bounds-a-at-in-loop-i : goal.bounds-a-at-in-loop-i
-bounds-a-at-in-loop-i c = omega arith
-
 pub returns-then-b-i : goal.returns-then-b-i
 returns-then-b-i c =
     let x = (goal.at.returns-then-b-i c).At-loop-i in
     let a = x.args in
     sym (lex-above a.n a.a.now a.at a.b (omega arith) (omega arith) x.loop-i.i (omega arith) c.if-b-i.true) ∙ x.loop-i.invariant.2
-
-pub overflow_add-i : goal.overflow_add-i
-overflow_add-i c = omega arith
-
-pub loop-i-smaller : goal.loop-i-smaller
-loop-i-smaller c = omega arith
 
 pub loop-i-preserved : goal.loop-i-preserved
 loop-i-preserved c =

@@ -1,10 +1,10 @@
 -- `sheet::text::put_group` meets its contract. Assumes nothing.
-use mathlib.Core.Path.{◌≡◌, refl, sym, ◌∙◌, ap}
+use mathlib.Core.Path.{◌≡◌, refl, ◌∙◌, ap}
 use mathlib.Core.List.{List, []}
 use Prim.Native.Nat.{ℕ, ◌≤◌, ◌<◌, ◌*◌, ◌+◌}
 use native.Mathlib.Omega.{arith}
 use lib.ListN.{length, take, get_or}
-use lib.Seq.{length-sets, length-take-le}
+use lib.Seq.{length-sets}
 use Rattle.sheet.specs.Decimal.{most_digits}
 use Rattle.sheet.specs.Lines.{line}
 use Rattle.sheet.specs.Text.{printed, line_text}
@@ -20,7 +20,7 @@ pub loop-i-init : goal.loop-i-init
 loop-i-init c =
     let z = c.requires in
     let e = c.row_of-row.ensures in
-    (omega arith, omega (arith, e.width_is, width_small c.args.k z.0), rw (e.width_is, e.base-is) z.1.inside, refl, puts_none _ _)
+    (omega (arith, e.width_is, width_small c.args.k z.0), rw (e.width_is, e.base-is) z.1.inside, refl, puts_none _ _)
 
 -- the numbers of line i
 inside : (c : In-loop-i) → let h = c.before in let r = h.row_of-row.result in
@@ -28,31 +28,7 @@ inside : (c : In-loop-i) → let h = c.before in let r = h.row_of-row.result in
 inside c =
     let h = c.before in
     let r = h.row_of-row.result in
-    row_inside r.base r.width h.args.n h.loop-i.i _ c.loop-i-test.true h.loop-i.invariant.2
-
-pub overflow_mul-from : goal.overflow_mul-from
-overflow_mul-from c = omega (arith, inside c)
-
-pub overflow_add-from : goal.overflow_add-from
-overflow_add-from c = omega (arith, inside c)
-
-pub overflow_add-to : goal.overflow_add-to
-overflow_add-to c = omega (arith, inside c)
-
-pub offset_bounds-all-from : goal.offset_bounds-all-from
-offset_bounds-all-from c = omega (arith, inside c)
-
-pub slice_bounds-widen-count : goal.slice_bounds-widen-count
-slice_bounds-widen-count c = omega (arith, inside c)
-
-pub slice_bounds-widen-start : goal.slice_bounds-widen-start
-slice_bounds-widen-start c = omega (arith, inside c)
-
-pub slice_bounds-widen-end : goal.slice_bounds-widen-end
-slice_bounds-widen-end c = omega (arith, inside c)
-
-pub slice_bounds-widen-end-in-loop-i : goal.slice_bounds-widen-end-in-loop-i
-slice_bounds-widen-end-in-loop-i c = sym c.loop-i.invariant.3
+    row_inside r.base r.width h.args.n h.loop-i.i _ c.loop-i-test.true h.loop-i.invariant.1
 
 pub widen-requires : goal.widen-requires
 widen-requires c =
@@ -62,7 +38,7 @@ widen-requires c =
 
 -- the array of a line's numbers is as long as it was, and line i is printed
 wide : (c : After-widen) → length c.widen.new.to ≡ 8
-wide c = ap length c.widen.ensures ∙ simp length-sets c.loop-i.invariant.3
+wide c = ap length c.widen.ensures ∙ simp length-sets c.loop-i.invariant.2
 
 text : (c : After-widen) → let h = c.before.before.before.before in let r = h.row_of-row.result in let a = h.args in
     printed most_digits r.letter (take r.width c.widen.new.to) ≡ line_text most_digits (get_or (group_of a.k a.n a.all.now) h.loop-i.i (line (kind_at a.k) []))
@@ -73,14 +49,8 @@ text c =
     let a = h.args in
     let v = h.loop-i.invariant in
     ap (λ (l : List ℕ). printed most_digits r.letter (take r.width l)) c.widen.ensures
-    ∙ line_at a.k a.n a.all.now h.loop-i.i r.width r.base r.letter h.loop-i.numbers c.loop-i-test.true v.2 e.width_is e.base-is e.letter-is
-    (omega (arith, v.1, v.3))
-
-pub slice_bounds-numbers-end : goal.slice_bounds-numbers-end
-slice_bounds-numbers-end c = omega (arith, wide (goal.at.slice_bounds-numbers-end c).After-widen, c.loop-i.invariant)
-
-pub slice_bounds-put_line-end : goal.slice_bounds-put_line-end
-slice_bounds-put_line-end c = sym (length-take-le _ _ (omega (arith, wide (goal.at.slice_bounds-put_line-end c).After-widen, c.loop-i.invariant)))
+    ∙ line_at a.k a.n a.all.now h.loop-i.i r.width r.base r.letter h.loop-i.numbers c.loop-i-test.true v.1 e.width_is e.base-is e.letter-is
+    (omega (arith, v.0, v.2))
 
 pub put_line-next-requires : goal.put_line-next-requires
 unfolding group_text
@@ -88,14 +58,8 @@ put_line-next-requires c =
     let h = c.loop-i in
     let a = c.args in
     let l : h.i < length (group_of a.k a.n a.all.now) = omega (arith, group-count a.k a.n a.all.now) in
-    let f = puts-fits (line_text most_digits) (line (kind_at a.k) []) (group_of a.k a.n a.all.now) h.i l h.invariant.4 in
-    omega (arith, ap length (text (goal.at.put_line-next-requires c).After-widen), f, puts-length h.invariant.4, c.requires.2)
-
-pub overflow_add-i : goal.overflow_add-i
-overflow_add-i c = omega arith
-
-pub loop-i-smaller : goal.loop-i-smaller
-loop-i-smaller c = omega arith
+    let f = puts-fits (line_text most_digits) (line (kind_at a.k) []) (group_of a.k a.n a.all.now) h.i l h.invariant.3 in
+    omega (arith, ap length (text (goal.at.put_line-next-requires c).After-widen), f, puts-length h.invariant.3, c.requires.2)
 
 pub loop-i-preserved : goal.loop-i-preserved
 loop-i-preserved c =
@@ -103,18 +67,14 @@ loop-i-preserved c =
     let h = c.loop-i in
     let a = c.args in
     let l : h.i < length (group_of a.k a.n a.all.now) = omega (arith, group-count a.k a.n a.all.now) in (
-      omega arith,
+      h.invariant.0,
       h.invariant.1,
-      h.invariant.2,
       wide x,
-      puts-more (line_text most_digits) (line (kind_at a.k) []) (group_of a.k a.n a.all.now) h.i l h.invariant.4 (puts-as (text x) c.put_line-next.ensures),
+      puts-more (line_text most_digits) (line (kind_at a.k) []) (group_of a.k a.n a.all.now) h.i l h.invariant.3 (puts-as (text x) c.put_line-next.ensures),
     )
-
-pub shape_of-out : goal.shape_of-out
-shape_of-out c = puts-length c.loop-i.invariant.4
 
 pub returns : goal.returns
 unfolding group_text
 returns c =
     let a = c.args in
-    puts-all (line_text most_digits) (line (kind_at a.k) []) (group_of a.k a.n a.all.now) c.loop-i.i (omega (arith, group-count a.k a.n a.all.now)) c.loop-i.invariant.4
+    puts-all (line_text most_digits) (line (kind_at a.k) []) (group_of a.k a.n a.all.now) c.loop-i.i (omega (arith, group-count a.k a.n a.all.now)) c.loop-i.invariant.3

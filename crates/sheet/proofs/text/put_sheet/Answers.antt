@@ -5,17 +5,11 @@ use native.Mathlib.Omega.{arith}
 use lib.ListN.{length}
 use lib.Seq.{sets}
 use Rattle.sheet.specs.Laws.Puts.{puts-length, puts-as, puts_none, puts-more, puts-all, puts-fits}
-use Rattle.sheet.proofs.PutText.{sheet_texts, sheet-texts, sheet-texts-count, store-lines, store-fits, store-text}
+use Rattle.sheet.proofs.PutText.{sheet_texts, sheet-texts, sheet-texts-count, store-fits, store-text}
 use Rattle.sheet.proofs.text.put_sheet.Goals as goal
 
 pub loop-k-init : goal.loop-k-init
 loop-k-init c = (omega arith, λ s S. puts_none _ _)
-
-pub offset_bounds-lines-k : goal.offset_bounds-lines-k
-offset_bounds-lines-k c = omega arith
-
-pub bounds-lines-k : goal.bounds-lines-k
-bounds-lines-k c = omega (arith, store-lines c.requires.store)
 
 pub put_group-next-requires : goal.put_group-next-requires
 put_group-next-requires c =
@@ -26,20 +20,11 @@ put_group-next-requires c =
     let f = puts-fits (λ l. l) [] (sheet_texts s) k (omega (arith, sheet-texts-count s)) p in
     (omega arith, store-fits z.store k (omega arith), omega (arith, f, ap length (store-text z.store k (omega arith)), ap length (sheet-texts s), puts-length p, z.room))
 
-pub overflow_step-k : goal.overflow_step-k
-overflow_step-k c = omega arith
-
-pub loop-k-smaller : goal.loop-k-smaller
-loop-k-smaller c = omega arith
-
 pub loop-k-preserved : goal.loop-k-preserved
 loop-k-preserved c = (
   omega arith,
   λ s S. puts-more (λ l. l) [] (sheet_texts s) c.loop-k.k (omega (arith, sheet-texts-count s)) (c.loop-k.invariant.1 s S) (puts-as (store-text S c.loop-k.k (omega arith)) c.put_group-next.ensures),
 )
-
-pub shape_of-out : goal.shape_of-out
-shape_of-out c = let z = c.requires in puts-length (c.loop-k.invariant.1 z.sheet z.store)
 
 pub returns : goal.returns
 returns c =

@@ -7,29 +7,14 @@ use lib.ListN.{length, length-append}
 use lib.Seq.{take_all}
 use Rattle.sheet.specs.Lists.{flat}
 use Rattle.sheet.specs.Laws.Binds.{bind-more}
-use Rattle.sheet.proofs.PutText.{sheet_texts, sheet-texts, sheet-texts-count, store-lines, store-fits, store-text}
+use Rattle.sheet.proofs.PutText.{sheet_texts, sheet-texts, sheet-texts-count, store-fits, store-text}
 use Rattle.sheet.proofs.text.sheet_bytes.Goals as goal
 
 pub loop-k-init : goal.loop-k-init
 loop-k-init c = (omega arith, omega arith, λ s S. refl)
 
-pub offset_bounds-lines-k : goal.offset_bounds-lines-k
-offset_bounds-lines-k c = omega arith
-
-pub bounds-lines-k : goal.bounds-lines-k
-bounds-lines-k c = omega (arith, store-lines c.requires.store)
-
 pub group_bytes-bytes-requires : goal.group_bytes-bytes-requires
 group_bytes-bytes-requires c = (omega arith, store-fits c.requires.store c.loop-k.k (omega arith))
-
-pub overflow_add-bytes : goal.overflow_add-bytes
-overflow_add-bytes c = omega (arith, c.group_bytes-bytes.ensures.1)
-
-pub overflow_step-k : goal.overflow_step-k
-overflow_step-k c = omega arith
-
-pub loop-k-smaller : goal.loop-k-smaller
-loop-k-smaller c = omega arith
 
 pub loop-k-preserved : goal.loop-k-preserved
 loop-k-preserved c =

@@ -1,58 +1,60 @@
--- `sheet::writer::take_groups` meets its contract: each group's promise carries what was judged so far past its lines, and `ended` past the last.
+-- `sheet::writer::take_groups` meets its contract: each group's promise carries what is left to judge past its lines, and `ended` past the last.
 -- Assumes nothing.
-use mathlib.Core.Path.{◌∙◌, ap}
-use native.Mathlib.Omega.{arith}
-use lib.ListN.{length}
+use Rattle.std.specs.Prelude.{◌≡◌, Err}
+use Rattle.std.proofs.Common.{arith, rules}
 use Rattle.sheet.specs.Calls.{groups}
-use Rattle.sheet.proofs.Writing.{groups-start, so-far-ready}
+use Rattle.sheet.proofs.Reading.{verdict-ended}
+use Rattle.sheet.proofs.Writing.{groups-start, took}
 use Rattle.sheet.proofs.writer.take_groups.Goals as goal
 
-pub take_group-s-requires : goal.take_group-s-requires
-take_group-s-requires c =
+pub take_group-requires : goal.take_group-requires
+take_group-requires c =
     let a = c.args in
-    let g = groups a.head.now a.waits.now a.corridors.now a.closures.now a.occupancies.now in
-    (omega arith, so-far-ready (groups-start g c.requires.0 c.requires.1 c.passed.ensures))
+    let R = groups-start (groups a.head.now a.waits.now a.corridors.now a.closures.now a.occupancies.now) c.requires.0 c.requires.1 in
+    (omega arith, record { before = R.before; stored = R.stored; next = R.next })
 
-pub take_group-x-requires : goal.take_group-x-requires
-take_group-x-requires c = (omega arith, c.take_group-c.ensures.ready)
+pub returns-in_err-s : goal.returns-in_err-s
+returns-in_err-s c =
+    let a = c.args in
+    let start = groups-start (groups a.head.now a.waits.now a.corridors.now a.closures.now a.occupancies.now) c.requires.0 c.requires.1 in
+    let r = c.in_err-s.field-0.0 in
+    let e : c.from_residual.result ≡ Err r = search rules in
+    rw e (verdict-ended r (c.in_err-s.ensures.of _ _ start))
 
-pub take_group-o-requires : goal.take_group-o-requires
-take_group-o-requires c = (omega arith, c.take_group-x.ensures.ready)
+pub returns-in_err-w : goal.returns-in_err-w
+returns-in_err-w c =
+    let a = c.args in
+    let start = groups-start (groups a.head.now a.waits.now a.corridors.now a.closures.now a.occupancies.now) c.requires.0 c.requires.1 in
+    let r = c.in_err-w.field-0.0 in
+    let e : c.from_residual-in_err-w.result ≡ Err r = search rules in
+    rw e (verdict-ended r (c.in_err-w.ensures.of _ _ (took c.in_ok-s.ensures start)))
 
-pub ended-requires : goal.ended-requires
-ended-requires c = (
-  omega (
-    arith,
-    ap length c.requires.1.no_lines,
-    c.take_group-o.auto.lines,
-    c.take_group-x.auto.lines,
-    c.take_group-c.auto.lines,
-    c.take_group-w.auto.lines,
-    c.take_group-s.auto.lines,
-  ),
-  omega (
-    arith,
-    ap length c.requires.1.no_cells,
-    c.take_group-o.auto.all,
-    c.take_group-x.auto.all,
-    c.take_group-c.auto.all,
-    c.take_group-w.auto.all,
-    c.take_group-s.auto.all,
-  ),
-)
+pub returns-in_err-c : goal.returns-in_err-c
+returns-in_err-c c =
+    let a = c.args in
+    let start = groups-start (groups a.head.now a.waits.now a.corridors.now a.closures.now a.occupancies.now) c.requires.0 c.requires.1 in
+    let r = c.in_err-c.field-0.0 in
+    let e : c.from_residual-in_err-c.result ≡ Err r = search rules in
+    rw e (verdict-ended r (c.in_err-c.ensures.of _ _ (took c.in_ok-w.ensures (took c.in_ok-s.ensures start))))
 
-pub shape_of-lines : goal.shape_of-lines
-shape_of-lines c = c.take_group-o.auto.lines ∙ c.take_group-x.auto.lines ∙ c.take_group-c.auto.lines ∙ c.take_group-w.auto.lines ∙ c.take_group-s.auto.lines
+pub returns-in_err-x : goal.returns-in_err-x
+returns-in_err-x c =
+    let a = c.args in
+    let start = groups-start (groups a.head.now a.waits.now a.corridors.now a.closures.now a.occupancies.now) c.requires.0 c.requires.1 in
+    let r = c.in_err-x.field-0.0 in
+    let e : c.from_residual-in_err-x.result ≡ Err r = search rules in
+    rw e (verdict-ended r (c.in_err-x.ensures.of _ _ (took c.in_ok-c.ensures (took c.in_ok-w.ensures (took c.in_ok-s.ensures start)))))
 
-pub shape_of-all : goal.shape_of-all
-shape_of-all c = c.take_group-o.auto.all ∙ c.take_group-x.auto.all ∙ c.take_group-c.auto.all ∙ c.take_group-w.auto.all ∙ c.take_group-s.auto.all
+pub returns-in_err-o : goal.returns-in_err-o
+returns-in_err-o c =
+    let a = c.args in
+    let start = groups-start (groups a.head.now a.waits.now a.corridors.now a.closures.now a.occupancies.now) c.requires.0 c.requires.1 in
+    let r = c.in_err-o.field-0.0 in
+    let e : c.from_residual-in_err-o.result ≡ Err r = search rules in
+    rw e (verdict-ended r (c.in_err-o.ensures.of _ _ (took c.in_ok-x.ensures (took c.in_ok-c.ensures (took c.in_ok-w.ensures (took c.in_ok-s.ensures start))))))
 
 pub returns : goal.returns
 returns c =
     let a = c.args in
-    let g = groups a.head.now a.waits.now a.corridors.now a.closures.now a.occupancies.now in
-    let start = groups-start g c.requires.0 c.requires.1 c.passed.ensures in
-    let s = c.take_group-s.ensures.of _ _ start in
-    let w = c.take_group-w.ensures.of _ _ s in
-    let t = c.take_group-c.ensures.of _ _ w in
-    c.ended.ensures.of _ (c.take_group-o.ensures.of _ _ (c.take_group-x.ensures.of _ _ t))
+    let start = groups-start (groups a.head.now a.waits.now a.corridors.now a.closures.now a.occupancies.now) c.requires.0 c.requires.1 in
+    c.ended.ensures.of _ (took c.in_ok-o.ensures (took c.in_ok-x.ensures (took c.in_ok-c.ensures (took c.in_ok-w.ensures (took c.in_ok-s.ensures start)))))
