@@ -159,7 +159,7 @@ PlannerSheetRead planner_read(const uint8_t *sheet, size_t sheet_len);
  * (line 0). 3 is for waits alone: a row of another place than the next, or one more than places, at its line; too few,
  * at the line after the last of them, also where no line follows. PLANNER_MOST_BYTES bytes are always enough.
  * out: the bytes of the sheet, and past them kept. Refused: kept.
- * Stack: 12,776 bytes measured. */
+ * Stack: 12,760 bytes measured. */
 PlannerSheetWritten planner_write(const uint32_t *head, size_t head_len, const uint32_t *waits, size_t waits_len,
                                   const uint32_t *corridors, size_t corridors_len, const uint32_t *closures,
                                   size_t closures_len, const uint32_t *occupancies, size_t occupancies_len,

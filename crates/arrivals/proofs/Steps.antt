@@ -1,6 +1,6 @@
 -- Laws of the first, the single and the last steps of loops of the search: nothing done yet, one item, row or cost more, and all of them done; and of
--- stores of a few numbers one after another. The check finds each by itself where a function needs it, or the library does what the loop did, so that no
--- function cites them.
+-- stores of a few numbers one after another. The check finds them by itself where a function needs them, or the library does what the loop did, so that no
+-- function cites them, but for those of rows moved and numbers shifted (proofs/lists/shift).
 -- Assumes nothing.
 use Rattle.std.specs.Prelude.{◌≡◌, refl, Bool, true, List, ◌⊎◌, ℕ, ◌+◌, ◌*◌, ◌/◌, ◌%◌, ◌≤◌, ◌<◌, length, get_or, set}
 use Rattle.std.proofs.Common.{sym, ap, ◌∙◌, subst, inl, inr, ⊎_elim, arith, length-set, get_or-set_same, get_or-set_other}

@@ -1,15 +1,19 @@
--- The occupancies of a valid sheet are whole lines, at most 256, of places below 64 and steps up to 255, and are got back from their numbers.
+-- The occupancies of a valid sheet are whole lines, at most 256, of places below 64 and steps up to 255, and are got back from their numbers. Those of the
+-- sheet in the array stand at their base, whole.
 -- Assumes nothing.
-use mathlib.Core.Path.{◌≡◌, subst}
+use mathlib.Core.Path.{◌≡◌, ap, subst}
 use mathlib.Core.List.{List}
-use Prim.Native.Nat.{ℕ}
+use Prim.Native.Nat.{ℕ, ◌+◌, ◌*◌, ◌-◌, ◌≤◌}
 use native.Mathlib.Omega.{arith}
-use Rattle.sheet.specs.Lists.{◌∈◌, flat}
+use lib.ListN.{length, take, drop}
+use Rattle.sheet.specs.Lists.{◌∈◌, flat, number}
 use Rattle.sheet.specs.Kinds.{width, kind_o}
 use Rattle.sheet.specs.Sheet.{Sheet}
 use Rattle.sheet.specs.Calls.{group_rows}
+use Rattle.sheet.specs.Store.{base_of, part_of, SomeStore}
 use Rattle.sheet.specs.Valid.{Valid}
 use Rattle.sheet.specs.Laws.Rows.{Wide, flat-length, flat-whole, rows-flat}
+use Rattle.sheet.specs.Laws.Store.{store-few}
 use Rattle.intervals.specs.FirstSteps.{ValidGroup}
 
 module _ {s : Sheet} (v : Valid s) where
@@ -30,3 +34,13 @@ module _ {s : Sheet} (v : Valid s) where
         place = λ o m. omega (arith, (v.occupancies o (member o m)).place, v.most-places);
         step = λ o m. (v.occupancies o (member o m)).in-day;
       }
+
+module _ (lines all : List ℕ) (q : SomeStore lines all) where
+  pub few : number lines kind_o.order ≤ 256
+  few = (store-few q.store kind_o.order (omega arith)).0
+
+  pub inside : base_of kind_o.order + number lines kind_o.order * width kind_o ≤ length all
+  inside = (store-few q.store kind_o.order (omega arith)).1
+
+  pub part : part_of lines all kind_o.order ≡ take (base_of kind_o.order + number lines kind_o.order * width kind_o - base_of kind_o.order) (drop (base_of kind_o.order) all)
+  part = let e : number lines kind_o.order * width kind_o ≡ base_of kind_o.order + number lines kind_o.order * width kind_o - base_of kind_o.order = omega arith in ap (λ (n : ℕ). take n (drop (base_of kind_o.order) all)) e

@@ -27,7 +27,7 @@ use Rattle.intervals.specs.FirstSteps.{Derived}
 use Rattle.intervals.specs.Laws.Runs.{run_join, since-run}
 use Rattle.arrivals.specs.Arrivals.{Arrival, key_of}
 use Rattle.arrivals.specs.Computed.{arrival}
-use Rattle.arrivals.specs.Laws.Bounds.{arrives-bounded}
+use Rattle.arrivals.specs.Laws.Bounds.{arrives-bounded, arrives-place}
 use Rattle.intervals.proofs.Occupancies.{got-back}
 use Rattle.journeys.specs.Inner.Lookup.{mark_at, stand_at, Sorted}
 use Rattle.journeys.specs.Inner.Waits.{Rowed, WaitingRow}
@@ -301,6 +301,11 @@ pub row-counted : {s : Sheet} {since : List ℕ} {n : ℕ} {table : List ℕ} �
 row-counted {s} {since} {n} {table} d {k} h e =
     subst (λ (a : Arrival). Within 1000000000 a.cost) (sym e)
     (record { every = λ i. omega (arith, arrives-bounded s d.derived.valid (stand_at table k) (d.rows.each k h).arrives i) })
+
+pub row_low : {s : Sheet} {since : List ℕ} {n : ℕ} {table : List ℕ} → Rowed s since n table → {k : ℕ} → k < n → {x : Arrival} → x ≡ stand_at table k → x.place < 64
+row_low {s} {since} {n} {table} d {k} h e =
+    let v = d.derived.valid in
+    omega (arith, arrives-place s v (stand_at table k) (d.rows.each k h).arrives, v.most-places, ap (λ (a : Arrival). a.place) e)
 
 pub waits-counted : {n : ℕ} {w r : Cost} → n ≤ 255 → Within 60000 w → r ≡ times n w → Within 1000000000 r
 waits-counted {n} {w} h x e = subst (Within 1000000000) (sym e) (within_more (n * 60000) 1000000000 (times n w) (omega arith) (within-times n 60000 w x))

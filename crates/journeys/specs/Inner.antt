@@ -19,7 +19,7 @@ pub mod Chain
 pub mod Sweep
 pub mod Slow
 
--- an arrival at the goal at step t counts, told by an array for each step
+-- an arrival at the goal at step t counts, told by an array with a number for each step: 1 where it does
 abbrev pub counts_at : List ℕ → ℕ → Bool
 counts_at counting t = eqb (number counting t) 1
 

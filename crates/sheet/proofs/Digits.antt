@@ -95,6 +95,9 @@ module _ (most : ℕ) where
 
   -- where the field is digits
   module _ (l : List ℕ) (at : ℕ) (r : Field) (is : DigitsAre most l at (Some r)) where
+    pub field-ahead : at ≤ r.end
+    field-ahead = omega (arith, is.ends r refl)
+
     size : length (field_from l at) ≡ r.end - at
     size = omega (arith, field-length l at, is.ends r refl)
 

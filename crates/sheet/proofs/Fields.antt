@@ -22,6 +22,10 @@ onto-cons : (ns : List ℕ) (v : ℕ) (o : Option (List ℕ)) → onto_all ns (o
 onto-cons ns v none = refl
 onto-cons ns v (some r) = rw append_assoc
 
+pub onto-none : (o : Option (List ℕ)) → o ≡ onto_all [] o
+onto-none none = refl
+onto-none (some r) = refl
+
 module _ (most : ℕ) (l ns : List ℕ) (w k at n : ℕ) where
   -- what is read so far, and what is left to read
   abbrev pub so_far : Option (List ℕ)

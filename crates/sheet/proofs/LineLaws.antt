@@ -41,6 +41,9 @@ module _ (letters widths : List ℕ) where
   forms-letters : (ks : List Kind) → Forms ks letters widths → length letters ≡ length ks
   forms-letters ks F = ap length F.letters-are ∙ length-map ks (λ k. k.letter)
 
+  pub forms-widths : SomeForms letters widths → length widths ≡ length letters
+  forms-widths S = let F = S.forms in ap length F.widths-are ∙ length-map S.kinds-of width ∙ sym (forms-letters S.kinds-of F)
+
   -- the byte c has the position k among the letters
   module _ (c k : ℕ) (d : k ≡ position_of c letters) where
     stands : (ks : List Kind) → Forms ks letters widths → Stands ks k (with_letter c ks)

@@ -3,7 +3,7 @@
 -- Assumes nothing.
 use mathlib.Core.Path.{◌≡◌, refl, sym, ◌∙◌, ap, ap₂}
 use mathlib.Core.List.{List, [], ◌∷◌, ◌++◌, map}
-use Prim.Native.Nat.{ℕ, zero, suc, ◌+◌, ◌*◌, ◌-◌, ◌≤◌, ◌<◌}
+use Prim.Native.Nat.{ℕ, zero, suc, ◌+◌, ◌*◌, ◌/◌, ◌-◌, ◌≤◌, ◌<◌}
 use native.Mathlib.Omega.{arith}
 use native.Mathlib.Nat.{suc-mul, zero-mul, mul-le-mul, mul-le-mul_right}
 use lib.ListN.{length, take, drop, get_or, length-append, length-map, length-drop, get_or-map}
@@ -34,6 +34,12 @@ number-more-length ns i h = omega (arith, simp length-append at (ap length (bind
 -- row i lies inside, and so many numbers from f on are a part
 pub row_inside : (b w n i m : ℕ) → i < n → b + n * w ≤ m → b + i * w + w ≤ m
 row_inside b w n i m h l = omega (arith, suc-mul i w, mul-le-mul_right w h)
+
+-- the row halfway between low and high lies inside
+pub inside : (base width count n low high : ℕ) → low < high → high ≤ count → base + count * width ≤ n → base + (low + (high - low) / 2) * width + width ≤ n
+inside base width count n low high l m i =
+    let h : low + (high - low) / 2 < count = omega (arith, l, m) in
+    row_inside base width count (low + (high - low) / 2) n h i
 
 pub part_length : (f w : ℕ) (l : List ℕ) → f + w ≤ length l → length (take (f + w - f) (drop f l)) ≡ w
 part_length f w l h =

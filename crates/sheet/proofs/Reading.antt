@@ -99,6 +99,9 @@ module _ (src : List ℕ) (at : ℕ) {lines all : List ℕ} {n : ℕ} (R : ReadU
   left_by : (r : LineEnd) → EndIs src at r → Reached (read_of src) (lines_by most_digits kinds src at r) lines all n
   left_by r E = subst (λ (t : List (Option Line)). Reached (read_of src) t lines all n) (E.lines most_digits kinds) R
 
+  pub turn-over : EndIs src at (Ok None) → TurnIs src at lines all n (Ok None)
+  turn-over E = record { refuses = λ z. absurd (z refl); reaches = λ z. left_by (Ok None) E }
+
   pub turn-cut : (k : Refusal) → EndIs src at (Err k) → TurnIs src at lines all n (Err k)
   turn-cut k E =
       so-far-refused k (reached-bad (left_by (Err k) E) ∙ ap (λ (j : Refusal). refused (number_of j) n) (sym (end-inside src at (Err k) E.found).1))

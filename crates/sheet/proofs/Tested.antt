@@ -206,6 +206,9 @@ module _ {before : List Line} {lines all : List ℕ} (S : Stored before lines al
   unknown-of : unknown (group kind_c before) (line_at k v) ≡ eqb k kind_x.order && not (any names (group kind_c before))
   unknown-of = ap (λ (o : ℕ). eqb o kind_x.order && not (any names (group kind_c before))) (order-at k h)
 
+  pub unknown-other : (k ≡ kind_x.order → ⊥) → false ≡ unknown (group kind_c before) (line_at k v)
+  unknown-other n = sym (unknown-of ∙ rw (ne_eqb k kind_x.order n))
+
   module _ (e : k ≡ kind_x.order) (l : length v ≡ 8) {g : Group} (G : GroupIs lines kind_c.order g) where
     number_is : (i : ℕ) → i < 2 → number (take (width (kind_at k)) v) i ≡ number v i
     number_is i b = get_or-take (width (kind_at k)) v i 0 (omega (arith, ap (λ (j : ℕ). width (kind_at j)) e))

@@ -66,15 +66,20 @@ fn is_misplaced(lines: &[u32], all: &[u32], kind: usize, values: [u32; 8]) -> bo
 }
 
 // Whether n is outside the limit, on a sheet of `places` places.
+// Stays: tests and no `match`, as in `row_of`.
 fn is_beyond(places: u32, limit: u8, n: u32) -> bool
     ensures { result ≡ beyond places (limit_at limit) n }
 {
-    match limit {
-        PLACE => places <= n,
-        COST => 60000 < n,
-        COUNT => (n < 1) | (64 < n),
-        _ => (limit as u32) < n,
+    if limit == PLACE {
+        return places <= n;
     }
+    if limit == COST {
+        return 60000 < n;
+    }
+    if limit == COUNT {
+        return (n < 1) | (64 < n);
+    }
+    (limit as u32) < n
 }
 
 // Test 4: one of the first w numbers is outside its limit.
